@@ -1,0 +1,62 @@
+-- Negatives in the order, and whole numbers among the rational ones.
+use Rattle.std.proofs.Common.{◌≡◌, ◌∙◌, refl, sym, ap, ◌⊎◌}
+use Rattle.std.specs.Prelude.{ℤ, pos, negsuc, ◌+ℤ◌, ◌*ℤ◌, neg_ℤ}
+use Rattle.integer.proofs.IntRing as Z
+use Rattle.rational.specs.Rational.{Rational, ◌≤ℚ◌, ◌<ℚ◌, ◌+ℚ◌, ◌*ℚ◌, neg_ℚ, zero_ℚ, one_ℚ, whole}
+use Rattle.rational.proofs.Field as Q
+use Rattle.rational.proofs.Field.{field, field_units, signs}
+use Rattle.rational.proofs.Value.{same_parts, value_same, value_self, value_add, value_mul}
+use Rattle.rational.proofs.Floors as Floors
+use Rattle.milp.specs.Points.{IsWhole}
+
+pub le_by : (a b x y : Rational) → a ≡ x → b ≡ y → x ≤ℚ y → a ≤ℚ b
+le_by a b x y e f h = rw (e, f) h
+
+pub neg_le : (a b : Rational) → a ≤ℚ b → neg_ℚ b ≤ℚ neg_ℚ a
+neg_le a b h =
+    le_by _ _ _ _ (sym (Q.cancel_left a (neg_ℚ b))) (sym (Q.cancel_left b (neg_ℚ a)) ∙ ap (λ y. b +ℚ y) (Q.add_comm (neg_ℚ b) (neg_ℚ a)))
+    (Q.add-le-add a b _ _ h (Q.le_refl (neg_ℚ a +ℚ neg_ℚ b)))
+
+pub neg-zero : neg_ℚ zero_ℚ ≡ zero_ℚ
+neg-zero = sym (Q.zero-add (neg_ℚ zero_ℚ)) ∙ Q.add-neg zero_ℚ
+
+-- a product with a number that is at most 0 turns the order
+pub mul-le-mul_neg : (k a b : Rational) → k ≤ℚ zero_ℚ → a ≤ℚ b → k *ℚ b ≤ℚ k *ℚ a
+mul-le-mul_neg k a b h g =
+    let n : zero_ℚ ≤ℚ neg_ℚ k = le_by _ _ _ _ (sym neg-zero) refl (neg_le k zero_ℚ h) in
+    let m = Q.mul-le-mul (neg_ℚ k) a b n g in
+    le_by _ _ _ _ (back k b) (back k a) (neg_le _ _ m)
+  where
+    back : (k c : Rational) → k *ℚ c ≡ neg_ℚ (neg_ℚ k *ℚ c)
+    back k c = sym (ap neg_ℚ (Q.neg_mul k c) ∙ Q.neg_neg (k *ℚ c))
+
+pub neg_whole : (t : ℤ) → whole (neg_ℤ t) ≡ neg_ℚ (whole t)
+unfolding neg_ℚ
+neg_whole t = same_parts _ _ refl refl
+
+pub minus_one-mul : (a : Rational) → whole (negsuc 0) *ℚ a ≡ neg_ℚ a
+minus_one-mul a = ap (λ m. m *ℚ a) (neg_whole (pos 1)) ∙ Q.neg_mul one_ℚ a ∙ ap neg_ℚ (Q.one-mul a)
+
+pub lt-le_trans : (a b c : Rational) → a <ℚ b → c ≤ℚ a → b ≤ℚ c → {X : Type 0} → X
+lt-le_trans a b c h g k = absurd (Q.lt-not-le a b h (Q.le_trans b c a k g))
+
+-- ---- whole numbers
+
+pub whole-numerator : (a : Rational) → IsWhole a → whole a.numerator ≡ a
+whole-numerator a h = same_parts _ _ refl (sym h)
+
+pub whole-add : (n m : ℤ) → whole n +ℚ whole m ≡ whole (n +ℤ m)
+whole-add n m = value_same _ _ _ _ _ _ (value_add _ _ _ _ _ _ (value_self (whole n)) (value_self (whole m))) (value_self (whole (n +ℤ m))) (simp Z.units)
+
+whole-mul : (n m : ℤ) → whole n *ℚ whole m ≡ whole (n *ℤ m)
+whole-mul n m = value_same _ _ _ _ _ _ (value_mul _ _ _ _ _ _ (value_self (whole n)) (value_self (whole m))) (value_self (whole (n *ℤ m))) (simp Z.units)
+
+pub IsWhole-add : (a b : Rational) → IsWhole a → IsWhole b → IsWhole (a +ℚ b)
+IsWhole-add a b h k = sym (ap (λ (q : Rational). q.denominator) (sym (whole-add a.numerator b.numerator) ∙ ap (λ x. x +ℚ whole b.numerator) (whole-numerator a h) ∙ ap (λ y. a +ℚ y) (whole-numerator b k)))
+
+pub IsWhole-mul : (a b : Rational) → IsWhole a → IsWhole b → IsWhole (a *ℚ b)
+IsWhole-mul a b h k = sym (ap (λ (q : Rational). q.denominator) (sym (whole-mul a.numerator b.numerator) ∙ ap (λ x. x *ℚ whole b.numerator) (whole-numerator a h) ∙ ap (λ y. a *ℚ y) (whole-numerator b k)))
+
+-- a whole number is on one side of the split at t
+pub sides : (a : Rational) (t : ℤ) → IsWhole a → (a ≤ℚ whole t) ⊎ (whole (t +ℤ pos 1) ≤ℚ a)
+sides a t h = rw (whole-numerator a h) at (Floors.split a.numerator t)

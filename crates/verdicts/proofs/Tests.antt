@@ -1,0 +1,39 @@
+-- What the tests on numbers tell.
+use Rattle.std.proofs.Common.{◌≡◌, true, false, arith}
+use Rattle.std.specs.Prelude.{ℤ, ◌≤ℤ◌, ◌<ℤ◌, int_lt, int_le}
+use Rattle.std.proofs.lemmas.Int.{ints}
+use Rattle.std.proofs.lemmas.Bool.Decides.{nat_tests}
+use Rattle.rational.specs.Rational.{Rational, ◌≤ℚ◌, ◌<ℚ◌}
+use Rattle.rational.proofs.Value.{same_parts}
+use Rattle.verdicts.specs.Compare.{is_less, is_at_most, is_same, is_whole}
+use Rattle.milp.specs.Points.{IsWhole}
+
+lt_true : (a b : ℤ) → int_lt a b ≡ true → a <ℤ b
+lt_true a b h = grind (arith, ints)
+
+lt_false : (a b : ℤ) → int_lt a b ≡ false → b ≤ℤ a
+lt_false a b h = grind (arith, ints)
+
+le_true : (a b : ℤ) → int_le a b ≡ true → a ≤ℤ b
+le_true a b h = grind (arith, ints)
+
+le_false : (a b : ℤ) → int_le a b ≡ false → b <ℤ a
+le_false a b h = grind (arith, ints)
+
+pub less_true : (a b : Rational) → is_less a b ≡ true → a <ℚ b
+less_true a b h = record { cross = lt_true _ _ h }
+
+pub less_false : (a b : Rational) → is_less a b ≡ false → b ≤ℚ a
+less_false a b h = record { cross = lt_false _ _ h }
+
+pub at_most_true : (a b : Rational) → is_at_most a b ≡ true → a ≤ℚ b
+at_most_true a b h = record { cross = le_true _ _ h }
+
+pub at_most_false : (a b : Rational) → is_at_most a b ≡ false → b <ℚ a
+at_most_false a b h = record { cross = le_false _ _ h }
+
+pub same_true : (a b : Rational) → is_same a b ≡ true → a ≡ b
+same_true a b h = same_parts a b (grind (arith, ints, nat_tests)) (grind (arith, nat_tests))
+
+pub whole_true : (a : Rational) → is_whole a ≡ true → IsWhole a
+whole_true a h = grind (arith, nat_tests)

@@ -1,0 +1,6 @@
+pub mod Compare
+pub mod WeightedSums
+pub mod Rays
+pub mod Certificate
+pub mod Proves
+pub mod Preorder
