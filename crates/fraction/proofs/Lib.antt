@@ -1,0 +1,4 @@
+pub mod FracLemmas
+pub mod CmpLemmas
+pub mod WholeNumbers
+pub mod LiteralLemmas

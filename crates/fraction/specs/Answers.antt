@@ -1,0 +1,18 @@
+-- What each operation answers.
+use Rattle.std.specs.Prelude.{cond, Result, Ok, Err}
+use Rattle.rational.specs.Rational.{Rational, ◌+ℚ◌, ◌-ℚ◌, ◌*ℚ◌, ◌/ℚ◌, neg_ℚ}
+use Rattle.fraction.specs.Fits.{fits, sum_fits}
+use Rattle.fraction.specs.declared.frac.Op.TheVariants.{Add, Sub, Mul, Div}
+use Rattle.fraction.specs.declared.frac.NoFit.{NoFit}
+
+abbrev pub mul_answer : Rational → Rational → Result Rational NoFit
+mul_answer a b = cond (fits (a *ℚ b)) (Ok (a *ℚ b)) (Err (record { a = a; op = Mul; b = b }))
+
+abbrev pub add_answer : Rational → Rational → Result Rational NoFit
+add_answer a b = cond (sum_fits a b) (Ok (a +ℚ b)) (Err (record { a = a; op = Add; b = b }))
+
+abbrev pub sub_answer : Rational → Rational → Result Rational NoFit
+sub_answer a b = cond (sum_fits a (neg_ℚ b)) (Ok (a -ℚ b)) (Err (record { a = a; op = Sub; b = b }))
+
+abbrev pub div_answer : Rational → Rational → Result Rational NoFit
+div_answer a b = cond (fits (a /ℚ b)) (Ok (a /ℚ b)) (Err (record { a = a; op = Div; b = b }))

@@ -1,0 +1,4 @@
+pub mod Fits
+pub mod Answers
+pub mod Text
+pub mod Literal

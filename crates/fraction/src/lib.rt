@@ -1,0 +1,14 @@
+//! Exact fractions in lowest terms, whose numerator and denominator are within plus or minus 2^127 - 1.
+//! Each operation is exact, or says that its result does not fit.
+#![tactic(auto, using(crate::proofs::FracLemmas::frac_lemmas))]
+
+mod euclid;
+mod frac;
+mod laws;
+mod read;
+#[cfg(test)]
+mod tests;
+
+pub use frac::{Frac, NoFit, Op};
+pub use laws::whole_numbers;
+pub use read::ReadFault;

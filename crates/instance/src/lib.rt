@@ -1,0 +1,17 @@
+//! Mixed-integer linear programs as the program holds them. Clauses see each type as the definitions of `milp` see it.
+#![tactic(auto)]
+
+mod builder;
+mod entries;
+mod name;
+mod point;
+mod points;
+mod problem;
+
+pub use builder::{BuildFault, Builder, MAX_COLUMNS, MAX_ENTRIES, MAX_ROWS};
+pub use entries::{Entries, Entry};
+pub use milp::Direction;
+pub use name::Name;
+pub use point::Point;
+pub use points::{activity, meets, value};
+pub use problem::{Column, Instance, Row};

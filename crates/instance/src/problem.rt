@@ -1,0 +1,215 @@
+// Columns, rows and whole problems.
+ghost use Rattle.std.specs.Prelude.{◌≡◌};
+ghost use Rattle.instance.specs.WellFormed.{IsWellFormed};
+
+use crate::{Entries, Name};
+use fraction::Frac;
+use milp::Direction;
+use std::marker::Model;
+
+/// A variable with its bounds. Lower above upper is allowed: no point meets it.
+#[derive(Drop)]
+pub struct Column {
+    name: Name,
+    lower: Option<Frac>,
+    upper: Option<Frac>,
+    integer: bool,
+}
+
+impl Model for Column {
+    ghost use Rattle.milp.specs.Problem.{Column as ColumnOf};
+
+    ghost Value = { ColumnOf };
+
+    ghost view = { λ c. record { name = c.name; lower = c.lower; upper = c.upper; integer = c.integer } };
+}
+
+impl Column {
+    /// A column of this name, at least `lower` and at most `upper` where they are there, whole where `integer` says so.
+    pub fn new(name: Name, lower: Option<Frac>, upper: Option<Frac>, integer: bool) -> Self
+        ensures { result ≡ record { name = name; lower = lower; upper = upper; integer = integer } }
+    {
+        Column {
+            name,
+            lower,
+            upper,
+            integer,
+        }
+    }
+
+    /// Its name.
+    pub fn name(&self) -> &Name
+        ensures { result.now ≡ self.now.name }
+    {
+        &self.name
+    }
+
+    /// Its lower bound, if it has one.
+    pub fn lower(&self) -> Option<Frac>
+        ensures { result ≡ self.now.lower }
+    {
+        self.lower
+    }
+
+    /// Its upper bound, if it has one.
+    pub fn upper(&self) -> Option<Frac>
+        ensures { result ≡ self.now.upper }
+    {
+        self.upper
+    }
+
+    /// It takes whole numbers alone.
+    pub fn integer(&self) -> bool
+        ensures { result ≡ self.now.integer }
+    {
+        self.integer
+    }
+}
+
+/// A constraint: a linear form with its bounds.
+#[derive(Drop)]
+pub struct Row {
+    name: Name,
+    lower: Option<Frac>,
+    upper: Option<Frac>,
+    entries: Entries,
+}
+
+impl Model for Row {
+    ghost use Rattle.milp.specs.Problem.{Row as RowOf};
+
+    ghost Value = { RowOf };
+
+    ghost view = { λ r. record { name = r.name; lower = r.lower; upper = r.upper; entries = r.entries } };
+}
+
+impl Row {
+    /// A row of this name, whose form's value is at least `lower` and at most `upper` where they are there.
+    pub fn new(name: Name, lower: Option<Frac>, upper: Option<Frac>, entries: Entries) -> Self
+        ensures { result ≡ record { name = name; lower = lower; upper = upper; entries = entries } }
+    {
+        Row {
+            name,
+            lower,
+            upper,
+            entries,
+        }
+    }
+
+    /// Its name.
+    pub fn name(&self) -> &Name
+        ensures { result.now ≡ self.now.name }
+    {
+        &self.name
+    }
+
+    /// Its lower bound, if it has one.
+    pub fn lower(&self) -> Option<Frac>
+        ensures { result ≡ self.now.lower }
+    {
+        self.lower
+    }
+
+    /// Its upper bound, if it has one.
+    pub fn upper(&self) -> Option<Frac>
+        ensures { result ≡ self.now.upper }
+    {
+        self.upper
+    }
+
+    /// Its form.
+    pub fn entries(&self) -> &Entries
+        ensures { result.now ≡ self.now.entries }
+    {
+        &self.entries
+    }
+}
+
+/// A mixed-integer linear program.
+#[derive(Drop)]
+pub struct Instance {
+    columns: Vec<Column>,
+    rows: Vec<Row>,
+    direction: Direction,
+    objective_name: Name,
+    objective: Entries,
+    constant: Frac,
+}
+
+impl Model for Instance {
+    ghost use Rattle.milp.specs.Problem.{Problem};
+    ghost use Rattle.instance.specs.WellFormed.{IsWellFormed};
+
+    ghost Value = { Problem };
+
+    ghost view = { λ p. record { columns = p.columns.items; rows = p.rows.items; direction = p.direction; objective_name = p.objective_name; objective = p.objective; constant = p.constant } };
+
+    ghost invariant = { λ p. IsWellFormed p.columns.items p.rows.items p.objective };
+}
+
+impl Instance {
+    /// The problem of these parts, which are well formed.
+    pub(crate) fn with_parts(
+        columns: Vec<Column>,
+        rows: Vec<Row>,
+        direction: Direction,
+        objective_name: Name,
+        objective: Entries,
+        constant: Frac,
+    ) -> Self
+        requires { IsWellFormed columns.items rows.items objective }
+        ensures { result ≡ record { columns = columns.items; rows = rows.items; direction = direction; objective_name = objective_name; objective = objective; constant = constant } }
+    {
+        Instance {
+            columns,
+            rows,
+            direction,
+            objective_name,
+            objective,
+            constant,
+        }
+    }
+
+    /// The columns. The problem is well formed: its places are in range, its forms in order and its names distinct.
+    pub fn columns(&self) -> &[Column]
+        ensures columns { result.now ≡ self.now.columns }
+        ensures well_formed { IsWellFormed self.now.columns self.now.rows self.now.objective }
+    {
+        &self.columns
+    }
+
+    /// The rows.
+    pub fn rows(&self) -> &[Row]
+        ensures { result.now ≡ self.now.rows }
+    {
+        &self.rows
+    }
+
+    /// Which values of the objective are wanted.
+    pub fn direction(&self) -> Direction
+        ensures { result ≡ self.now.direction }
+    {
+        self.direction
+    }
+
+    /// The name of the objective.
+    pub fn objective_name(&self) -> &Name
+        ensures { result.now ≡ self.now.objective_name }
+    {
+        &self.objective_name
+    }
+
+    /// The form of the objective, without its constant.
+    pub fn objective(&self) -> &Entries
+        ensures { result.now ≡ self.now.objective }
+    {
+        &self.objective
+    }
+
+    /// What the objective adds to the value of its form.
+    pub fn constant(&self) -> Frac
+        ensures { result ≡ self.now.constant }
+    {
+        self.constant
+    }
+}
