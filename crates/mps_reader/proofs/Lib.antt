@@ -1,0 +1,4 @@
+pub mod FreeMpsExamples
+pub mod NumberLemmas
+pub mod Built
+pub mod Distinct

@@ -1,0 +1,10 @@
+pub mod Distinct
+pub mod Lines
+pub mod Numbers
+pub mod Plain
+pub mod Declaration
+pub mod Finished
+pub mod Steps
+pub mod RowsAndColumns
+pub mod RhsRangesBounds
+pub mod FreeMps
