@@ -1,0 +1,4 @@
+pub mod BestBounds
+pub mod Ends
+pub mod PlainProblems
+pub mod Sums
