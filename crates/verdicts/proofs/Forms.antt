@@ -64,7 +64,7 @@ coefficient-append : (f g : List Entry) (j : ℕ) → coefficient_of (f ++ g) j 
 coefficient-append [] g j = sym (Q.zero-add (coefficient_of g j))
 coefficient-append (e ∷ f) g j = rw (coefficient-append f g j) (sym (Q.add_assoc _ _ _))
 
-coefficient-scaled : (w : Rational) (f : List Entry) (j : ℕ) → coefficient_of (scaled w f) j ≡ w *ℚ coefficient_of f j
+pub coefficient-scaled : (w : Rational) (f : List Entry) (j : ℕ) → coefficient_of (scaled w f) j ≡ w *ℚ coefficient_of f j
 coefficient-scaled w [] j = sym (Q.mul-zero w)
 coefficient-scaled w (e ∷ f) j = rw (coefficient-scaled w f j) (one (e.column == j) ∙ sym (Q.mul_add w (cond (e.column == j) e.coefficient zero_ℚ) (coefficient_of f j)))
   where

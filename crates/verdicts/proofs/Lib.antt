@@ -11,4 +11,5 @@ pub mod Law
 pub mod Steps
 pub mod Converse
 pub mod Trees
+pub mod OneLeaf
 mod Examples

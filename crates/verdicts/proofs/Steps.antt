@@ -81,7 +81,7 @@ step_feasible p x r h t =
 
 -- ---- longer is better
 
-lt_from_not : (a b : Rational) → ¬ (b ≤ℚ a) → a <ℚ b
+pub lt_from_not : (a b : Rational) → ¬ (b ≤ℚ a) → a <ℚ b
 lt_from_not a b h = go (is_less a b) refl
   where
     go : (t : Bool) → is_less a b ≡ t → a <ℚ b

@@ -4,3 +4,4 @@ pub mod Rays
 pub mod Certificate
 pub mod Proves
 pub mod Preorder
+pub mod OneLeaf

@@ -1,0 +1,53 @@
+-- Certificates of one leaf, and of a point and a ray.
+use Rattle.std.proofs.Common.{◌≡◌, List, [], ◌∷◌, length, refl, sym, subst, arith, Bool, true, ◌==◌, Some, None}
+use Rattle.std.specs.Prelude.{◌&&◌}
+use Rattle.std.proofs.lemmas.Bool.Decides.{nat_tests}
+use Rattle.rational.specs.Rational.{Rational, ◌*ℚ◌, ◌+ℚ◌, ◌-ℚ◌}
+use Rattle.rational.proofs.Field.{field, signs, field_units}
+use Rattle.milp.specs.Form.{sum_at}
+use Rattle.milp.specs.Problem.{Problem}
+use Rattle.milp.specs.Points.{Feasible, IsImprovingRay, objective_value, sign_of}
+use Rattle.verdicts.specs.Certificate.{Optimal, Infeasible, Weights, Empty, Bound}
+use Rattle.verdicts.specs.WeightedSums.{scaled}
+use Rattle.verdicts.specs.Compare.{is_same}
+use Rattle.verdicts.specs.Proves.{shows, refutes, terms, meets, is_improving_ray, first_failing, Part, Proves, bound_passes}
+use Rattle.verdicts.proofs.Converse.{true_meets, true_ray}
+use Rattle.basis.specs.Relaxation.{leaf_certificate, point_certificate, ShowsObjective, ShowsInfeasible}
+use Rattle.basis.proofs.Forms.{is_same-refl}
+use Rattle.basis.proofs.Optimal.{shows_leaf}
+use Rattle.basis.proofs.Blocked.{refutes_leaf}
+
+all_pass : (a b c d : Part) (t u v w : Bool) → t ≡ true → u ≡ true → v ≡ true → w ≡ true
+    → first_failing (record { part = a; passes = t } ∷ record { part = b; passes = u } ∷ record { part = c; passes = v } ∷ record { part = d; passes = w } ∷ []) ≡ None
+all_pass a b c d t u v w h k l m = rw (h, k, l, m) refl
+
+three_pass : (a b c : Part) (t u v : Bool) → t ≡ true → u ≡ true → v ≡ true → first_failing (record { part = a; passes = t } ∷ record { part = b; passes = u } ∷ record { part = c; passes = v } ∷ []) ≡ None
+three_pass a b c t u v h k l = rw (h, k, l) refl
+
+two_pass : (a b : Part) (t u : Bool) → t ≡ true → u ≡ true → first_failing (record { part = a; passes = t } ∷ record { part = b; passes = u } ∷ []) ≡ None
+two_pass a b t u h k = rw (h, k) refl
+
+size_passes : (p : Problem) → ((length p.rows == length p.rows) && (length p.columns == length p.columns)) ≡ true
+size_passes p = grind (arith, nat_tests)
+
+-- s * (V - c0) for the value V of the point
+value_less : (p : Problem) (x : List Rational) → objective_value p x -ℚ p.constant ≡ sum_at x p.objective
+value_less p x = parts (sum_at x p.objective) p.constant
+  where
+    parts : (a c : Rational) → (a +ℚ c) -ℚ c ≡ a
+    parts a c = simp (field, signs, field_units)
+
+pub optimal_proves : (p : Problem) (x : List Rational) (w : Weights) → Feasible p x → ShowsObjective p [] [] x w → Proves p (leaf_certificate p Optimal (Some (objective_value p x)) (Some x) (Bound w))
+optimal_proves p x w h k =
+    all_pass Part.Size Part.Point Part.Value (Part.Node 1) ((length p.rows == length p.rows) && (length p.columns == length p.columns)) (meets p x) (is_same (objective_value p x) (objective_value p x))
+    (bound_passes p (Some (objective_value p x)) (terms p [] [] w)) (size_passes p) (true_meets p x h) (is_same-refl (objective_value p x) (objective_value p x) refl) leaf
+  where
+    leaf : bound_passes p (Some (objective_value p x)) (terms p [] [] w) ≡ true
+    leaf = let P : Rational → Type 0 = λ v. shows (length p.columns) (terms p [] [] w) (scaled (sign_of p.direction) p.objective) (sign_of p.direction *ℚ v) ≡ true in
+        subst P (sym (value_less p x)) (shows_leaf p [] [] x w k)
+
+pub infeasible_proves : (p : Problem) (w : Weights) → ShowsInfeasible p [] [] w → Proves p (leaf_certificate p Infeasible None None (Empty w))
+infeasible_proves p w k = two_pass Part.Size (Part.Node 1) ((length p.rows == length p.rows) && (length p.columns == length p.columns)) (refutes (length p.columns) (terms p [] [] w)) (size_passes p) (refutes_leaf p [] [] w k)
+
+pub unbounded_proves : (p : Problem) (x ray : List Rational) → Feasible p x → IsImprovingRay p ray → Proves p (point_certificate p x ray)
+unbounded_proves p x ray h k = three_pass Part.Size Part.Point Part.Ray ((length p.rows == length p.rows) && (length p.columns == length p.columns)) (meets p x) (is_improving_ray p ray) (size_passes p) (true_meets p x h) (true_ray p ray k)
