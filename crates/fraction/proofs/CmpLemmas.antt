@@ -1,7 +1,11 @@
 -- The order of two quotients, by their whole parts and then by what is left.
-use Rattle.std.proofs.Common.{◌≡◌, ◌∙◌, ℕ, ◌*◌, ◌+◌, ◌<◌, ◌≤◌, ◌/◌, ◌%◌, ap, arith, mul-le-mul_right, mul-lt-mul_of_pos_right, div-add-mod', mod-lt, mul-pos, ◌⊎◌, inl, inr}
+use Rattle.std.proofs.Common.{◌≡◌, ◌∙◌, ℕ, ◌*◌, ◌+◌, ◌<◌, ◌≤◌, ◌/◌, ◌%◌, ap, sym, arith, mul-le-mul_right, mul-lt-mul_of_pos_right, div-add-mod', mod-lt, mul-pos, ◌⊎◌, inl, inr}
 use Rattle.std.proofs.lemmas.Bool.Decides.{nat_tests}
 use Rattle.std.specs.Ordering.{nat_cmp}
+use Rattle.std.proofs.Math.Nat.{one-dvd}
+use Rattle.std.proofs.lemmas.Nat.Gcd.{same_from_IsGcd}
+use Rattle.integer.specs.Gcd.{gcd}
+use Rattle.integer.proofs.GcdLaws.{gcd-is}
 
 pub same_cmp : (x y u v : ℕ) → (x < y → u < v) → (x ≡ y → u ≡ v) → (y < x → v < u) → nat_cmp x y ≡ nat_cmp u v
 same_cmp x y u v f g h = grind (arith, nat_tests)
@@ -39,3 +43,15 @@ by_zero r s b d h k (inr e) = rw e (same_cmp r 0 (r * d) (0 * b) (λ l. absurd (
 
 pub loop_step : (a b c d : ℕ) → a / b ≡ c / d → nat_cmp (d * (a % b)) (b * (c % d)) ≡ nat_cmp (a * d) (c * b)
 loop_step a b c d e = same_cmp (d * (a % b)) (b * (c % d)) (a % b * d) (c % d * b) (λ l. omega arith) (λ l. omega arith) (λ l. omega arith) ∙ by_rests a b c d e
+
+-- ---- greatest common divisors
+
+pub gcd-one : (a : ℕ) → 1 ≡ gcd a 1
+gcd-one a = same_from_IsGcd a 1 1 (gcd a 1) (one-dvd a, one-dvd 1, λ d h k. k) (gcd-is a 1)
+
+pub one-gcd : (b : ℕ) → 1 ≡ gcd 1 b
+one-gcd b = same_from_IsGcd 1 b 1 (gcd 1 b) (one-dvd 1, one-dvd b, λ d h k. h) (gcd-is 1 b)
+
+pub one_of : (a b : ℕ) → ((a ≡ 1) ⊎ (b ≡ 1)) → 1 ≡ gcd a b
+one_of a b (inl e) = one-gcd b ∙ ap (λ n. gcd n b) (sym e)
+one_of a b (inr e) = gcd-one a ∙ ap (λ n. gcd a n) (sym e)

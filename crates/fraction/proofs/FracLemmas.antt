@@ -65,7 +65,7 @@ coprime_parts a b c d g h some more p q r s =
     let with_d = coprime_mul (a / g) (c / h) (d / g) ad cd in
     IsGcd-swap _ _ 1 (coprime_mul (b / h) (d / g) (a / g * (c / h)) (IsGcd-swap _ _ 1 with_b) (IsGcd-swap _ _ 1 with_d))
 
-coprime_of : (q : Rational) → IsGcd (unsigned_abs q.numerator) q.denominator 1
+pub coprime_of : (q : Rational) → IsGcd (unsigned_abs q.numerator) q.denominator 1
 coprime_of q = subst (λ x. IsGcd (unsigned_abs q.numerator) q.denominator x) q.lowest.coprime (gcd-is (unsigned_abs q.numerator) q.denominator)
 
 pub product_lowest : (p q : Rational) → IsLowest (product_num p q) (product_den p q)

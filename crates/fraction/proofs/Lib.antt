@@ -2,3 +2,10 @@ pub mod FracLemmas
 pub mod CmpLemmas
 pub mod WholeNumbers
 pub mod LiteralLemmas
+pub mod ReadLemmas
+pub mod ReadParts
+pub mod CanonicalLemmas
+pub mod CanonicalLaw
+pub mod FusedLemmas
+pub mod SumLemmas
+pub mod BinaryLemmas

@@ -25,16 +25,16 @@ not_digit p other n v (c ∷ cs) h =
     let first = if_some (is_ascii_digit c) _ v h in
     rw (other c first.0, not_digit p other (10 * n + (c - 48)) v cs first.1) refl
 
-digit-not-point : (c : ℕ) → is_ascii_digit c ≡ true → is_point c ≡ false
+pub digit-not-point : (c : ℕ) → is_ascii_digit c ≡ true → is_point c ≡ false
 digit-not-point c h = grind (arith, nat_tests)
 
-digit-not-mark : (c : ℕ) → is_ascii_digit c ≡ true → is_exponent_mark c ≡ false
+pub digit-not-mark : (c : ℕ) → is_ascii_digit c ≡ true → is_exponent_mark c ≡ false
 digit-not-mark c h = grind (arith, nat_tests)
 
-digit_small : (c : ℕ) → is_ascii_digit c ≡ true → c - 48 < 10
+pub digit_small : (c : ℕ) → is_ascii_digit c ≡ true → c - 48 < 10
 digit_small c h = grind (arith, nat_tests)
 
-pow_pos_ten : (k : ℕ) → 0 < 10 ^ k
+pub pow_pos_ten : (k : ℕ) → 0 < 10 ^ k
 pow_pos_ten zero = lit≤ tt
 pow_pos_ten (suc k) = rw pow-suc (mul-pos (pow_pos_ten k) (lit≤ tt))
 
@@ -71,7 +71,7 @@ tens_out : (most n : ℕ) → (q : ℕ) × (n ≡ q * 10 ^ tens_in most n)
 tens_out zero n = (n, omega arith)
 tens_out (suc most) n = let m = tens_out most (n / 10) in next_ten n m.0 (tens_in most (n / 10)) (n % 10 == 0) refl m.1
 
-stripped_whole : (most n : ℕ) → n / 10 ^ tens_in most n * 10 ^ tens_in most n ≡ n
+pub stripped_whole : (most n : ℕ) → n / 10 ^ tens_in most n * 10 ^ tens_in most n ≡ n
 stripped_whole most n =
     let out = tens_out most n in
     let p = 10 ^ tens_in most n in
@@ -88,7 +88,7 @@ record IsSign (sign : ℤ → ℤ) : Type 0 where
 plus : IsSign (λ n. n)
 plus = record { through = λ a b. refl; size = λ a. refl }
 
-minus-through : (a b : ℕ) → neg_ℤ (pos a) *ℤ pos b ≡ neg_ℤ (pos (a * b))
+pub minus-through : (a b : ℕ) → neg_ℤ (pos a) *ℤ pos b ≡ neg_ℤ (pos (a * b))
 minus-through zero b = simp zero-mul
 minus-through (suc a) b = negsuc-*ℤ-pos a b
 

@@ -1,5 +1,5 @@
 -- What each operation answers.
-use Rattle.std.specs.Prelude.{cond, Result, Ok, Err}
+use Rattle.std.specs.Prelude.{cond, Bool, Result, Ok, Err}
 use Rattle.rational.specs.Rational.{Rational, ◌+ℚ◌, ◌-ℚ◌, ◌*ℚ◌, ◌/ℚ◌, neg_ℚ}
 use Rattle.fraction.specs.Fits.{fits, sum_fits}
 use Rattle.fraction.specs.declared.frac.Op.TheVariants.{Add, Sub, Mul, Div}
@@ -16,3 +16,13 @@ sub_answer a b = cond (sum_fits a (neg_ℚ b)) (Ok (a -ℚ b)) (Err (record { a 
 
 abbrev pub div_answer : Rational → Rational → Result Rational NoFit
 div_answer a b = cond (fits (a /ℚ b)) (Ok (a /ℚ b)) (Err (record { a = a; op = Div; b = b }))
+
+-- the product and the sum at once; where that does not fit, the product, and where the product does, the sum
+abbrev pub mul_add_answer : Rational → Rational → Rational → Result Rational NoFit
+mul_add_answer q a b =
+    cond (fits (q *ℚ a +ℚ b)) (Ok (q *ℚ a +ℚ b))
+    (cond (fits (q *ℚ a)) (Err (record { a = q *ℚ a; op = Add; b = b })) (Err (record { a = q; op = Mul; b = a })))
+
+-- whether the result of the operation fits
+abbrev pub result_fits : NoFit → Bool
+result_fits f = elim f.op [ Add ↦ sum_fits f.a f.b | Sub ↦ sum_fits f.a (neg_ℚ f.b) | Mul ↦ fits (f.a *ℚ f.b) | Div ↦ fits (f.a /ℚ f.b) ]

@@ -1,5 +1,5 @@
 // Fractions and their operations.
-ghost use Rattle.std.specs.Prelude.{◌≡◌, ℕ, ℤ, pos, neg_ℤ, ◌*ℤ◌, ◌+ℤ◌, ◌*◌, IsTrue, ◌≢◌, ◌≤◌, ◌<◌, unsigned_abs, int_div, SomeIff, IfOk, string_bytes};
+ghost use Rattle.std.specs.Prelude.{◌≡◌, ℕ, ℤ, pos, neg_ℤ, ◌*ℤ◌, ◌+ℤ◌, ◌*◌, ◌/◌, IsTrue, ◌≢◌, ◌≤◌, ◌<◌, unsigned_abs, int_div, SomeIff, IfOk, string_bytes};
 ghost use Rattle.std.specs.Int.{int_signum};
 ghost use Rattle.integer.specs.Lowest.{IsLowest};
 ghost use Rattle.rational.specs.Rational.{Rational, whole, neg_ℚ, over, ◌+ℚ◌, ◌*ℚ◌, inv_ℚ, floor_ℚ, abs_ℚ};
@@ -70,7 +70,7 @@ fn product(a: i128, b: i128) -> Option<i128>
 }
 
 // n * k, where it is within plus or minus 2^127 - 1.
-fn scaled(n: i128, k: u128) -> Option<i128>
+pub(crate) fn scaled(n: i128, k: u128) -> Option<i128>
     requires { k ≤ part_max }
     ensures { SomeIff result (unsigned_abs (n *ℤ pos k) ≤ part_max) (n *ℤ pos k) }
 {
@@ -103,7 +103,15 @@ fn quotient(n: i128, g: u128) -> i128
     requires small { g ≤ part_max }
     ensures { result ≡ int_div n (pos g) }
 {
-    n / g as i128
+    if g == 1 { n } else { n / g as i128 }
+}
+
+// n / g, rounded down.
+fn divided(n: u128, g: u128) -> u128
+    requires { 0 < g }
+    ensures { result ≡ n / g }
+{
+    if g == 1 { n } else { n / g }
 }
 
 // m with the sign of n, and 0 where n is 0.
@@ -122,7 +130,7 @@ fn with_sign(n: i128, m: u128) -> i128
 }
 
 impl Frac {
-    fn new(numerator: i128, denominator: u128) -> Frac
+    pub(crate) fn new(numerator: i128, denominator: u128) -> Frac
         requires lowest { IsLowest numerator denominator }
         requires num_fits { unsigned_abs numerator ≤ part_max }
         requires den_fits { denominator ≤ part_max }
@@ -135,7 +143,7 @@ impl Frac {
     }
 
     // The numerator and the denominator.
-    fn open(self) -> (i128, u128)
+    pub(crate) fn open(self) -> (i128, u128)
         ensures numerator { result.0 ≡ self.numerator }
         ensures denominator { result.1 ≡ self.denominator }
         ensures num_fits { unsigned_abs self.numerator ≤ part_max }
@@ -170,14 +178,14 @@ impl Frac {
     }
 
     // n / d in lowest terms.
-    fn reduced(n: i128, d: u128) -> Frac
+    pub(crate) fn reduced(n: i128, d: u128) -> Frac
         requires numerator { unsigned_abs n ≤ part_max }
         requires denominator { d ≤ part_max }
         requires positive { 0 < d }
         ensures { result ≡ over n d }
     {
         let common = gcd(n.unsigned_abs(), d);
-        Frac::new(quotient(n, common), d / common)
+        Frac::new(quotient(n, common), divided(d, common))
     }
 
     /// The product, or `NoFit` exactly where a part of it in lowest terms passes 2^127 - 1.
@@ -194,7 +202,7 @@ impl Frac {
         }
     }
 
-    fn exact_product(self, other: Frac) -> Option<Frac>
+    pub(crate) fn exact_product(self, other: Frac) -> Option<Frac>
         ensures { SomeIff result (IsTrue (fits (self *ℚ other))) (self *ℚ other) }
     {
         let (a, b) = self.open();
@@ -202,7 +210,7 @@ impl Frac {
         let left = gcd(a.unsigned_abs(), d);
         let right = gcd(c.unsigned_abs(), b);
         let numerator = product(quotient(a, left), quotient(c, right))?;
-        let denominator = den_product(b / right, d / left)?;
+        let denominator = den_product(divided(b, right), divided(d, left))?;
         Some(Frac::new(numerator, denominator))
     }
 
@@ -221,17 +229,19 @@ impl Frac {
         }
     }
 
-    fn scaled_sum(self, other: Frac) -> Option<Frac>
+    pub(crate) fn scaled_sum(self, other: Frac) -> Option<Frac>
         ensures { SomeIff result (IsTrue (sum_fits self other)) (self +ℚ other) }
     {
         let (a, b) = self.open();
         let (c, d) = other.open();
         let common = gcd(b, d);
-        let left = scaled(a, d / common)?;
-        let right = scaled(c, b / common)?;
-        let denominator = den_product(b, d / common)?;
+        let left = scaled(a, divided(d, common))?;
+        let right = scaled(c, divided(b, common))?;
+        let denominator = den_product(b, divided(d, common))?;
         let numerator = sum(left, right)?;
-        Some(Frac::reduced(numerator, denominator))
+        // the sum has nothing else in common with the denominator
+        let shared = gcd(numerator.unsigned_abs(), common);
+        Some(Frac::new(quotient(numerator, shared), divided(denominator, shared)))
     }
 
     /// The difference, or `NoFit` as in [`Frac::add`].

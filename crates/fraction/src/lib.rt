@@ -2,13 +2,16 @@
 //! Each operation is exact, or says that its result does not fit.
 #![tactic(auto, using(crate::proofs::FracLemmas::frac_lemmas))]
 
+mod canonical;
+mod digits;
 mod euclid;
 mod frac;
+mod fused;
 mod laws;
 mod read;
 #[cfg(test)]
 mod tests;
 
 pub use frac::{Frac, NoFit, Op};
-pub use laws::whole_numbers;
+pub use laws::{texts, whole_numbers};
 pub use read::ReadFault;

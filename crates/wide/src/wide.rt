@@ -146,6 +146,17 @@ impl Wide {
         Wide::new(first, second, third)
     }
 
+    /// a * b * c.
+    pub fn product_of_three(a: u128, b: u128, c: u128) -> Wide
+        requires first { a < 2 ^ 127 }
+        requires second { b < 2 ^ 127 }
+        requires third { c < 2 ^ 127 }
+        ensures value { result ≡ a * b * c }
+        ensures small { result < 2 ^ 382 }
+    {
+        Wide::product(a, b).times(c)
+    }
+
     /// Twice the number.
     pub fn double(self) -> Wide
         requires { 2 * self < wide_end }

@@ -1,6 +1,6 @@
 use Rattle.std.proofs.Common.{◌≡◌, ◌∙◌, ◌⊎◌, ◌%◌, arith, mod-lt}
 use Rattle.fraction.proofs.CmpLemmas.{by_quotients, by_rests, by_zero, loop_step}
-use Rattle.fraction.proofs.euclid.cmp_quotients.Goals as goal
+use Rattle.fraction.proofs.euclid.cmp_wide_quotients.Goals as goal
 
 pub returns-then-left-right : goal.returns-then-left-right
 returns-then-left-right c = c.cmp.ensures ∙ by_quotients _ _ _ _ c.loop-left.invariant.first c.loop-left.invariant.second c.if-left-right.true ∙ c.loop-left.invariant.same

@@ -1,0 +1,13 @@
+#!/bin/sh
+# Measures the operations of fractions, and the same in Rust where rustc is at hand. Each line has a kind
+# of samples, and the median time of add, mul, mul_add and cmp on them in tenths of a nanosecond.
+top=$(CDPATH='' cd -- "$(dirname -- "$0")/.." && pwd) || exit 1
+echo "Rattle"
+(cd "$top/crates/fraction_bench" && rt run) >/dev/null 2>&1 </dev/null
+"$top/crates/fraction_bench/out/fraction_bench" --measure || exit 1
+command -v rustc >/dev/null 2>&1 || exit 0
+made=$(mktemp -d) || exit 1
+trap 'rm -rf "$made"' EXIT
+rustc -O "$top/bench/fractions.rs" -o "$made/fractions" || exit 1
+echo "Rust, i128 and Euclid's algorithm"
+"$made/fractions"
