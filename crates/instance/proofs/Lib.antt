@@ -1,3 +1,4 @@
 pub mod Longer
 pub mod Sums
 pub mod Meeting
+pub mod ByColumn

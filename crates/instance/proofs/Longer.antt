@@ -16,7 +16,7 @@ and_true false b h k = h
 not_true : (b : Bool) → b ≡ false → not b ≡ true
 not_true b h = ap not h
 
-length-snoc : {A : Type 0} → (xs : List A) (x : A) → length (xs ++ x ∷ []) ≡ length xs + 1
+pub length-snoc : {A : Type 0} → (xs : List A) (x : A) → length (xs ++ x ∷ []) ≡ length xs + 1
 length-snoc [] x = refl
 length-snoc (y ∷ ys) x = let rest = length-snoc ys x in omega (arith, rest)
 

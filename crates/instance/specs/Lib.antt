@@ -1,2 +1,3 @@
 pub mod WellFormed
 pub mod Sums
+pub mod ByColumn

@@ -1,5 +1,5 @@
 -- What holds of each problem that an `Instance` keeps: places in range, forms in order, names distinct.
-use Rattle.std.specs.Prelude.{ℕ, ◌+◌, ◌==◌, nat_le, nat_lt, ◌&&◌, Bool, true, List, [], ◌∷◌, ◌++◌, length, not, unsigned_abs, IsTrue}
+use Rattle.std.specs.Prelude.{ℕ, ◌≤◌, ◌+◌, ◌==◌, nat_le, nat_lt, ◌&&◌, Bool, true, List, [], ◌∷◌, ◌++◌, length, not, unsigned_abs, IsTrue}
 use Rattle.std.specs.List.{list_any, list_all}
 use Rattle.std.specs.Str.{bytes_eq}
 use Rattle.rational.specs.Rational.{Rational}
@@ -39,6 +39,11 @@ are_distinct_rows before (r ∷ rs) = not (has_row r.name before) && are_distinc
 abbrev pub entry_count : List Row → ℕ
 entry_count [] = 0
 entry_count (r ∷ rs) = length r.entries + entry_count rs
+
+-- no more columns and rows than an instance takes
+pub record IsWithinLimits (cs : List Column) (rs : List Row) : Type 0 where
+  pub columns : length cs ≤ 100000
+  pub rows : length rs ≤ 100000
 
 pub record IsWellFormed (columns : List Column) (rows : List Row) (objective : List Entry) : Type 0 where
   pub objective_form : IsTrue (are_entries (length columns) objective)

@@ -4,6 +4,7 @@ ghost use Rattle.rational.specs.Rational.{zero_ℚ};
 ghost use Rattle.milp.specs.declared.Direction.TheVariants.{Min};
 ghost use Rattle.instance.specs.WellFormed.{has_column as column_has_name, has_row as row_has_name, are_entries, entry_count, IsWellFormed};
 
+use crate::by_column::EntriesByColumn;
 use crate::{Column, Entries, Instance, Name, Row};
 use fraction::Frac;
 use milp::Direction;
@@ -33,6 +34,7 @@ pub enum BuildFault {
 pub struct Builder {
     columns: Vec<Column>,
     rows: Vec<Row>,
+    by_column: EntriesByColumn,
     entry_count: usize,
     direction: Direction,
     objective_name: Name,
@@ -43,13 +45,14 @@ pub struct Builder {
 impl Model for Builder {
     ghost use Rattle.std.specs.Prelude.{◌≡◌};
     ghost use Rattle.milp.specs.Problem.{Problem};
-    ghost use Rattle.instance.specs.WellFormed.{IsWellFormed, entry_count as entries_in};
+    ghost use Rattle.instance.specs.WellFormed.{IsWellFormed, IsWithinLimits, entry_count as entries_in};
+    ghost use Rattle.instance.specs.ByColumn.{AreByColumn};
 
     ghost Value = { Problem };
 
     ghost view = { λ b. record { columns = b.columns.items; rows = b.rows.items; direction = b.direction; objective_name = b.objective_name; objective = b.objective; constant = b.constant } };
 
-    ghost invariant = { λ b. IsWellFormed b.columns.items b.rows.items b.objective × (b.entry_count ≡ entries_in b.rows.items) };
+    ghost invariant = { λ b. record { limits : IsWithinLimits b.columns.items b.rows.items; well_formed : IsWellFormed b.columns.items b.rows.items b.objective; by_column : AreByColumn b.by_column b.columns.items b.rows.items; count : b.entry_count ≡ entries_in b.rows.items } };
 }
 
 impl Builder {
@@ -60,6 +63,7 @@ impl Builder {
         Ok(Builder {
             columns: Vec::new(alloc),
             rows: Vec::new(alloc),
+            by_column: EntriesByColumn::new(alloc),
             entry_count: 0,
             direction: Direction::Min,
             objective_name: Name::new(alloc, "obj")?,
@@ -68,14 +72,14 @@ impl Builder {
         })
     }
 
-    /// A column has this name.
+    /// A column has this name. The call goes over all columns, so a reader of many keeps an index of its own.
     pub fn has_column(&self, name: &str) -> bool
         ensures { result ≡ column_has_name name.now self.now.columns }
     {
         has_column(&self.columns, name)
     }
 
-    /// A row has this name.
+    /// A row has this name. The call goes over all rows, as `has_column` does over columns.
     pub fn has_row(&self, name: &str) -> bool
         ensures { result ≡ row_has_name name.now self.now.rows }
     {
@@ -98,10 +102,12 @@ impl Builder {
         if place >= MAX_COLUMNS {
             return Err((column, BuildFault::TooMany));
         }
-        match self.columns.push(column) {
-            Ok(()) => Ok(place as u32),
-            Err(failed) => Err((failed.value, BuildFault::NoMemory)),
+        let alloc = *self.columns.allocator();
+        if self.columns.reserve(1).is_err() || self.by_column.add_column(alloc).is_err() {
+            return Err((column, BuildFault::NoMemory));
         }
+        self.columns.push_reserved(column);
+        Ok(place as u32)
     }
 
     /// One more row, and its place. `TooMany` comes exactly where a limit is reached; the row comes back with each
@@ -121,17 +127,17 @@ impl Builder {
         ensures entries_full { IfErr result (λ e. MAX_ENTRIES < entry_count self.old.rows + length row.entries → e.1 ≡ BuildFault.TooMany) }
     {
         let place = self.rows.len();
-        let more = row.entries().as_slice().len();
+        let entries = row.entries().as_slice();
+        let more = entries.len();
         if place >= MAX_ROWS || more > MAX_ENTRIES || self.entry_count > MAX_ENTRIES - more {
             return Err((row, BuildFault::TooMany));
         }
-        match self.rows.push(row) {
-            Ok(()) => {
-                self.entry_count += more;
-                Ok(place as u32)
-            }
-            Err(failed) => Err((failed.value, BuildFault::NoMemory)),
+        if self.rows.reserve(1).is_err() || self.by_column.add_row(place as u32, entries).is_err() {
+            return Err((row, BuildFault::NoMemory));
         }
+        self.rows.push_reserved(row);
+        self.entry_count += more;
+        Ok(place as u32)
     }
 
     /// Sets the objective: the value of a form plus a constant, and which values of it are wanted. It takes no memory.
@@ -152,6 +158,7 @@ impl Builder {
         let Builder {
             columns,
             rows,
+            by_column,
             entry_count: _,
             direction,
             objective_name,
@@ -161,6 +168,7 @@ impl Builder {
         Instance::with_parts(
             columns,
             rows,
+            by_column,
             direction,
             objective_name,
             objective,

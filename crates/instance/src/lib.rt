@@ -2,13 +2,17 @@
 #![tactic(auto)]
 
 mod builder;
+mod by_column;
 mod entries;
 mod name;
 mod point;
 mod points;
 mod problem;
+#[cfg(test)]
+mod tests;
 
 pub use builder::{BuildFault, Builder, MAX_COLUMNS, MAX_ENTRIES, MAX_ROWS};
+pub use by_column::ColumnEntry;
 pub use entries::{Entries, Entry};
 pub use milp::Direction;
 pub use name::Name;

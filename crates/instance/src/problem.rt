@@ -1,8 +1,12 @@
 // Columns, rows and whole problems.
-ghost use Rattle.std.specs.Prelude.{◌≡◌};
-ghost use Rattle.instance.specs.WellFormed.{IsWellFormed};
+ghost use Rattle.std.specs.Prelude.{◌≡◌, ◌<◌, length};
+ghost use Rattle.std.specs.List.{All};
+ghost use Rattle.milp.specs.Form.{Entry as FormEntry};
+ghost use Rattle.instance.specs.WellFormed.{IsWellFormed, IsWithinLimits};
+ghost use Rattle.instance.specs.ByColumn.{entries_in_column, AreByColumn};
 
-use crate::{Entries, Name};
+use crate::by_column::EntriesByColumn;
+use crate::{ColumnEntry, Entries, Name};
 use fraction::Frac;
 use milp::Direction;
 use std::marker::Model;
@@ -130,6 +134,7 @@ impl Row {
 pub struct Instance {
     columns: Vec<Column>,
     rows: Vec<Row>,
+    by_column: EntriesByColumn,
     direction: Direction,
     objective_name: Name,
     objective: Entries,
@@ -138,31 +143,36 @@ pub struct Instance {
 
 impl Model for Instance {
     ghost use Rattle.milp.specs.Problem.{Problem};
-    ghost use Rattle.instance.specs.WellFormed.{IsWellFormed};
+    ghost use Rattle.instance.specs.WellFormed.{IsWellFormed, IsWithinLimits};
+    ghost use Rattle.instance.specs.ByColumn.{AreByColumn};
 
     ghost Value = { Problem };
 
     ghost view = { λ p. record { columns = p.columns.items; rows = p.rows.items; direction = p.direction; objective_name = p.objective_name; objective = p.objective; constant = p.constant } };
 
-    ghost invariant = { λ p. IsWellFormed p.columns.items p.rows.items p.objective };
+    ghost invariant = { λ p. record { limits : IsWithinLimits p.columns.items p.rows.items; well_formed : IsWellFormed p.columns.items p.rows.items p.objective; by_column : AreByColumn p.by_column p.columns.items p.rows.items } };
 }
 
 impl Instance {
-    /// The problem of these parts, which are well formed.
+    /// The problem of these parts, which are well formed, with its entries by column.
     pub(crate) fn with_parts(
         columns: Vec<Column>,
         rows: Vec<Row>,
+        by_column: EntriesByColumn,
         direction: Direction,
         objective_name: Name,
         objective: Entries,
         constant: Frac,
     ) -> Self
-        requires { IsWellFormed columns.items rows.items objective }
+        requires limits { IsWithinLimits columns.items rows.items }
+        requires well_formed { IsWellFormed columns.items rows.items objective }
+        requires by_column { AreByColumn by_column columns.items rows.items }
         ensures { result ≡ record { columns = columns.items; rows = rows.items; direction = direction; objective_name = objective_name; objective = objective; constant = constant } }
     {
         Instance {
             columns,
             rows,
+            by_column,
             direction,
             objective_name,
             objective,
@@ -170,10 +180,12 @@ impl Instance {
         }
     }
 
-    /// The columns. The problem is well formed: its places are in range, its forms in order and its names distinct.
+    /// The columns. The problem is well formed: its places are in range, its forms in order and its names distinct, and
+    /// it has at most 100,000 columns and rows.
     pub fn columns(&self) -> &[Column]
         ensures columns { result.now ≡ self.now.columns }
         ensures well_formed { IsWellFormed self.now.columns self.now.rows self.now.objective }
+        ensures limits { IsWithinLimits self.now.columns self.now.rows }
     {
         &self.columns
     }
@@ -183,6 +195,22 @@ impl Instance {
         ensures { result.now ≡ self.now.rows }
     {
         &self.rows
+    }
+
+    /// The entries of a column, in order of row.
+    pub fn column_entries(&self, column: u32) -> &[ColumnEntry]
+        requires { column < length self.now.columns }
+        ensures { result.now ≡ entries_in_column self.now.rows column }
+    {
+        self.by_column.get(column)
+    }
+
+    /// The same problem with another direction. It takes no memory.
+    pub fn with_direction(mut self, direction: Direction) -> Self
+        ensures { result ≡ record self { direction = direction } }
+    {
+        self.direction = direction;
+        self
     }
 
     /// Which values of the objective are wanted.
@@ -199,9 +227,10 @@ impl Instance {
         &self.objective_name
     }
 
-    /// The form of the objective, without its constant.
+    /// The form of the objective, without its constant. Its places are in range.
     pub fn objective(&self) -> &Entries
-        ensures { result.now ≡ self.now.objective }
+        ensures form { result.now ≡ self.now.objective }
+        ensures places { All (λ (e : FormEntry). e.column < length self.now.columns) self.now.objective }
     {
         &self.objective
     }

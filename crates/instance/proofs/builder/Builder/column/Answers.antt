@@ -1,15 +1,21 @@
-use Rattle.std.proofs.Common.{◌≡◌, ◌++◌, ◌∷◌, [], false, rules}
+use Rattle.std.proofs.Common.{◌≡◌, ◌∙◌, ◌++◌, ◌∷◌, [], ap, length, arith, false, List, rules}
+use Rattle.milp.specs.Problem.{Column}
 use Rattle.instance.specs.WellFormed.{has_column}
-use Rattle.instance.proofs.Longer.{with_column}
+use Rattle.instance.proofs.Longer.{with_column, length-snoc}
+use Rattle.instance.proofs.ByColumn.{by_column_with_column}
 use Rattle.instance.proofs.builder.Builder.column.Goals as goal
-use Rattle.instance.proofs.builder.Builder.column.Goals.{in-Ok, in-Err}
 
-pub invariant_of-self : goal.invariant_of-self
-invariant_of-self c =
-    let new : has_column c.args.column.name c.self.inside.columns.items ≡ false = search rules in
-    elim c.match-push.branch [
-      | in-Ok w ↦
-          let items : c.push.new.self.items ≡ c.self.inside.columns.items ++ c.args.column ∷ [] = rw w.in-Ok.is at c.push.ensures.items in
-          (with_column c.self.inside.columns.items _ c.self.inside.rows.items c.self.inside.objective c.args.column c.self.invariant.0 new items, c.self.invariant.1)
-      | in-Err w ↦ let items : c.push.new.self.items ≡ c.self.inside.columns.items = rw w.in-Err.is at c.push.ensures.items in rw items c.self.invariant
-    ]
+pub invariant_of-self-2 : goal.invariant_of-self-2
+invariant_of-self-2 c =
+    let columns = c.self.inside.columns.items in
+    let rows = c.self.inside.rows.items in
+    let new : has_column c.args.column.name columns ≡ false = search rules in
+    let items : c.push_reserved.new.self.items ≡ columns ++ c.args.column ∷ [] = c.push_reserved.ensures.items ∙ ap (λ (cs : List Column). cs ++ c.args.column ∷ []) c.reserve.ensures.items in
+    let lists : c.add_column.new.self ≡ c.self.inside.by_column ++ [] ∷ [] = search rules in
+    let size = ap (λ (cs : List Column). length cs) items ∙ length-snoc columns c.args.column in
+    record {
+      limits = record { columns = omega (arith, size, c.self.invariant.limits.columns); rows = c.self.invariant.limits.rows };
+      well_formed = with_column columns _ rows c.self.inside.objective c.args.column c.self.invariant.well_formed new items;
+      by_column = by_column_with_column c.self.inside.by_column _ columns _ rows c.args.column c.self.invariant.by_column lists items;
+      count = c.self.invariant.count;
+    }
