@@ -1,4 +1,12 @@
 pub mod FreeMpsExamples
-pub mod NumberLemmas
-pub mod Built
-pub mod Distinct
+pub mod Lookup
+pub mod Building
+pub mod LineSteps
+pub mod Pairs
+pub mod Stops
+pub mod Kept
+pub mod Bounded
+pub mod Keyed
+pub mod Entries
+pub mod StepsKeep
+pub mod Simple

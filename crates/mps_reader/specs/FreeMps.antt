@@ -1,17 +1,23 @@
 -- The problem that a free MPS text declares, or its first fault.
-use Rattle.std.specs.Prelude.{ℕ, ◌+◌, ◌==◌, ◌||◌, not, Bool, true, false, List, [], ◌∷◌, codes, Some, None, Result, Ok, Err, if◌then◌else◌}
+use Rattle.std.specs.Prelude.{ℕ, ◌+◌, ◌==◌, ◌||◌, ◌&&◌, not, Bool, true, false, List, [], ◌∷◌, codes, Some, None, Result, Ok, Err, if◌then◌else◌}
 use Rattle.std.specs.declared.option.Option.{Option}
+use Rattle.std.specs.List.{list_all}
 use Rattle.std.specs.Str.{bytes_eq, is_utf8}
 use Rattle.milp.specs.Problem.{Problem}
-use Rattle.mps_reader.specs.Lines.{lines_of, fields_of, is_header}
-use Rattle.mps_reader.specs.Declaration.{Section, Start, NameLine, Rows, Columns, Rhs, Ranges, Bounds, Ended, may_follow, Declaration, nothing_declared}
-use Rattle.mps_reader.specs.Steps.{Limits, at_end}
+use Rattle.file_fault.specs.declared.fault.FaultKind.{FaultKind}
+use Rattle.file_fault.specs.declared.fault.FaultKind.TheVariants.{BadSection, BadLine, NoEnd, RowsNotYet}
+use Rattle.file_fault.specs.declared.fault.FileFault.{FileFault}
+use Rattle.mps_reader.specs.declared.profile.Profile.{Profile}
+use Rattle.mps_reader.specs.declared.section.Section.{Section}
+use Rattle.mps_reader.specs.declared.section.Section.TheVariants.{Start, NameLine, Rows, Columns, Rhs, Ranges, Bounds, Ended}
+use Rattle.mps_reader.specs.declared.pairs_section.PairSection.TheVariants.{RhsPairs, RangePairs}
+use Rattle.mps_reader.specs.Lines.{lines_of, fields_of, is_blank, is_header}
+use Rattle.mps_reader.specs.Profile.{reader_profile}
+use Rattle.mps_reader.specs.Declaration.{may_follow, Declaration, nothing_declared}
+use Rattle.mps_reader.specs.Steps.{then_do, at_end}
 use Rattle.mps_reader.specs.RowsAndColumns.{row_line, column_line}
-use Rattle.mps_reader.specs.RhsRangesBounds.{rhs_line, range_line, bound_line}
+use Rattle.mps_reader.specs.RhsRangesBounds.{pair_line, bound_line}
 use Rattle.mps_reader.specs.Finished.{problem_of}
-use Rattle.mps_reader.specs.declared.fault.FaultKind.{FaultKind}
-use Rattle.mps_reader.specs.declared.fault.FaultKind.TheVariants.{BadSection, BadLine, NoEnd}
-use Rattle.mps_reader.specs.declared.fault.FileFault.{FileFault}
 
 -- ---- headers
 
@@ -41,27 +47,41 @@ after_word Ranges fields = fields
 after_word Bounds fields = fields
 after_word Ended fields = fields
 
-abbrev pub at_section : Declaration → Option Section → List (List ℕ) → Result Declaration FaultKind
-at_section d None fields = Err BadSection
-at_section d (Some section) fields =
-    if may_follow d.section section then at_end (after_word section fields) (in_section section d) else Err BadSection
+-- RHS and RANGES speak of rows
+abbrev pub is_of_rows : Section → Bool
+is_of_rows Rhs = true
+is_of_rows Ranges = true
+is_of_rows Start = false
+is_of_rows NameLine = false
+is_of_rows Rows = false
+is_of_rows Columns = false
+is_of_rows Bounds = false
+is_of_rows Ended = false
 
-abbrev pub header_line : Declaration → List (List ℕ) → Result Declaration FaultKind
-header_line d [] = Err BadSection
-header_line d (word ∷ fields) = at_section d (section_of word) fields
+abbrev pub with_section : Profile → Section → Declaration → Result Declaration FaultKind
+with_section profile section d = if is_of_rows section && not profile.takes_rows then Err RowsNotYet else Ok (in_section section d)
+
+abbrev pub at_section : Profile → Declaration → Option Section → List (List ℕ) → Result Declaration FaultKind
+at_section profile d None fields = Err BadSection
+at_section profile d (Some section) fields =
+    if may_follow d.section section then then_do (with_section profile section) (at_end (after_word section fields) d) else Err BadSection
+
+abbrev pub header_line : Profile → Declaration → List (List ℕ) → Result Declaration FaultKind
+header_line profile d [] = Err BadSection
+header_line profile d (word ∷ fields) = at_section profile d (section_of word) fields
 
 -- ---- lines
 
 -- a data line belongs to the section of the last header
-abbrev pub data_line : Limits → Section → Declaration → List (List ℕ) → Result Declaration FaultKind
-data_line limits Start d fields = Err BadLine
-data_line limits NameLine d fields = Err BadLine
-data_line limits Rows d fields = row_line limits d fields
-data_line limits Columns d fields = column_line limits d fields
-data_line limits Rhs d fields = rhs_line d fields
-data_line limits Ranges d fields = range_line d fields
-data_line limits Bounds d fields = bound_line d fields
-data_line limits Ended d fields = Ok d
+abbrev pub data_line : Profile → Section → Declaration → List (List ℕ) → Result Declaration FaultKind
+data_line profile Start d fields = Err BadLine
+data_line profile NameLine d fields = Err BadLine
+data_line profile Rows d fields = row_line profile d fields
+data_line profile Columns d fields = column_line profile d fields
+data_line profile Rhs d fields = pair_line RhsPairs d fields
+data_line profile Ranges d fields = pair_line RangePairs d fields
+data_line profile Bounds d fields = bound_line profile d fields
+data_line profile Ended d fields = Ok d
 
 abbrev pub is_ended : Section → Bool
 is_ended Start = false
@@ -73,26 +93,25 @@ is_ended Ranges = false
 is_ended Bounds = false
 is_ended Ended = true
 
+-- its first character is `*`
 abbrev pub is_comment : List ℕ → Bool
 is_comment [] = false
 is_comment (b ∷ bs) = b == 42
 
--- a line of blanks has no fields
-abbrev pub has_no_fields : List (List ℕ) → Bool
-has_no_fields [] = true
-has_no_fields (field ∷ fields) = false
-
--- comments and lines of blanks, and all that follows ENDATA
-abbrev pub is_passed_over : Declaration → List ℕ → Bool
-is_passed_over d line = is_ended d.section || (is_comment line || has_no_fields (fields_of line))
+-- comments and lines of blanks
+abbrev pub is_passed_over : List ℕ → Bool
+is_passed_over line = is_comment line || list_all is_blank line
 
 -- a line that isn't UTF-8 has no fields to judge
-abbrev pub with_line : Limits → Declaration → List ℕ → Result Declaration FaultKind
-with_line limits d line =
-    if is_passed_over d line then Ok d
-    else if not (is_utf8 line) then Err BadLine
-    else if is_header line then header_line d (fields_of line)
-    else data_line limits d.section d (fields_of line)
+abbrev pub text_line : Profile → Declaration → List ℕ → Result Declaration FaultKind
+text_line profile d line =
+    if not (is_utf8 line) then Err BadLine
+    else if is_header line then header_line profile d (fields_of line)
+    else data_line profile d.section d (fields_of line)
+
+-- nothing after ENDATA is read
+abbrev pub with_line : Profile → Declaration → List ℕ → Result Declaration FaultKind
+with_line profile d line = if is_ended d.section || is_passed_over line then Ok d else text_line profile d line
 
 -- ---- texts
 
@@ -102,20 +121,17 @@ at_line n f (Ok d) = f d
 at_line n f (Err kind) = Err (record { line = n; kind = kind })
 
 -- the declaration after these lines, of which line n is the first
-abbrev pub declared_from : Limits → ℕ → Declaration → List (List ℕ) → Result Declaration FileFault
-declared_from limits n d [] = if is_ended d.section then Ok d else Err (record { line = n; kind = NoEnd })
-declared_from limits n d (line ∷ lines) = at_line n (λ more. declared_from limits (n + 1) more lines) (with_line limits d line)
+abbrev pub declared_from : Profile → ℕ → Declaration → List (List ℕ) → Result Declaration FileFault
+declared_from profile n d [] = if is_ended d.section then Ok d else Err (record { line = n; kind = NoEnd })
+declared_from profile n d (line ∷ lines) = at_line n (λ more. declared_from profile (n + 1) more lines) (with_line profile d line)
 
 abbrev pub finished : Result Declaration FileFault → Result Problem FileFault
 finished (Ok d) = Ok (problem_of d)
 finished (Err fault) = Err fault
 
-abbrev pub declared_within : Limits → List ℕ → Result Problem FileFault
-declared_within limits text = finished (declared_from limits 1 nothing_declared (lines_of text))
-
-abbrev pub real_limits : Limits
-real_limits = record { rows = 100_000; columns = 100_000; entries = 2_000_000 }
+abbrev pub declared_within : Profile → List ℕ → Result Problem FileFault
+declared_within profile text = finished (declared_from profile 1 nothing_declared (lines_of text))
 
 -- the problem that a text declares, or its first fault
 abbrev pub declared : List ℕ → Result Problem FileFault
-declared text = declared_within real_limits text
+declared text = declared_within reader_profile text

@@ -1,10 +1,11 @@
-pub mod Distinct
 pub mod Lines
-pub mod Numbers
-pub mod Plain
 pub mod Declaration
 pub mod Finished
 pub mod Steps
 pub mod RowsAndColumns
 pub mod RhsRangesBounds
 pub mod FreeMps
+pub mod Profile
+pub mod Names
+pub mod Consistent
+pub mod Follows

@@ -1,16 +1,23 @@
 -- What a line of RHS, RANGES or BOUNDS adds to the declaration, or the kind of its first fault: the number of fields first.
-use Rattle.std.specs.Prelude.{ℕ, ◌&&◌, not, Bool, true, false, List, [], ◌∷◌, codes, Some, None, is_some, unwrap_or, Result, Ok, Err, if◌then◌else◌}
+use Rattle.std.specs.Prelude.{ℕ, pos, int_lt, ◌&&◌, not, Bool, true, false, List, [], ◌∷◌, codes, Some, None, is_some, unwrap_or, Result, Ok, Err, if◌then◌else◌}
 use Rattle.std.specs.declared.option.Option.{Option}
-use Rattle.std.specs.List.{list_any, find}
 use Rattle.std.specs.Str.{bytes_eq}
-use Rattle.rational.specs.Rational.{Rational, zero_ℚ, one_ℚ, abs_ℚ, neg_ℚ}
+use Rattle.rational.specs.Rational.{Rational, zero_ℚ, one_ℚ, abs_ℚ, neg_ℚ, ◌+ℚ◌, ◌-ℚ◌}
 use Rattle.fraction.specs.Fits.{sum_fits}
 use Rattle.fraction.specs.Literal.{read_of}
 use Rattle.fraction.specs.declared.read.ReadFault.{ReadFault}
-use Rattle.mps_reader.specs.Declaration.{Relation, Free, AtMost, AtLeast, Exactly, is_free, DeclaredRow, DeclaredColumn, Declaration, is_the_name, is_row_named, is_row, is_column, with_row_changed, with_column_changed}
-use Rattle.mps_reader.specs.Finished.{is_below_zero, rhs_of}
-use Rattle.mps_reader.specs.declared.fault.FaultKind.{FaultKind}
-use Rattle.mps_reader.specs.declared.fault.FaultKind.TheVariants.{BadLine, TooWide, Unknown, Twice}
+use Rattle.milp.specs.Problem.{Column}
+use Rattle.file_fault.specs.declared.fault.FaultKind.{FaultKind}
+use Rattle.file_fault.specs.declared.fault.FaultKind.TheVariants.{BadLine, TooWide, Unknown, Twice, IntegersNotYet}
+use Rattle.mps_reader.specs.declared.profile.Profile.{Profile}
+use Rattle.mps_reader.specs.declared.row.RowKind.{RowKind}
+use Rattle.mps_reader.specs.declared.row.RowRange.{RowRange}
+use Rattle.mps_reader.specs.declared.row.RowKind.TheVariants.{Objective, Free, AtMost, AtLeast, Exactly}
+use Rattle.mps_reader.specs.declared.pairs_section.PairSection.{PairSection}
+use Rattle.mps_reader.specs.declared.pairs_section.PairSection.TheVariants.{RhsPairs, RangePairs}
+use Rattle.mps_reader.specs.declared.bound.BoundKind.{BoundKind}
+use Rattle.mps_reader.specs.declared.bound.BoundKind.TheVariants.{Lower, Upper, Fixed, IntegerLower, IntegerUpper, Unbounded, NoLower, NoUpper, Binary}
+use Rattle.mps_reader.specs.Declaration.{is_free, DeclaredRow, Declaration, row_named, with_row, is_column, is_column_named, with_first_changed}
 use Rattle.mps_reader.specs.Steps.{then_do, with_number}
 
 -- ---- sets: only the lines of the section's first one count
@@ -30,107 +37,154 @@ with_set set d = record d { first_set = Some (unwrap_or d.first_set set) }
 
 -- ---- RHS and RANGES: `[set] row v [row v]`
 
--- a line's set, and the pairs of a row and a number
+-- a row's name and the number beside it
+pub record Pair : Type 0 where
+  pub row : List ℕ
+  pub number : List ℕ
+
+-- a line's set, and its pairs
 pub record Pairs : Type 0 where
   pub set : Option (List ℕ)
-  pub first : List ℕ × List ℕ
-  pub second : Option (List ℕ × List ℕ)
+  pub first : Pair
+  pub second : Option Pair
 
 abbrev pub pairs_of : List (List ℕ) → Option Pairs
-pairs_of (r ∷ v ∷ []) = Some (record { set = None; first = (r, v); second = None })
-pairs_of (s ∷ r ∷ v ∷ []) = Some (record { set = Some s; first = (r, v); second = None })
-pairs_of (r ∷ v ∷ q ∷ w ∷ []) = Some (record { set = None; first = (r, v); second = Some (q, w) })
-pairs_of (s ∷ r ∷ v ∷ q ∷ w ∷ []) = Some (record { set = Some s; first = (r, v); second = Some (q, w) })
+pairs_of (r ∷ v ∷ []) = Some (record { set = None; first = record { row = r; number = v }; second = None })
+pairs_of (s ∷ r ∷ v ∷ []) = Some (record { set = Some s; first = record { row = r; number = v }; second = None })
+pairs_of (r ∷ v ∷ q ∷ w ∷ []) = Some (record { set = None; first = record { row = r; number = v }; second = Some (record { row = q; number = w }) })
+pairs_of (s ∷ r ∷ v ∷ q ∷ w ∷ []) = Some (record { set = Some s; first = record { row = r; number = v }; second = Some (record { row = q; number = w }) })
 pairs_of fields = None
 
 -- what one pair adds
 abbrev pub PairStep : Type 0
-PairStep = Declaration → List ℕ → List ℕ → Result Declaration FaultKind
+PairStep = Declaration → Pair → Result Declaration FaultKind
 
-abbrev pub second_pair : PairStep → Option (List ℕ × List ℕ) → Declaration → Result Declaration FaultKind
+abbrev pub second_pair : PairStep → Option Pair → Declaration → Result Declaration FaultKind
 second_pair step None d = Ok d
-second_pair step (Some pair) d = step d pair.0 pair.1
+second_pair step (Some pair) d = step d pair
 
 abbrev pub both_pairs : PairStep → Pairs → Declaration → Result Declaration FaultKind
-both_pairs step pairs d = then_do (second_pair step pairs.second) (step d pairs.first.0 pairs.first.1)
+both_pairs step pairs d = then_do (second_pair step pairs.second) (step d pairs.first)
 
 abbrev pub pairs_line : PairStep → Declaration → Option Pairs → Result Declaration FaultKind
 pairs_line step d None = Err BadLine
 pairs_line step d (Some pairs) =
     if is_of_first_set d.first_set pairs.set then both_pairs step pairs (with_set pairs.set d) else Ok d
 
--- a free row has no right-hand side to give twice
-abbrev pub has_rhs : Declaration → List ℕ → Bool
-has_rhs d row =
-    if is_the_name d.objective row then is_some d.objective_rhs
-    else list_any (λ (r : DeclaredRow). is_row_named row r && is_some r.rhs) d.rows
+-- on a free row that isn't the objective it is passed over
+abbrev pub rhs_of_kind : RowKind → Rational → Option Rational
+rhs_of_kind Free value = None
+rhs_of_kind Objective value = Some value
+rhs_of_kind AtMost value = Some value
+rhs_of_kind AtLeast value = Some value
+rhs_of_kind Exactly value = Some value
 
--- on a free row it is passed over
 abbrev pub rhs_added : Rational → DeclaredRow → DeclaredRow
-rhs_added value r = if is_free r.relation then r else record r { rhs = Some value }
+rhs_added value r = record r { rhs = rhs_of_kind r.kind value }
 
-abbrev pub with_rhs : Declaration → List ℕ → Rational → Declaration
-with_rhs d row value =
-    if is_the_name d.objective row then record d { objective_rhs = Some value }
-    else record d { rows = with_row_changed (rhs_added value) row d.rows }
+abbrev pub rhs_on_row : Declaration → Option DeclaredRow → Pair → Result Declaration FaultKind
+rhs_on_row d None pair = Err Unknown
+rhs_on_row d (Some r) pair =
+    if is_some r.rhs then Err Twice
+    else with_number (λ value. Ok (with_row (rhs_added value) pair.row d)) (read_of pair.number)
 
 abbrev pub rhs_pair : PairStep
-rhs_pair d row v =
-    if not (is_row d row) then Err Unknown
-    else if has_rhs d row then Err Twice
-    else with_number (λ value. Ok (with_rhs d row value)) (read_of v)
+rhs_pair d pair = rhs_on_row d (row_named d pair.row) pair
 
-abbrev pub rhs_line : Declaration → List (List ℕ) → Result Declaration FaultKind
-rhs_line d fields = pairs_line rhs_pair d (pairs_of fields)
+abbrev pub is_below_zero : Rational → Bool
+is_below_zero v = int_lt v.numerator (pos 0)
 
--- the sum that a range asks for, b + |r| or b - |r|, fits
-abbrev pub range_fits : Relation → Rational → Rational → Bool
-range_fits Free b r = true
-range_fits AtMost b r = sum_fits b (neg_ℚ (abs_ℚ r))
-range_fits AtLeast b r = sum_fits b (abs_ℚ r)
-range_fits Exactly b r = if is_below_zero r then sum_fits b (neg_ℚ (abs_ℚ r)) else sum_fits b (abs_ℚ r)
+-- 0 where no right-hand side is given
+abbrev pub rhs_of : DeclaredRow → Rational
+rhs_of r = unwrap_or r.rhs zero_ℚ
 
-abbrev pub range_added : Rational → DeclaredRow → DeclaredRow
-range_added value r = record r { range = Some value }
+-- [b - |r|, b], where the sum fits
+abbrev pub range_below : Rational → Rational → Result RowRange FaultKind
+range_below b r = if sum_fits b (neg_ℚ (abs_ℚ r)) then Ok (record { lower = b -ℚ abs_ℚ r; upper = b }) else Err TooWide
 
-abbrev pub with_range : Declaration → DeclaredRow → Rational → Result Declaration FaultKind
-with_range d row value =
-    if range_fits row.relation (rhs_of row) value then Ok (record d { rows = with_row_changed (range_added value) row.name d.rows })
-    else Err TooWide
+-- [b, b + |r|], where the sum fits
+abbrev pub range_above : Rational → Rational → Result RowRange FaultKind
+range_above b r = if sum_fits b (abs_ℚ r) then Ok (record { lower = b; upper = b +ℚ abs_ℚ r }) else Err TooWide
+
+-- the bounds that a range r gives a row of this kind, whose right-hand side is b
+abbrev pub range_of : RowKind → Rational → Rational → Result RowRange FaultKind
+range_of Objective b r = Err BadLine
+range_of Free b r = Err BadLine
+range_of AtMost b r = range_below b r
+range_of AtLeast b r = range_above b r
+range_of Exactly b r = if is_below_zero r then range_below b r else range_above b r
+
+abbrev pub range_added : RowRange → DeclaredRow → DeclaredRow
+range_added range r = record r { range = Some range }
+
+abbrev pub with_range : Declaration → DeclaredRow → List ℕ → Rational → Result Declaration FaultKind
+with_range d r row value = then_do (λ range. Ok (with_row (range_added range) row d)) (range_of r.kind (rhs_of r) value)
 
 -- no N row has a range
-abbrev pub range_of_row : Declaration → Option DeclaredRow → List ℕ → Result Declaration FaultKind
-range_of_row d None v = Err Unknown
-range_of_row d (Some row) v =
-    if is_free row.relation then Err BadLine
-    else if is_some row.range then Err Twice
-    else with_number (with_range d row) (read_of v)
+abbrev pub range_on_row : Declaration → Option DeclaredRow → Pair → Result Declaration FaultKind
+range_on_row d None pair = Err Unknown
+range_on_row d (Some r) pair =
+    if is_free r.kind then Err BadLine
+    else if is_some r.range then Err Twice
+    else with_number (with_range d r pair.row) (read_of pair.number)
 
 abbrev pub range_pair : PairStep
-range_pair d row v = if is_the_name d.objective row then Err BadLine else range_of_row d (find (is_row_named row) d.rows) v
+range_pair d pair = range_on_row d (row_named d pair.row) pair
 
-abbrev pub range_line : Declaration → List (List ℕ) → Result Declaration FaultKind
-range_line d fields = pairs_line range_pair d (pairs_of fields)
+abbrev pub step_of : PairSection → PairStep
+step_of RhsPairs = rhs_pair
+step_of RangePairs = range_pair
+
+abbrev pub pair_line : PairSection → Declaration → List (List ℕ) → Result Declaration FaultKind
+pair_line section d fields = pairs_line (step_of section) d (pairs_of fields)
 
 -- ---- BOUNDS: `UP|LO|FX|LI|UI [set] col v` and `FR|MI|PL|BV [set] col`, or with four fields a number that isn't used
 
--- what a bound of a kind does with its value, and whether it has one
-pub record BoundKind : Type 0 where
-  pub has_value : Bool
-  pub bounded : Rational → DeclaredColumn → DeclaredColumn
-
 abbrev pub bound_kind_of : List ℕ → Option BoundKind
 bound_kind_of word =
-    if bytes_eq word (codes "LO") then Some (record { has_value = true; bounded = λ v c. record c { lower = Some v } })
-    else if bytes_eq word (codes "UP") then Some (record { has_value = true; bounded = λ v c. record c { upper = Some v } })
-    else if bytes_eq word (codes "FX") then Some (record { has_value = true; bounded = λ v c. record c { lower = Some v; upper = Some v } })
-    else if bytes_eq word (codes "LI") then Some (record { has_value = true; bounded = λ v c. record c { lower = Some v; integer = true } })
-    else if bytes_eq word (codes "UI") then Some (record { has_value = true; bounded = λ v c. record c { upper = Some v; integer = true } })
-    else if bytes_eq word (codes "FR") then Some (record { has_value = false; bounded = λ v c. record c { lower = None; upper = None } })
-    else if bytes_eq word (codes "MI") then Some (record { has_value = false; bounded = λ v c. record c { lower = None } })
-    else if bytes_eq word (codes "PL") then Some (record { has_value = false; bounded = λ v c. record c { upper = None } })
-    else if bytes_eq word (codes "BV") then Some (record { has_value = false; bounded = λ v c. record c { lower = Some zero_ℚ; upper = Some one_ℚ; integer = true } })
+    if bytes_eq word (codes "LO") then Some Lower
+    else if bytes_eq word (codes "UP") then Some Upper
+    else if bytes_eq word (codes "FX") then Some Fixed
+    else if bytes_eq word (codes "LI") then Some IntegerLower
+    else if bytes_eq word (codes "UI") then Some IntegerUpper
+    else if bytes_eq word (codes "FR") then Some Unbounded
+    else if bytes_eq word (codes "MI") then Some NoLower
+    else if bytes_eq word (codes "PL") then Some NoUpper
+    else if bytes_eq word (codes "BV") then Some Binary
     else None
+
+abbrev pub has_value : BoundKind → Bool
+has_value Lower = true
+has_value Upper = true
+has_value Fixed = true
+has_value IntegerLower = true
+has_value IntegerUpper = true
+has_value Unbounded = false
+has_value NoLower = false
+has_value NoUpper = false
+has_value Binary = false
+
+abbrev pub makes_integer : BoundKind → Bool
+makes_integer Lower = false
+makes_integer Upper = false
+makes_integer Fixed = false
+makes_integer IntegerLower = true
+makes_integer IntegerUpper = true
+makes_integer Unbounded = false
+makes_integer NoLower = false
+makes_integer NoUpper = false
+makes_integer Binary = true
+
+abbrev pub bounded : BoundKind → Rational → Column → Column
+bounded Lower v c = record c { lower = Some v }
+bounded Upper v c = record c { upper = Some v }
+bounded Fixed v c = record c { lower = Some v; upper = Some v }
+bounded IntegerLower v c = record c { lower = Some v; integer = true }
+bounded IntegerUpper v c = record c { upper = Some v; integer = true }
+bounded Unbounded v c = record c { lower = None; upper = None }
+bounded NoLower v c = record c { lower = None }
+bounded NoUpper v c = record c { upper = None }
+bounded Binary v c = record c { lower = Some zero_ℚ; upper = Some one_ℚ; integer = true }
 
 -- the fields after the kind
 pub record BoundFields : Type 0 where
@@ -150,19 +204,25 @@ abbrev pub bound_value : Option (List ℕ) → Result Rational ReadFault
 bound_value None = Ok zero_ℚ
 bound_value (Some v) = read_of v
 
-abbrev pub with_bound : Declaration → BoundKind → BoundFields → Result Declaration FaultKind
-with_bound d kind b =
-    if not (is_column d b.column) then Err Unknown
-    else with_number (λ value. Ok (record d { columns = with_column_changed (kind.bounded value) b.column d.columns })) (bound_value b.number)
+-- the column's bound changed, where integer columns are taken if it makes one
+abbrev pub with_bound : Profile → Declaration → BoundKind → List ℕ → Rational → Result Declaration FaultKind
+with_bound profile d kind column value =
+    if makes_integer kind && not profile.takes_integers then Err IntegersNotYet
+    else Ok (record d { columns = with_first_changed (is_column_named column) (bounded kind value) d.columns })
 
-abbrev pub bound_with_fields : Declaration → BoundKind → Option BoundFields → Result Declaration FaultKind
-bound_with_fields d kind None = Err BadLine
-bound_with_fields d kind (Some b) = if is_of_first_set d.first_set b.set then with_bound (with_set b.set d) kind b else Ok d
+abbrev pub bound_on_column : Profile → Declaration → BoundKind → BoundFields → Result Declaration FaultKind
+bound_on_column profile d kind b =
+    if is_column d b.column then with_number (with_bound profile d kind b.column) (bound_value b.number) else Err Unknown
 
-abbrev pub bound_of_kind : Declaration → Option BoundKind → List (List ℕ) → Result Declaration FaultKind
-bound_of_kind d None fields = Err BadLine
-bound_of_kind d (Some kind) fields = bound_with_fields d kind (bound_fields kind.has_value fields)
+abbrev pub bound_with_fields : Profile → Declaration → BoundKind → Option BoundFields → Result Declaration FaultKind
+bound_with_fields profile d kind None = Err BadLine
+bound_with_fields profile d kind (Some b) =
+    if is_of_first_set d.first_set b.set then bound_on_column profile (with_set b.set d) kind b else Ok d
 
-abbrev pub bound_line : Declaration → List (List ℕ) → Result Declaration FaultKind
-bound_line d [] = Err BadLine
-bound_line d (kind ∷ fields) = bound_of_kind d (bound_kind_of kind) fields
+abbrev pub bound_of_kind : Profile → Declaration → Option BoundKind → List (List ℕ) → Result Declaration FaultKind
+bound_of_kind profile d None fields = Err BadLine
+bound_of_kind profile d (Some kind) fields = bound_with_fields profile d kind (bound_fields (has_value kind) fields)
+
+abbrev pub bound_line : Profile → Declaration → List (List ℕ) → Result Declaration FaultKind
+bound_line profile d [] = Err BadLine
+bound_line profile d (kind ∷ fields) = bound_of_kind profile d (bound_kind_of kind) fields

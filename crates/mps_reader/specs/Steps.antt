@@ -3,16 +3,8 @@ use Rattle.std.specs.Prelude.{ℕ, List, [], ◌∷◌, Result, Ok, Err}
 use Rattle.rational.specs.Rational.{Rational}
 use Rattle.fraction.specs.declared.read.ReadFault.{ReadFault}
 use Rattle.fraction.specs.declared.read.ReadFault.TheVariants.{NotANumber, TooWide as TooWideNumber}
-use Rattle.mps_reader.specs.declared.fault.FaultKind.{FaultKind}
-use Rattle.mps_reader.specs.declared.fault.FaultKind.TheVariants.{BadLine, BadNumber, TooWide}
-
--- the most rows, columns and entries of rows
-pub record Limits : Type 0 where
-  pub rows : ℕ
-  pub columns : ℕ
-  pub entries : ℕ
-
--- ---- steps
+use Rattle.file_fault.specs.declared.fault.FaultKind.{FaultKind}
+use Rattle.file_fault.specs.declared.fault.FaultKind.TheVariants.{BadLine, BadNumber, TooWide}
 
 -- the next step, where there was no fault
 abbrev pub then_do : {A B : Type 0} → (A → Result B FaultKind) → Result A FaultKind → Result B FaultKind

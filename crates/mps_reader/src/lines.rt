@@ -4,7 +4,7 @@ ghost use Rattle.std.specs.Option.{option_map};
 ghost use Rattle.std.specs.List.{slice_split};
 ghost use Rattle.std.specs.Str.{is_utf8};
 ghost use Rattle.std.specs.Str.Lines.{lines_of_parts, strip_carriage_return};
-ghost use Rattle.mps_reader.specs.Lines.{lines_of, fields_of, tabbed_fields, is_header as header, header_fields as fields_of_header, data_fields as fields_of_data, begins_header as begun, is_header_of as headed};
+ghost use Rattle.mps_reader.specs.Lines.{lines_of, fields_of, tabbed_fields, is_header as header};
 
 use std::alloc::{AllocError, Global};
 
@@ -62,7 +62,7 @@ pub(crate) fn is_header(line: &[u8]) -> bool
 }
 
 // The line as text.
-fn as_text(line: &[u8]) -> Option<&str>
+pub(crate) fn as_text(line: &[u8]) -> Option<&str>
     ensures { option_map (λ t. t.now) result ≡ (if is_utf8 line.now then Some line.now else None) }
 {
     match str::from_utf8(line) {
@@ -71,35 +71,8 @@ fn as_text(line: &[u8]) -> Option<&str>
     }
 }
 
-// The fields of a header.
-pub(crate) fn header_fields(alloc: Global, line: &[u8]) -> Result<Option<Vec<&str>>, AllocError>
-    ensures { IfOk result (λ fields. option_map (λ v. map (λ l. l.now) v.items) fields ≡ fields_of_header line.now) }
-{
-    let Some(text) = as_text(line) else {
-        return Ok(None);
-    };
-    if !is_header(line) {
-        return Ok(None);
-    }
-    let fields = fields_in(alloc, text)?;
-    Ok(Some(fields))
-}
-
-// The fields of a line that is no header.
-pub(crate) fn data_fields(alloc: Global, line: &[u8]) -> Result<Option<Vec<&str>>, AllocError>
-    ensures { IfOk result (λ fields. option_map (λ v. map (λ l. l.now) v.items) fields ≡ fields_of_data line.now) }
-{
-    let Some(text) = as_text(line) else {
-        return Ok(None);
-    };
-    if is_header(line) {
-        return Ok(None);
-    }
-    let fields = fields_in(alloc, text)?;
-    Ok(Some(fields))
-}
-
-fn fields_in(alloc: Global, line: &str) -> Result<Vec<&str>, AllocError>
+// The fields of a line.
+pub(crate) fn fields_in(alloc: Global, line: &str) -> Result<Vec<&str>, AllocError>
     ensures { IfOk result (λ fields. map (λ l. l.now) fields.items ≡ fields_of line.now) }
 {
     let pieces = spaced(alloc, line)?;
@@ -136,30 +109,4 @@ fn tabbed(alloc: Global, piece: &str) -> Result<Vec<&str>, AllocError>
     ensures { IfOk result (λ parts. map (λ l. l.now) parts.items ≡ slice_split (λ b. b == 9) piece.now) }
 {
     piece.split('\t').collect(alloc)
-}
-
-// Whether a line is a header that begins with this word.
-pub(crate) fn begins_header(alloc: Global, word: &str, line: &[u8]) -> Result<bool, AllocError>
-    ensures { IfOk result (λ is. is ≡ begun word.now line.now) }
-{
-    let Some(fields) = header_fields(alloc, line)? else {
-        return Ok(false);
-    };
-    match fields.as_slice() {
-        [first, ..] => Ok(*first == word),
-        _ => Ok(false),
-    }
-}
-
-// Whether a line is a header of this one word.
-pub(crate) fn is_header_of(alloc: Global, word: &str, line: &[u8]) -> Result<bool, AllocError>
-    ensures { IfOk result (λ is. is ≡ headed word.now line.now) }
-{
-    let Some(fields) = header_fields(alloc, line)? else {
-        return Ok(false);
-    };
-    match fields.as_slice() {
-        [only] => Ok(*only == word),
-        _ => Ok(false),
-    }
 }

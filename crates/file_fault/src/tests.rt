@@ -1,0 +1,15 @@
+// A fault's line, as it is printed.
+use crate::{FaultKind, FileFault};
+
+#[test]
+fn names_its_kind(rt: HostRuntime) {
+    let fault = FileFault {
+        line: 3,
+        kind: FaultKind::RowsNotYet,
+    };
+    assert!(rt; fault.kind.as_str() == "RowsNotYet");
+    let Ok(text) = format!(in rt.alloc(); "file fault: line {}: {}", fault.line, fault.kind) else {
+        panic!(rt; "memory for a line");
+    };
+    assert!(rt; text.as_str() == "file fault: line 3: RowsNotYet");
+}

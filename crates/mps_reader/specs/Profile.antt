@@ -1,0 +1,19 @@
+-- How far a reader of free MPS goes.
+use Rattle.std.specs.Prelude.{◌≤◌, true, false}
+use Rattle.mps_reader.specs.declared.profile.Profile.{Profile}
+
+-- no limit passes what an instance holds
+pub record IsWithinInstance (profile : Profile) : Type 0 where
+  pub rows : profile.rows ≤ 100_000
+  pub columns : profile.columns ≤ 100_000
+  pub entries : profile.entries ≤ 2_000_000
+
+-- today's reader: neither rows nor integer columns are read
+abbrev pub reader_profile : Profile
+reader_profile = record {
+  rows = 100_000;
+  columns = 100_000;
+  entries = 2_000_000;
+  takes_rows = false;
+  takes_integers = false;
+}

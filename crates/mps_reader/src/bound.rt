@@ -1,0 +1,76 @@
+// Bounds of columns.
+ghost use Rattle.std.specs.Prelude.{◌≡◌};
+ghost use Rattle.std.specs.Option.{option_map};
+ghost use Rattle.mps_reader.specs.RhsRangesBounds.{bound_kind_of, has_value as kind_has_value, makes_integer as kind_makes_integer};
+
+// LO, UP, FX, LI, UI, FR, MI, PL and BV.
+#[derive(Clone, Copy)]
+pub(crate) enum BoundKind {
+    Lower,
+    Upper,
+    Fixed,
+    IntegerLower,
+    IntegerUpper,
+    Unbounded,
+    NoLower,
+    NoUpper,
+    Binary,
+}
+
+impl BoundKind {
+    pub(crate) fn of_word(word: &str) -> Option<BoundKind>
+        ensures { result ≡ bound_kind_of word.now }
+    {
+        if word == "LO" {
+            Some(BoundKind::Lower)
+        } else if word == "UP" {
+            Some(BoundKind::Upper)
+        } else if word == "FX" {
+            Some(BoundKind::Fixed)
+        } else if word == "LI" {
+            Some(BoundKind::IntegerLower)
+        } else if word == "UI" {
+            Some(BoundKind::IntegerUpper)
+        } else if word == "FR" {
+            Some(BoundKind::Unbounded)
+        } else if word == "MI" {
+            Some(BoundKind::NoLower)
+        } else if word == "PL" {
+            Some(BoundKind::NoUpper)
+        } else if word == "BV" {
+            Some(BoundKind::Binary)
+        } else {
+            None
+        }
+    }
+
+    // A number belongs to it.
+    pub(crate) fn has_value(self) -> bool
+        ensures { result ≡ kind_has_value self }
+    {
+        match self {
+            BoundKind::Lower
+            | BoundKind::Upper
+            | BoundKind::Fixed
+            | BoundKind::IntegerLower
+            | BoundKind::IntegerUpper => true,
+            BoundKind::Unbounded | BoundKind::NoLower | BoundKind::NoUpper | BoundKind::Binary =>
+                false,
+        }
+    }
+
+    // It makes its column an integer one.
+    pub(crate) fn makes_integer(self) -> bool
+        ensures { result ≡ kind_makes_integer self }
+    {
+        match self {
+            BoundKind::IntegerLower | BoundKind::IntegerUpper | BoundKind::Binary => true,
+            BoundKind::Lower
+            | BoundKind::Upper
+            | BoundKind::Fixed
+            | BoundKind::Unbounded
+            | BoundKind::NoLower
+            | BoundKind::NoUpper => false,
+        }
+    }
+}

@@ -1,0 +1,121 @@
+// The lines of BOUNDS.
+ghost use Rattle.std.specs.Prelude.{◌≡◌, map, None, Some};
+ghost use Rattle.std.specs.Option.{option_map};
+ghost use Rattle.mps_reader.specs.Follows.{Follows, number_or_fault};
+ghost use Rattle.mps_reader.specs.RhsRangesBounds.{bound_line as bound_line_of, bound_of_kind as bound_line_of_kind, bound_with_fields, bound_on_column as bound_on, bound_value as value_of_bound, with_bound as with_bound_on};
+
+use crate::bound::BoundKind;
+use crate::draft::Draft;
+use crate::error::LineError;
+use crate::literal::read_number;
+use crate::profile::Profile;
+use file_fault::FaultKind;
+use fraction::Frac;
+
+// `UP|LO|FX|LI|UI [set] col v` and `FR|MI|PL|BV [set] col`, or with four fields a number that isn't used
+pub(crate) fn bound_line<'a>(
+    profile: &Profile,
+    draft: &mut Draft<'a>,
+    fields: &[&'a str],
+) -> Result<(), LineError>
+    ensures { Follows result draft.new (bound_line_of profile.now draft.old (map (λ f. f.now) fields.now)) }
+{
+    match fields {
+        [] => Err(LineError::Fault(FaultKind::BadLine)),
+        [word, rest @ ..] => match BoundKind::of_word(word) {
+            None => Err(LineError::Fault(FaultKind::BadLine)),
+            Some(kind) => bound_of_kind(profile, draft, kind, rest),
+        },
+    }
+}
+
+// The fields after the kind.
+fn bound_of_kind<'a>(
+    profile: &Profile,
+    draft: &mut Draft<'a>,
+    kind: BoundKind,
+    fields: &[&'a str],
+) -> Result<(), LineError>
+    ensures { Follows result draft.new (bound_line_of_kind profile.now draft.old (Some kind) (map (λ f. f.now) fields.now)) }
+{
+    match fields {
+        [set, column, number] => {
+            bound_in_set(profile, draft, kind, Some(set), column, Some(number))
+        }
+        [first, second] => {
+            if kind.has_value() {
+                bound_in_set(profile, draft, kind, None, first, Some(second))
+            } else {
+                bound_in_set(profile, draft, kind, Some(first), second, None)
+            }
+        }
+        [column] => {
+            if kind.has_value() {
+                Err(LineError::Fault(FaultKind::BadLine))
+            } else {
+                bound_in_set(profile, draft, kind, None, column, None)
+            }
+        }
+        _ => Err(LineError::Fault(FaultKind::BadLine)),
+    }
+}
+
+// A bound of a set, which counts where it is the section's first.
+fn bound_in_set<'a>(
+    profile: &Profile,
+    draft: &mut Draft<'a>,
+    kind: BoundKind,
+    set: Option<&'a str>,
+    column: &str,
+    number: Option<&str>,
+) -> Result<(), LineError>
+    ensures { Follows result draft.new (bound_with_fields profile.now draft.old kind (Some (record { set = option_map (λ s. s.now) set.entry; column = column.now; number = option_map (λ n. n.now) number.entry }))) }
+{
+    if !draft.takes_set(set) {
+        return Ok(());
+    }
+    bound_on_column(profile, draft, kind, column, number)
+}
+
+fn bound_on_column(
+    profile: &Profile,
+    draft: &mut Draft,
+    kind: BoundKind,
+    column: &str,
+    number: Option<&str>,
+) -> Result<(), LineError>
+    ensures { Follows result draft.new (bound_on profile.now draft.old kind (record { set = None; column = column.now; number = option_map (λ n. n.now) number.entry })) }
+{
+    if !draft.has_column(column) {
+        return Err(LineError::Fault(FaultKind::Unknown));
+    }
+    let value = bound_value(number)?;
+    with_bound(profile, draft, kind, column, value)
+}
+
+// A number that isn't there isn't used.
+fn bound_value(number: Option<&str>) -> Result<Frac, LineError>
+    ensures { result ≡ number_or_fault (value_of_bound (option_map (λ n. n.now) number.entry)) }
+{
+    match number {
+        None => Ok(Frac::whole(0)),
+        Some(number) => read_number(number),
+    }
+}
+
+// The column's bound changed, where integer columns are taken if it makes one.
+fn with_bound(
+    profile: &Profile,
+    draft: &mut Draft,
+    kind: BoundKind,
+    column: &str,
+    value: Frac,
+) -> Result<(), LineError>
+    ensures { Follows result draft.new (with_bound_on profile.now draft.old kind column.now value) }
+{
+    if kind.makes_integer() && !profile.takes_integers {
+        return Err(LineError::Fault(FaultKind::IntegersNotYet));
+    }
+    draft.bound(column, kind, value);
+    Ok(())
+}

@@ -1,0 +1,253 @@
+// The lines of COLUMNS.
+ghost use Rattle.std.specs.Prelude.{◌≡◌, ◌≢◌, ◌∷◌, true, length, map, Some, IfSome};
+ghost use Rattle.mps_reader.specs.Declaration.{is_row, row_named, is_objective_named};
+ghost use Rattle.mps_reader.specs.Profile.{IsWithinInstance};
+ghost use Rattle.mps_reader.specs.Follows.{Follows};
+ghost use Rattle.mps_reader.specs.Steps.{then_do, with_number};
+ghost use Rattle.fraction.specs.Literal.{read_of};
+ghost use Rattle.mps_reader.specs.RowsAndColumns.{marker_of as marker_of_word, begins_with_marker as begins_with_marker_word, is_marker as is_marker_line, with_integers, turned, marker_line as marker_line_of, at_column as at_column_name, with_entry as with_value, at_value as at_value_field, at_row as at_row_named, at_entry as at_first_fields, after_pair as after_two, at_second_entry as at_more_fields, at_entries as at_all_fields, column_line as column_line_of};
+
+use crate::draft::Draft;
+use crate::error::LineError;
+use crate::literal::read_number;
+use crate::profile::Profile;
+use crate::row::is_zero;
+use file_fault::FaultKind;
+use fraction::Frac;
+
+// `col row v [row v]`, or a marker
+pub(crate) fn column_line<'a>(
+    profile: &Profile,
+    draft: &mut Draft<'a>,
+    fields: &[&'a str],
+) -> Result<(), LineError>
+    requires { IsWithinInstance profile.now }
+    ensures { Follows result draft.new (column_line_of profile.now draft.old (map (λ f. f.now) fields.now)) }
+{
+    match fields {
+        [] => Err(LineError::Fault(FaultKind::BadLine)),
+        [name, rest @ ..] => named_line(profile, draft, name, rest),
+    }
+}
+
+fn named_line<'a>(
+    profile: &Profile,
+    draft: &mut Draft<'a>,
+    name: &'a str,
+    fields: &[&'a str],
+) -> Result<(), LineError>
+    requires { IsWithinInstance profile.now }
+    ensures { Follows result draft.new (column_line_of profile.now draft.old (name.now ∷ map (λ f. f.now) fields.now)) }
+{
+    if is_marker(draft, fields) {
+        marker_line(profile, draft, fields)
+    } else {
+        entry_line(profile, draft, name, fields)
+    }
+}
+
+fn entry_line<'a>(
+    profile: &Profile,
+    draft: &mut Draft<'a>,
+    name: &'a str,
+    fields: &[&'a str],
+) -> Result<(), LineError>
+    requires { IsWithinInstance profile.now }
+    ensures { Follows result draft.new (then_do (at_all_fields profile.now (map (λ f. f.now) fields.now)) (at_column_name profile.now draft.old name.now)) }
+{
+    at_column(profile, draft, name)?;
+    at_entries(profile, draft, fields)
+}
+
+// ---- markers: `name 'MARKER' 'INTORG'` and `'INTEND'`
+
+// Whether INTORG, which begins integer columns, or INTEND, which ends them.
+fn marker_of(word: &str) -> Option<bool>
+    ensures { result ≡ marker_of_word word.now }
+{
+    if word == "'INTORG'" {
+        Some(true)
+    } else if word == "'INTEND'" {
+        Some(false)
+    } else {
+        None
+    }
+}
+
+fn begins_with_marker(fields: &[&str]) -> bool
+    ensures { result ≡ begins_with_marker_word (map (λ f. f.now) fields.now) }
+{
+    match fields {
+        [] => false,
+        [word, ..] => marker_of(word).is_some(),
+    }
+}
+
+// By the fields after the first; where a row is named 'MARKER', only a whole marker is one.
+fn is_marker(draft: &Draft, fields: &[&str]) -> bool
+    ensures { result ≡ is_marker_line draft.now (map (λ f. f.now) fields.now) }
+{
+    match fields {
+        [] => false,
+        [word, rest @ ..] => {
+            *word == "'MARKER'" && (begins_with_marker(rest) || !draft.has_row(word))
+        }
+    }
+}
+
+fn marker_line(profile: &Profile, draft: &mut Draft, fields: &[&str]) -> Result<(), LineError>
+    ensures { Follows result draft.new (marker_line_of profile.now draft.old (map (λ f. f.now) fields.now)) }
+{
+    match fields {
+        [_, marker, rest @ ..] => match marker_of(marker) {
+            None => Err(LineError::Fault(FaultKind::BadLine)),
+            Some(begins) => turn(profile, draft, begins, rest),
+        },
+        _ => Err(LineError::Fault(FaultKind::BadLine)),
+    }
+}
+
+// An open INTORG is followed by INTEND and the other way round.
+fn turn(profile: &Profile, draft: &mut Draft, begins: bool, rest: &[&str]) -> Result<(), LineError>
+    ensures { Follows result draft.new (turned profile.now draft.old (Some begins) (map (λ f. f.now) rest.now)) }
+{
+    if draft.in_integers() == begins || !rest.is_empty() {
+        return Err(LineError::Fault(FaultKind::BadLine));
+    }
+    if begins && !profile.takes_integers {
+        return Err(LineError::Fault(FaultKind::IntegersNotYet));
+    }
+    draft.turn(begins);
+    Ok(())
+}
+
+// ---- columns
+
+// A new name begins a column, and the name of the current one goes on with it.
+fn at_column<'a>(profile: &Profile, draft: &mut Draft<'a>, name: &'a str) -> Result<(), LineError>
+    requires { IsWithinInstance profile.now }
+    ensures { Follows result draft.new (at_column_name profile.now draft.old name.now) }
+{
+    if draft.has_column(name) {
+        if draft.is_current(name) {
+            return Ok(());
+        }
+        return Err(LineError::Fault(FaultKind::Twice));
+    }
+    if draft.column_count() >= profile.columns {
+        return Err(LineError::Fault(FaultKind::TooMany));
+    }
+    draft.begin_column(name)?;
+    Ok(())
+}
+
+// `row v [row v]`
+fn at_entries<'a>(
+    profile: &Profile,
+    draft: &mut Draft<'a>,
+    fields: &[&'a str],
+) -> Result<(), LineError>
+    requires { IsWithinInstance profile.now }
+    ensures { Follows result draft.new (at_all_fields profile.now (map (λ f. f.now) fields.now) draft.old) }
+{
+    at_entry(profile, draft, fields)?;
+    at_second_entry(profile, draft, after_pair(fields))
+}
+
+// The fields after a row and its number.
+fn after_pair<'a, 'b>(fields: &'b [&'a str]) -> &'b [&'a str]
+    ensures { map (λ f. f.now) result.now ≡ after_two (map (λ f. f.now) fields.now) }
+{
+    match fields {
+        [_, _, rest @ ..] => rest,
+        _ => &[],
+    }
+}
+
+// `[row v]`
+fn at_second_entry<'a>(
+    profile: &Profile,
+    draft: &mut Draft<'a>,
+    fields: &[&'a str],
+) -> Result<(), LineError>
+    requires { IsWithinInstance profile.now }
+    ensures { Follows result draft.new (at_more_fields profile.now (map (λ f. f.now) fields.now) draft.old) }
+{
+    if fields.is_empty() {
+        return Ok(());
+    }
+    at_entry(profile, draft, fields)?;
+    if !after_pair(fields).is_empty() {
+        return Err(LineError::Fault(FaultKind::BadLine));
+    }
+    Ok(())
+}
+
+// `row v`
+fn at_entry<'a>(
+    profile: &Profile,
+    draft: &mut Draft<'a>,
+    fields: &[&'a str],
+) -> Result<(), LineError>
+    requires { IsWithinInstance profile.now }
+    ensures { Follows result draft.new (at_first_fields profile.now draft.old (map (λ f. f.now) fields.now)) }
+{
+    match fields {
+        [] => Err(LineError::Fault(FaultKind::BadLine)),
+        [row, rest @ ..] => at_row(profile, draft, row, rest),
+    }
+}
+
+// What the last column has in a row, which it may have once.
+fn at_row(profile: &Profile, draft: &mut Draft, row: &str, fields: &[&str]) -> Result<(), LineError>
+    requires { IsWithinInstance profile.now }
+    ensures { Follows result draft.new (at_row_named profile.now draft.old (row_named draft.old row.now) row.now (map (λ f. f.now) fields.now)) }
+{
+    let Some(found) = draft.row(row) else {
+        return Err(LineError::Fault(FaultKind::Unknown));
+    };
+    if found.latest() == draft.column_count() {
+        return Err(LineError::Fault(FaultKind::Twice));
+    }
+    at_value(profile, draft, row, fields)
+}
+
+fn at_value(
+    profile: &Profile,
+    draft: &mut Draft,
+    row: &str,
+    fields: &[&str],
+) -> Result<(), LineError>
+    requires profile { IsWithinInstance profile.now }
+    requires there { is_row draft.old row.now ≡ true }
+    requires once { IfSome (row_named draft.old row.now) (λ r. r.latest ≢ length draft.old.columns) }
+    ensures { Follows result draft.new (at_value_field profile.now draft.old row.now (map (λ f. f.now) fields.now)) }
+{
+    match fields {
+        [] => Err(LineError::Fault(FaultKind::BadLine)),
+        [number, ..] => at_number(profile, draft, row, number),
+    }
+}
+
+fn at_number(profile: &Profile, draft: &mut Draft, row: &str, number: &str) -> Result<(), LineError>
+    requires profile { IsWithinInstance profile.now }
+    requires there { is_row draft.old row.now ≡ true }
+    requires once { IfSome (row_named draft.old row.now) (λ r. r.latest ≢ length draft.old.columns) }
+    ensures { Follows result draft.new (with_number (with_value profile.now draft.old row.now) (read_of number.now)) }
+{
+    let value = read_number(number)?;
+    with_entry(profile, draft, row, value)
+}
+
+fn with_entry(profile: &Profile, draft: &mut Draft, row: &str, value: Frac) -> Result<(), LineError>
+    requires profile { IsWithinInstance profile.now }
+    requires there { is_row draft.old row.now ≡ true }
+    requires once { IfSome (row_named draft.old row.now) (λ r. r.latest ≢ length draft.old.columns) }
+    ensures { Follows result draft.new (with_value profile.now draft.old row.now value) }
+{
+    if !draft.is_objective(row) && !is_zero(value) && draft.entry_count() >= profile.entries {
+        return Err(LineError::Fault(FaultKind::TooMany));
+    }
+    draft.give(row, value)?;
+    Ok(())
+}

@@ -1,0 +1,305 @@
+// A declaration in the making.
+ghost use Rattle.std.specs.Prelude.{◌≡◌, ◌≢◌, ◌<◌, ◌≤◌, ◌++◌, [], ◌∷◌, None, Some, false, true, length, map, is_some, IfSome, OnOk};
+ghost use Rattle.std.specs.Option.{option_map};
+ghost use Rattle.std.specs.List.{All};
+ghost use Rattle.mps_reader.specs.Names.{AreNew};
+ghost use Rattle.mps_reader.specs.Consistent.{IsGiven};
+ghost use Rattle.milp.specs.Problem.{Column};
+ghost use Rattle.mps_reader.specs.Declaration.{DeclaredRow as RowOf, nothing_declared, row_named, is_row, is_objective_named, is_row_named, is_column, is_column_named, with_row, with_first_changed, new_row, entry_count as count_of_entries, is_zero as is_zero_number};
+ghost use Rattle.mps_reader.specs.RowsAndColumns.{given, new_column, is_the_name};
+ghost use Rattle.mps_reader.specs.RhsRangesBounds.{rhs_added, range_added, bounded, is_of_first_set, is_same_set as are_sets_same, with_set};
+ghost use Rattle.mps_reader.specs.FreeMps.{in_section};
+
+use crate::bound::BoundKind;
+use crate::column_table::ColumnTable;
+use crate::declared_column::DeclaredColumn;
+use crate::row::{DeclaredRow, RowKind, RowRange, is_zero};
+use crate::row_table::RowTable;
+use crate::section::Section;
+use fraction::Frac;
+use std::alloc::{AllocError, Global};
+use std::marker::Model;
+
+// What the text has declared so far.
+#[derive(Drop)]
+pub(crate) struct Draft<'a> {
+    section: Section,
+    objective: Option<DeclaredRow<'a>>,
+    rows: RowTable<'a>,
+    columns: ColumnTable<'a>,
+    // the column whose lines may go on
+    current: Option<&'a str>,
+    // an INTORG stands open
+    in_integers: bool,
+    // the set of the section's first line
+    first_set: Option<Option<&'a str>>,
+    // the entries of all rows
+    entry_count: usize,
+}
+
+impl<'a> Model for Draft<'a> {
+    ghost use Rattle.std.specs.Option.{option_map};
+    ghost use Rattle.mps_reader.specs.Declaration.{Declaration};
+    ghost use Rattle.mps_reader.specs.Consistent.{IsConsistent};
+
+    ghost Value = { Declaration };
+
+    ghost view = { λ d. record { section = d.section; objective = d.objective; rows = d.rows; columns = d.columns; current = option_map (λ n. n.now) d.current; in_integers = d.in_integers; first_set = option_map (λ s. option_map (λ n. n.now) s) d.first_set } };
+
+    ghost invariant = { λ d. IsConsistent d.objective d.rows d.columns d.entry_count };
+}
+
+impl<'a> Draft<'a> {
+    pub(crate) fn new(alloc: Global) -> Self
+        ensures { result ≡ nothing_declared }
+    {
+        Draft {
+            section: Section::Start,
+            objective: None,
+            rows: RowTable::new(alloc),
+            columns: ColumnTable::new(alloc),
+            current: None,
+            in_integers: false,
+            first_set: None,
+            entry_count: 0,
+        }
+    }
+
+    pub(crate) fn section(&self) -> Section
+        ensures { result ≡ self.now.section }
+    {
+        self.section
+    }
+
+    // Another section begins.
+    pub(crate) fn enter(&mut self, section: Section)
+        ensures { self.new ≡ in_section section self.old }
+    {
+        self.section = section;
+        self.first_set = None;
+    }
+
+    // ---- rows
+
+    pub(crate) fn has_objective(&self) -> bool
+        ensures { result ≡ is_some self.now.objective }
+    {
+        self.objective.is_some()
+    }
+
+    pub(crate) fn row_count(&self) -> usize
+        ensures { result ≡ length self.now.rows }
+    {
+        self.rows.len()
+    }
+
+    pub(crate) fn entry_count(&self) -> usize
+        ensures { result ≡ count_of_entries self.now.rows }
+    {
+        self.entry_count
+    }
+
+    // The objective has this name.
+    pub(crate) fn is_objective(&self, name: &str) -> bool
+        ensures { result ≡ is_objective_named name.now self.now.objective }
+    {
+        match &self.objective {
+            Some(objective) => objective.name() == name,
+            None => false,
+        }
+    }
+
+    // The objective or the row of a name.
+    pub(crate) fn row(&self, name: &str) -> Option<&DeclaredRow<'a>>
+        ensures { option_map (λ r. r.now) result ≡ row_named self.now name.now }
+    {
+        if self.is_objective(name) {
+            self.objective.as_ref()
+        } else {
+            self.rows.get(name)
+        }
+    }
+
+    pub(crate) fn has_row(&self, name: &str) -> bool
+        ensures { result ≡ is_row self.now name.now }
+    {
+        self.row(name).is_some()
+    }
+
+    pub(crate) fn set_objective(&mut self, alloc: Global, name: &'a str)
+        ensures { self.new ≡ record self.old { objective = Some (new_row name.now RowKind.Objective) } }
+    {
+        self.objective = Some(DeclaredRow::new(alloc, name, RowKind::Objective));
+    }
+
+    pub(crate) fn push_row(
+        &mut self,
+        alloc: Global,
+        name: &'a str,
+        kind: RowKind,
+    ) -> Result<(), AllocError>
+        requires new { is_row self.old name.now ≡ false }
+        requires room { length self.old.rows < 100_000 }
+        ensures { OnOk result (self.new ≡ record self.old { rows = self.old.rows ++ new_row name.now kind ∷ [] }) }
+    {
+        self.rows.push(DeclaredRow::new(alloc, name, kind))?;
+        Ok(())
+    }
+
+    // The last column gives a row or the objective its number.
+    pub(crate) fn give(&mut self, name: &str, value: Frac) -> Result<(), AllocError>
+        requires there { is_row self.old name.now ≡ true }
+        requires once { IfSome (row_named self.old name.now) (λ r. r.latest ≢ length self.old.columns) }
+        requires room { is_objective_named name.now self.old.objective ≡ false → is_zero_number value ≡ false → count_of_entries self.old.rows < 2_000_000 }
+        ensures { OnOk result (self.new ≡ with_row (given (length self.old.columns) value) name.now self.old) }
+    {
+        let columns = self.columns.len();
+        if self.is_objective(name) {
+            if let Some(objective) = &mut self.objective {
+                objective.give(columns, value)?;
+            }
+        } else {
+            self.rows.give(name, columns, value)?;
+            if !is_zero(value) {
+                self.entry_count += 1;
+            }
+        }
+        Ok(())
+    }
+
+    pub(crate) fn set_rhs(&mut self, name: &str, value: Frac)
+        ensures { self.new ≡ with_row (rhs_added value) name.now self.old }
+    {
+        if self.is_objective(name) {
+            if let Some(objective) = &mut self.objective {
+                objective.set_rhs(value);
+            }
+        } else {
+            self.rows.set_rhs(name, value);
+        }
+    }
+
+    pub(crate) fn set_range(&mut self, name: &str, range: RowRange)
+        ensures { self.new ≡ with_row (range_added range) name.now self.old }
+    {
+        if self.is_objective(name) {
+            if let Some(objective) = &mut self.objective {
+                objective.set_range(range);
+            }
+        } else {
+            self.rows.set_range(name, range);
+        }
+    }
+
+    // ---- columns
+
+    pub(crate) fn column_count(&self) -> usize
+        ensures { result ≡ length self.now.columns }
+    {
+        self.columns.len()
+    }
+
+    pub(crate) fn has_column(&self, name: &str) -> bool
+        ensures { result ≡ is_column self.now name.now }
+    {
+        self.columns.has(name)
+    }
+
+    // The lines of the column of this name may go on.
+    pub(crate) fn is_current(&self, name: &str) -> bool
+        ensures { result ≡ is_the_name self.now.current name.now }
+    {
+        match self.current {
+            Some(there) => name == there,
+            None => false,
+        }
+    }
+
+    pub(crate) fn begin_column(&mut self, name: &'a str) -> Result<(), AllocError>
+        requires new { is_column self.old name.now ≡ false }
+        requires room { length self.old.columns < 100_000 }
+        ensures { OnOk result (self.new ≡ record self.old { columns = self.old.columns ++ new_column name.now self.old.in_integers ∷ []; current = Some name.now }) }
+    {
+        self.columns
+            .push(DeclaredColumn::new(name, self.in_integers))?;
+        self.current = Some(name);
+        Ok(())
+    }
+
+    // The column of a name has a bound of this kind.
+    pub(crate) fn bound(&mut self, name: &str, kind: BoundKind, value: Frac)
+        ensures { self.new ≡ record self.old { columns = with_first_changed (is_column_named name.now) (bounded kind value) self.old.columns } }
+    {
+        self.columns.bound(name, kind, value);
+    }
+
+    pub(crate) fn in_integers(&self) -> bool
+        ensures { result ≡ self.now.in_integers }
+    {
+        self.in_integers
+    }
+
+    // A marker: integer columns begin or end, and no column's lines go on.
+    pub(crate) fn turn(&mut self, in_integers: bool)
+        ensures { self.new ≡ record self.old { current = None; in_integers = in_integers } }
+    {
+        self.current = None;
+        self.in_integers = in_integers;
+    }
+
+    // ---- all that is declared
+
+    pub(crate) fn columns(&self) -> &[DeclaredColumn<'a>]
+        ensures value { result.now ≡ self.now.columns }
+        ensures new { AreNew (map (λ (c : Column). c.name) self.now.columns) }
+        ensures few { length self.now.columns ≤ 100_000 }
+    {
+        self.columns.as_slice()
+    }
+
+    pub(crate) fn rows(&self) -> &[DeclaredRow<'a>]
+        ensures value { result.now ≡ self.now.rows }
+        ensures new { AreNew (map (λ (r : RowOf). r.name) self.now.rows) }
+        ensures few { length self.now.rows ≤ 100_000 }
+        ensures given { All (IsGiven (length self.now.columns)) self.now.rows }
+        ensures entries { count_of_entries self.now.rows ≤ 2_000_000 }
+    {
+        self.rows.as_slice()
+    }
+
+    pub(crate) fn objective(&self) -> Option<&DeclaredRow<'a>>
+        ensures value { option_map (λ r. r.now) result ≡ self.now.objective }
+        ensures given { IfSome self.now.objective (IsGiven (length self.now.columns)) }
+    {
+        self.objective.as_ref()
+    }
+
+    // ---- sets
+
+    // Whether a line of this set counts; the first one's set is the section's first set.
+    pub(crate) fn takes_set(&mut self, set: Option<&'a str>) -> bool
+        ensures taken { result ≡ is_of_first_set self.old.first_set (option_map (λ s. s.now) set.entry) }
+        ensures first { result ≡ true → self.new ≡ with_set (option_map (λ s. s.now) set.entry) self.old }
+        ensures kept { result ≡ false → self.new ≡ self.old }
+    {
+        match self.first_set {
+            None => {
+                self.first_set = Some(set);
+                true
+            }
+            Some(first) => is_same_set(first, set),
+        }
+    }
+}
+
+fn is_same_set(first: Option<&str>, set: Option<&str>) -> bool
+    ensures { result ≡ are_sets_same (option_map (λ s. s.now) first.entry) (option_map (λ s. s.now) set.entry) }
+{
+    match first {
+        None => set.is_none(),
+        Some(first) => match set {
+            None => false,
+            Some(set) => first == set,
+        },
+    }
+}

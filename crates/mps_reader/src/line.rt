@@ -1,0 +1,145 @@
+// One line of a text.
+ghost use Rattle.std.specs.Prelude.{◌≡◌, ◌<◌, length, IsTrue, ◌↔◌, map, Some};
+ghost use Rattle.std.specs.List.{list_all};
+ghost use Rattle.mps_reader.specs.Lines.{is_blank};
+ghost use Rattle.mps_reader.specs.Profile.{IsWithinInstance};
+ghost use Rattle.mps_reader.specs.Follows.{Follows};
+ghost use Rattle.mps_reader.specs.FreeMps.{at_section as at_new_section, after_word as fields_after, header_line as header_line_of, data_line as data_line_of, is_comment as is_comment_line, is_passed_over as is_without_meaning, text_line as text_line_of, with_line as with_any_line};
+
+use crate::bounds_section::bound_line;
+use crate::columns_section::column_line;
+use crate::draft::Draft;
+use crate::error::LineError;
+use crate::lines::{as_text, fields_in, is_header};
+use crate::pairs_section::{PairSection, pair_line};
+use crate::profile::Profile;
+use crate::rows_section::row_line;
+use crate::section::Section;
+use file_fault::FaultKind;
+use std::alloc::Global;
+
+// Adds what a line declares. Nothing after ENDATA is read.
+pub(crate) fn read_line<'a>(
+    alloc: Global,
+    profile: &Profile,
+    draft: &mut Draft<'a>,
+    line: &'a [u8],
+) -> Result<(), LineError>
+    requires { IsWithinInstance profile.now }
+    ensures { Follows result draft.new (with_any_line profile.now draft.old line.now) }
+{
+    if draft.section().is_ended() || is_passed_over(line) {
+        return Ok(());
+    }
+    text_line(alloc, profile, draft, line)
+}
+
+fn is_comment(line: &[u8]) -> bool
+    ensures { result ≡ is_comment_line line.now }
+{
+    match line {
+        [] => false,
+        [first, ..] => *first == b'*',
+    }
+}
+
+fn is_blank_line(line: &[u8]) -> bool
+    ensures { result ≡ list_all is_blank line.now }
+{
+    line.iter().all(|b| *b == b' ' || *b == b'\t')
+}
+
+// Comments and lines of blanks.
+fn is_passed_over(line: &[u8]) -> bool
+    ensures { result ≡ is_without_meaning line.now }
+{
+    is_comment(line) || is_blank_line(line)
+}
+
+fn text_line<'a>(
+    alloc: Global,
+    profile: &Profile,
+    draft: &mut Draft<'a>,
+    line: &'a [u8],
+) -> Result<(), LineError>
+    requires { IsWithinInstance profile.now }
+    ensures { Follows result draft.new (text_line_of profile.now draft.old line.now) }
+{
+    let Some(text) = as_text(line) else {
+        return Err(LineError::Fault(FaultKind::BadLine));
+    };
+    let fields = fields_in(alloc, text)?;
+    if is_header(line) {
+        header_line(profile, draft, &fields)
+    } else {
+        data_line(alloc, profile, draft, &fields)
+    }
+}
+
+// ---- headers
+
+fn header_line(profile: &Profile, draft: &mut Draft, fields: &[&str]) -> Result<(), LineError>
+    ensures { Follows result draft.new (header_line_of profile.now draft.old (map (λ f. f.now) fields.now)) }
+{
+    match fields {
+        [] => Err(LineError::Fault(FaultKind::BadSection)),
+        [word, rest @ ..] => match Section::of_word(word) {
+            None => Err(LineError::Fault(FaultKind::BadSection)),
+            Some(section) => at_section(profile, draft, section, rest),
+        },
+    }
+}
+
+// What follows NAME isn't looked at, and nothing follows another header's word.
+fn at_section(
+    profile: &Profile,
+    draft: &mut Draft,
+    section: Section,
+    rest: &[&str],
+) -> Result<(), LineError>
+    ensures { Follows result draft.new (at_new_section profile.now draft.old (Some section) (map (λ f. f.now) rest.now)) }
+{
+    if !draft.section().may_be_followed(section) {
+        return Err(LineError::Fault(FaultKind::BadSection));
+    }
+    if has_more(section, rest) {
+        return Err(LineError::Fault(FaultKind::BadLine));
+    }
+    if section.is_of_rows() && !profile.takes_rows {
+        return Err(LineError::Fault(FaultKind::RowsNotYet));
+    }
+    draft.enter(section);
+    Ok(())
+}
+
+fn has_more(section: Section, rest: &[&str]) -> bool
+    ensures { IsTrue result ↔ (0 < length (fields_after section (map (λ f. f.now) rest.now))) }
+{
+    match section {
+        Section::NameLine => false,
+        _ => !rest.is_empty(),
+    }
+}
+
+// ---- data lines
+
+// A data line belongs to the section of the last header.
+fn data_line<'a>(
+    alloc: Global,
+    profile: &Profile,
+    draft: &mut Draft<'a>,
+    fields: &[&'a str],
+) -> Result<(), LineError>
+    requires { IsWithinInstance profile.now }
+    ensures { Follows result draft.new (data_line_of profile.now draft.old.section draft.old (map (λ f. f.now) fields.now)) }
+{
+    match draft.section() {
+        Section::Start | Section::NameLine => Err(LineError::Fault(FaultKind::BadLine)),
+        Section::Rows => row_line(alloc, profile, draft, fields),
+        Section::Columns => column_line(profile, draft, fields),
+        Section::Rhs => pair_line(PairSection::RhsPairs, draft, fields),
+        Section::Ranges => pair_line(PairSection::RangePairs, draft, fields),
+        Section::Bounds => bound_line(profile, draft, fields),
+        Section::Ended => Ok(()),
+    }
+}

@@ -1,0 +1,182 @@
+// The lines of RHS and RANGES.
+ghost use Rattle.std.specs.Prelude.{◌≡◌, map, Some, Ok};
+ghost use Rattle.std.specs.Option.{option_map};
+ghost use Rattle.fraction.specs.Literal.{read_of};
+ghost use Rattle.mps_reader.specs.Steps.{then_do, with_number};
+ghost use Rattle.mps_reader.specs.Follows.{Follows, range_or_fault};
+ghost use Rattle.mps_reader.specs.Declaration.{with_row};
+ghost use Rattle.mps_reader.specs.RhsRangesBounds.{step_of, pairs_line, pair_line as pair_line_of, rhs_pair as rhs_of_pair, range_pair as range_of_pair, range_below as bounds_below, range_above as bounds_above, range_of as bounds_of, range_added, is_below_zero as is_negative};
+
+use crate::draft::Draft;
+use crate::error::LineError;
+use crate::literal::read_number;
+use crate::row::{RowKind, RowRange};
+use file_fault::FaultKind;
+use fraction::Frac;
+
+// RHS and RANGES, whose lines have one form.
+#[derive(Clone, Copy)]
+pub(crate) enum PairSection {
+    RhsPairs,
+    RangePairs,
+}
+
+// `[set] row v [row v]`
+pub(crate) fn pair_line<'a>(
+    section: PairSection,
+    draft: &mut Draft<'a>,
+    fields: &[&'a str],
+) -> Result<(), LineError>
+    ensures { Follows result draft.new (pair_line_of section draft.old (map (λ f. f.now) fields.now)) }
+{
+    match fields {
+        [row, number] => set_pairs(section, draft, None, (row, number), None),
+        [set, row, number] => set_pairs(section, draft, Some(set), (row, number), None),
+        [row, number, row2, number2] => {
+            set_pairs(section, draft, None, (row, number), Some((row2, number2)))
+        }
+        [set, row, number, row2, number2] => {
+            set_pairs(
+                section,
+                draft,
+                Some(set),
+                (row, number),
+                Some((row2, number2)),
+            )
+        }
+        _ => Err(LineError::Fault(FaultKind::BadLine)),
+    }
+}
+
+// The pairs of a set, which count where it is the section's first.
+fn set_pairs<'a>(
+    section: PairSection,
+    draft: &mut Draft<'a>,
+    set: Option<&'a str>,
+    first: (&str, &str),
+    second: Option<(&str, &str)>,
+) -> Result<(), LineError>
+    ensures { Follows result draft.new (pairs_line (step_of section) draft.old (Some (record { set = option_map (λ s. s.now) set.entry; first = record { row = first.entry.0.now; number = first.entry.1.now }; second = option_map (λ p. record { row = p.0.now; number = p.1.now }) second.entry }))) }
+{
+    if !draft.takes_set(set) {
+        return Ok(());
+    }
+    let (row, number) = first;
+    pair(section, draft, row, number)?;
+    match second {
+        Some((row, number)) => pair(section, draft, row, number),
+        None => Ok(()),
+    }
+}
+
+fn pair(section: PairSection, draft: &mut Draft, row: &str, number: &str) -> Result<(), LineError>
+    ensures { Follows result draft.new (step_of section draft.old (record { row = row.now; number = number.now })) }
+{
+    match section {
+        PairSection::RhsPairs => rhs_pair(draft, row, number),
+        PairSection::RangePairs => range_pair(draft, row, number),
+    }
+}
+
+fn rhs_pair(draft: &mut Draft, row: &str, number: &str) -> Result<(), LineError>
+    ensures { Follows result draft.new (rhs_of_pair draft.old (record { row = row.now; number = number.now })) }
+{
+    let Some(found) = draft.row(row) else {
+        return Err(LineError::Fault(FaultKind::Unknown));
+    };
+    if found.rhs().is_some() {
+        return Err(LineError::Fault(FaultKind::Twice));
+    }
+    let value = read_number(number)?;
+    draft.set_rhs(row, value);
+    Ok(())
+}
+
+// ---- ranges
+
+// No N row has a range.
+fn range_pair(draft: &mut Draft, row: &str, number: &str) -> Result<(), LineError>
+    ensures { Follows result draft.new (range_of_pair draft.old (record { row = row.now; number = number.now })) }
+{
+    let Some(found) = draft.row(row) else {
+        return Err(LineError::Fault(FaultKind::Unknown));
+    };
+    if found.kind().is_free() {
+        return Err(LineError::Fault(FaultKind::BadLine));
+    }
+    if found.range().is_some() {
+        return Err(LineError::Fault(FaultKind::Twice));
+    }
+    let kind = found.kind();
+    let rhs = found.rhs_or_zero();
+    range_number(draft, row, kind, rhs, number)
+}
+
+fn range_number(
+    draft: &mut Draft,
+    row: &str,
+    kind: RowKind,
+    rhs: Frac,
+    number: &str,
+) -> Result<(), LineError>
+    ensures { Follows result draft.new (with_number (λ value. then_do (λ range. Ok (with_row (range_added range) row.now draft.old)) (bounds_of kind rhs value)) (read_of number.now)) }
+{
+    let value = read_number(number)?;
+    with_range(draft, row, kind, rhs, value)
+}
+
+fn with_range(
+    draft: &mut Draft,
+    row: &str,
+    kind: RowKind,
+    rhs: Frac,
+    value: Frac,
+) -> Result<(), LineError>
+    ensures { Follows result draft.new (then_do (λ range. Ok (with_row (range_added range) row.now draft.old)) (bounds_of kind rhs value)) }
+{
+    let range = range_of(kind, rhs, value)?;
+    draft.set_range(row, range);
+    Ok(())
+}
+
+// The bounds that a range gives a row of this kind and right-hand side.
+fn range_of(kind: RowKind, rhs: Frac, range: Frac) -> Result<RowRange, LineError>
+    ensures { result ≡ range_or_fault (bounds_of kind rhs range) }
+{
+    match kind {
+        RowKind::Objective | RowKind::Free => Err(LineError::Fault(FaultKind::BadLine)),
+        RowKind::AtMost => range_below(rhs, range),
+        RowKind::AtLeast => range_above(rhs, range),
+        RowKind::Exactly => {
+            if is_below_zero(range) {
+                range_below(rhs, range)
+            } else {
+                range_above(rhs, range)
+            }
+        }
+    }
+}
+
+fn range_below(rhs: Frac, range: Frac) -> Result<RowRange, LineError>
+    ensures { result ≡ range_or_fault (bounds_below rhs range) }
+{
+    match rhs.sub(range.abs()) {
+        Ok(lower) => Ok(RowRange { lower, upper: rhs }),
+        Err(_) => Err(LineError::Fault(FaultKind::TooWide)),
+    }
+}
+
+fn range_above(rhs: Frac, range: Frac) -> Result<RowRange, LineError>
+    ensures { result ≡ range_or_fault (bounds_above rhs range) }
+{
+    match rhs.add(range.abs()) {
+        Ok(upper) => Ok(RowRange { lower: rhs, upper }),
+        Err(_) => Err(LineError::Fault(FaultKind::TooWide)),
+    }
+}
+
+fn is_below_zero(value: Frac) -> bool
+    ensures { result ≡ is_negative value }
+{
+    value.parts().0 < 0
+}
