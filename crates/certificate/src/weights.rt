@@ -1,0 +1,143 @@
+// Weights: the multipliers of rows, columns and derived rows.
+ghost use Rattle.std.specs.Prelude.{◌≡◌, ◌≢◌, ◌+◌, ◌<◌, ◌≤◌, [], ◌∷◌, ◌++◌, pos, OnOk, OnErr, IfErr};
+ghost use Rattle.verdicts.specs.Certificate.{Item as ItemOf, Weights as WeightsOf};
+ghost use Rattle.certificate.specs.Written.{count_max, place_of, next_place, AreItemsFrom, AreWeights};
+
+use crate::whole::parts_fit;
+use fraction::Frac;
+use std::alloc::{AllocError, Global};
+use std::marker::Model;
+
+/// The weight of a row, a column or a derived row, named by its index from 0.
+#[derive(Clone, Copy)]
+pub struct Item {
+    pub index: u32,
+    pub weight: Frac,
+}
+
+impl Model for Item {
+    ghost use Rattle.verdicts.specs.Certificate.{Item as ItemOf};
+
+    ghost Value = { ItemOf };
+
+    ghost view = { λ i. record { index = i.index; weight = i.weight } };
+
+    ghost inverse = { λ i. record { index = i.index; weight = i.weight } };
+}
+
+/// Weights of one kind, in ascending order of index, none of them 0. One index may stand twice, the positive weight
+/// first.
+#[derive(Drop)]
+pub struct Items {
+    items: Vec<Item>,
+}
+
+impl Model for Items {
+    ghost use Rattle.std.specs.Prelude.{List};
+    ghost use Rattle.verdicts.specs.Certificate.{Item as ItemOf};
+    ghost use Rattle.certificate.specs.Written.{AreItemsFrom};
+
+    ghost Value = { List ItemOf };
+
+    ghost view = { λ i. i.items.items };
+
+    ghost invariant = { λ i. AreItemsFrom 0 i.items.items };
+}
+
+impl Items {
+    /// No weights.
+    pub fn new(alloc: Global) -> Self
+        ensures { result ≡ [] }
+    {
+        Items {
+            items: Vec::new(alloc),
+        }
+    }
+
+    /// One more weight, at the end.
+    pub fn push(&mut self, item: Item) -> Result<(), AllocError>
+        requires index { item.index < count_max }
+        requires some { item.weight.numerator ≢ pos 0 }
+        requires order { next_place 0 self.old ≤ place_of item }
+        ensures ok { OnOk result (self.new ≡ self.old ++ item ∷ []) }
+        ensures next { OnOk result (next_place 0 self.new ≡ place_of item + 1) }
+        ensures kept { OnErr result (self.new ≡ self.old) }
+    {
+        parts_fit(item.weight);
+        self.items.push(item)?;
+        Ok(())
+    }
+
+    /// The weights, for reading.
+    pub fn as_slice(&self) -> &[Item]
+        ensures items { result.now ≡ self.now }
+        ensures written { AreItemsFrom 0 self.now }
+    {
+        &self.items
+    }
+}
+
+/// Weights of rows, of columns (their bounds) and of derived rows.
+#[derive(Drop)]
+pub struct Weights {
+    rows: Items,
+    columns: Items,
+    derived: Items,
+}
+
+impl Model for Weights {
+    ghost use Rattle.verdicts.specs.Certificate.{Weights as WeightsOf};
+    ghost use Rattle.certificate.specs.Written.{AreItemsFrom};
+
+    ghost Value = { WeightsOf };
+
+    ghost view = { λ w. record { rows = w.rows; columns = w.columns; derived = w.derived } };
+
+    ghost invariant = { λ w. AreItemsFrom 0 w.rows × AreItemsFrom 0 w.columns × AreItemsFrom 0 w.derived };
+}
+
+impl Weights {
+    /// No weights.
+    pub fn none(alloc: Global) -> Self
+        ensures { result ≡ record { rows = []; columns = []; derived = [] } }
+    {
+        Weights::new(Items::new(alloc), Items::new(alloc), Items::new(alloc))
+    }
+
+    /// These weights. It takes no memory.
+    pub fn new(rows: Items, columns: Items, derived: Items) -> Self
+        ensures { result ≡ record { rows = rows; columns = columns; derived = derived } }
+    {
+        let _rows = rows.as_slice();
+        let _columns = columns.as_slice();
+        let _derived = derived.as_slice();
+        Weights {
+            rows,
+            columns,
+            derived,
+        }
+    }
+
+    /// The weights of rows. All of the weights have a text.
+    pub fn rows(&self) -> &Items
+        ensures rows { result.now ≡ self.now.rows }
+        ensures written { AreWeights self.now }
+    {
+        &self.rows
+    }
+
+    /// The weights of columns: of a column's lower bound where they are positive, of its upper bound where they are
+    /// negative.
+    pub fn columns(&self) -> &Items
+        ensures { result.now ≡ self.now.columns }
+    {
+        &self.columns
+    }
+
+    /// The weights of derived rows.
+    pub fn derived(&self) -> &Items
+        ensures { result.now ≡ self.now.derived }
+    {
+        &self.derived
+    }
+}
