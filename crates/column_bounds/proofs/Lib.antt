@@ -1,0 +1,4 @@
+pub mod Verdicts
+pub mod Signs
+pub mod CostItems
+pub mod Found

@@ -1,0 +1,44 @@
+-- The line of a fault.
+use Rattle.std.specs.Prelude.{ℕ, List, ◌++◌, codes}
+use Rattle.std.specs.Fmt.{decimal}
+use Rattle.fraction.specs.Text.{text_of}
+use Rattle.fraction.specs.declared.frac.Op.{Op}
+use Rattle.fraction.specs.declared.frac.Op.TheVariants.{Add, Sub, Mul, Div}
+use Rattle.fraction.specs.declared.frac.NoFit.{NoFit}
+use Rattle.file_fault.specs.KindText.{kind_text}
+use Rattle.file_fault.specs.declared.fault.FileFault.{FileFault}
+use Rattle.solution_writer.specs.declared.fault.Fault.{Fault}
+use Rattle.solution_writer.specs.declared.fault.Fault.TheVariants.{Usage, Missing, OpenFault, ReadFault, WriteFault, TooLong, File, Overflow, NoMemory}
+
+abbrev pub operator_text : Op → List ℕ
+operator_text Add = codes "+"
+operator_text Sub = codes "-"
+operator_text Mul = codes "*"
+operator_text Div = codes "/"
+
+abbrev pub named_line : List ℕ → List ℕ → List ℕ
+named_line what name = what ++ (codes ": " ++ (name ++ codes "\n"))
+
+abbrev pub file_line : FileFault → List ℕ
+file_line f = codes "file fault: line " ++ (decimal f.line ++ (codes ": " ++ (kind_text f.kind ++ codes "\n")))
+
+-- `A OP B` whose result does not fit
+abbrev pub overflow_line : NoFit → List ℕ
+overflow_line f = codes "overflow: " ++ (text_of f.a ++ (codes " " ++ (operator_text f.op ++ (codes " " ++ (text_of f.b ++ codes "\n")))))
+
+abbrev pub usage_line : List ℕ
+usage_line = codes "usage: glpsol --freemps FILE [options]\n"
+
+abbrev pub no_memory_line : List ℕ
+no_memory_line = codes "no memory\n"
+
+abbrev pub fault_line : Fault → List ℕ
+fault_line Usage = usage_line
+fault_line (Missing name) = named_line (codes "missing") name.now
+fault_line (OpenFault name) = named_line (codes "open fault") name.now
+fault_line (ReadFault name) = named_line (codes "read fault") name.now
+fault_line (WriteFault name) = named_line (codes "write fault") name.now
+fault_line (TooLong name) = named_line (codes "too long") name.now
+fault_line (File f) = file_line f
+fault_line (Overflow f) = overflow_line f
+fault_line NoMemory = no_memory_line

@@ -1,0 +1,85 @@
+-- The report of a run. Every line ends with a line feed; a number is `n` or `n/d`.
+use Rattle.std.specs.Prelude.{ℕ, List, [], ◌∷◌, ◌++◌, codes, length, Option, Some, None, IfSome, IsOk, ◌≡◌}
+use Rattle.std.specs.Fmt.{decimal}
+use Rattle.rational.specs.Rational.{Rational, zero_ℚ}
+use Rattle.instance.specs.Sums.{sum_answer}
+use Rattle.fraction.specs.Text.{text_of}
+use Rattle.milp.specs.Form.{sum_at}
+use Rattle.milp.specs.Problem.{Column, Row, Problem}
+use Rattle.verdicts.specs.Certificate.{Verdict, Optimal, Infeasible, Unbounded, Certificate}
+
+-- `OPTIMAL`, and the objective with its value
+abbrev pub head_line : List ℕ → Rational → List ℕ
+head_line name value = codes "OPTIMAL\nobjective " ++ (name ++ (codes " " ++ (text_of value ++ codes "\n")))
+
+abbrev pub column_line : List ℕ → Rational → List ℕ
+column_line name number = codes "column " ++ (name ++ (codes " " ++ (text_of number ++ codes "\n")))
+
+-- each column with its number
+abbrev pub column_lines : List Column → List Rational → List ℕ
+column_lines [] numbers = []
+column_lines (c ∷ cs) [] = []
+column_lines (c ∷ cs) (number ∷ numbers) = column_line c.name number ++ column_lines cs numbers
+
+abbrev pub row_line : List ℕ → Rational → List ℕ
+row_line name value = codes "row " ++ (name ++ (codes " " ++ (text_of value ++ codes "\n")))
+
+-- each row with the value of its form
+abbrev pub row_lines : List Rational → List Row → List ℕ
+row_lines point [] = []
+row_lines point (r ∷ rs) = row_line r.name (sum_at point r.entries) ++ row_lines point rs
+
+-- the value of each row's form at the point fits
+abbrev pub RowsFit : List Rational → List Row → Type 0
+RowsFit point [] = Unit {0}
+RowsFit point (r ∷ rs) = IsOk (sum_answer point zero_ℚ r.entries) × RowsFit point rs
+
+abbrev pub optimal_report : Problem → Rational → List Rational → List ℕ
+optimal_report p value point = head_line p.objective_name value ++ (column_lines p.columns point ++ row_lines point p.rows)
+
+abbrev pub ray_line : List ℕ → Rational → Rational → List ℕ
+ray_line name number step = codes "column " ++ (name ++ (codes " " ++ (text_of number ++ (codes " " ++ (text_of step ++ codes "\n")))))
+
+-- each column with its number in the point and its step along the ray
+abbrev pub ray_lines : List Column → List Rational → List Rational → List ℕ
+ray_lines [] point ray = []
+ray_lines (c ∷ cs) [] ray = []
+ray_lines (c ∷ cs) (number ∷ point) [] = []
+ray_lines (c ∷ cs) (number ∷ point) (step ∷ ray) = ray_line c.name number step ++ ray_lines cs point ray
+
+abbrev pub unbounded_report : Problem → List Rational → List Rational → List ℕ
+unbounded_report p point ray = codes "UNBOUNDED\n" ++ ray_lines p.columns point ray
+
+-- with the parts that the verdict has
+abbrev pub optimal_at : Problem → Option Rational → Option (List Rational) → List ℕ
+optimal_at p None point = []
+optimal_at p (Some value) None = []
+optimal_at p (Some value) (Some point) = optimal_report p value point
+
+abbrev pub unbounded_at : Problem → Option (List Rational) → Option (List Rational) → List ℕ
+unbounded_at p None ray = []
+unbounded_at p (Some point) None = []
+unbounded_at p (Some point) (Some ray) = unbounded_report p point ray
+
+abbrev pub verdict_report : Problem → Certificate → Verdict → List ℕ
+verdict_report p c Optimal = optimal_at p c.value c.point
+verdict_report p c Infeasible = codes "INFEASIBLE\n"
+verdict_report p c Unbounded = unbounded_at p c.point c.ray
+
+-- the report of a solved problem
+abbrev pub solved_report : Problem → Certificate → List ℕ
+solved_report p c = verdict_report p c c.verdict
+
+-- the report of a problem that was only read
+abbrev pub translated_report : Problem → List ℕ
+translated_report p = codes "TRANSLATED\nrows " ++ (decimal (length p.rows) ++ (codes "\ncolumns " ++ (decimal (length p.columns) ++ codes "\n")))
+
+-- the report of a certificate that was accepted
+abbrev pub accepted_report : List ℕ
+accepted_report = codes "ACCEPTED\n"
+
+-- the point and the ray have a number for each column, and the value of each row's form at the point fits
+pub record IsReportable (p : Problem) (c : Certificate) : Type 0 where
+  pub point : IfSome c.point (λ x. length x ≡ length p.columns)
+  pub ray : IfSome c.ray (λ r. length r ≡ length p.columns)
+  pub rows : IfSome c.point (λ x. RowsFit x p.rows)

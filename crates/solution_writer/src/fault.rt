@@ -1,0 +1,83 @@
+// The lines of faults.
+ghost use Rattle.std.specs.Prelude.{◌≡◌, IfOk, string_bytes};
+ghost use Rattle.solution_writer.specs.FaultLine.{operator_text as operator_text_of, named_line as named_line_of, file_line as file_line_of, overflow_line as overflow_line_of, fault_line as fault_line_of};
+
+use file_fault::FileFault;
+use fraction::{NoFit, Op};
+use instance::Name;
+use std::alloc::{AllocError, Global};
+
+/// What ends a run before its report, with what its line shows.
+#[derive(Clone, Copy)]
+pub enum Fault<'a> {
+    /// The words are no command.
+    Usage,
+    /// There is no file of this name.
+    Missing(&'a Name),
+    /// The file of this name can't be opened.
+    OpenFault(&'a Name),
+    /// The file of this name can't be read.
+    ReadFault(&'a Name),
+    /// The file of this name can't be written.
+    WriteFault(&'a Name),
+    /// The file of this name is longer than 16,777,216 bytes.
+    TooLong(&'a Name),
+    /// The text of the model has this fault.
+    File(FileFault),
+    /// The result of this operation does not fit.
+    Overflow(NoFit),
+    /// The memory is not there.
+    NoMemory,
+}
+
+/// The line of a fault.
+pub fn fault_line(alloc: Global, fault: &Fault<'_>) -> Result<String, AllocError>
+    ensures { IfOk result (λ text. string_bytes text ≡ fault_line_of fault.now) }
+{
+    match fault {
+        Fault::Usage => "usage: glpsol --freemps FILE [options]\n".to_string(alloc),
+        Fault::Missing(name) => named_line(alloc, "missing", name),
+        Fault::OpenFault(name) => named_line(alloc, "open fault", name),
+        Fault::ReadFault(name) => named_line(alloc, "read fault", name),
+        Fault::WriteFault(name) => named_line(alloc, "write fault", name),
+        Fault::TooLong(name) => named_line(alloc, "too long", name),
+        Fault::File(fault) => file_line(alloc, *fault),
+        Fault::Overflow(fault) => overflow_line(alloc, *fault),
+        Fault::NoMemory => "no memory\n".to_string(alloc),
+    }
+}
+
+fn named_line(alloc: Global, what: &str, name: &Name) -> Result<String, AllocError>
+    ensures { IfOk result (λ text. string_bytes text ≡ named_line_of what.now name.now) }
+{
+    let name = name.as_str();
+    format!(in alloc; "{what}: {name}\n")
+}
+
+fn file_line(alloc: Global, fault: FileFault) -> Result<String, AllocError>
+    ensures { IfOk result (λ text. string_bytes text ≡ file_line_of fault) }
+{
+    let FileFault { line, kind } = fault;
+    let kind = kind.as_str();
+    format!(in alloc; "file fault: line {line}: {kind}\n")
+}
+
+fn overflow_line(alloc: Global, fault: NoFit) -> Result<String, AllocError>
+    ensures { IfOk result (λ text. string_bytes text ≡ overflow_line_of fault) }
+{
+    let a = fault.a.text(alloc)?;
+    let op = operator_text(fault.op);
+    let b = fault.b.text(alloc)?;
+    format!(in alloc; "overflow: {a} {op} {b}\n")
+}
+
+fn operator_text(op: Op) -> &'static str
+    ensures { result.now ≡ operator_text_of op }
+{
+    match op {
+        Op::Add => "+",
+        Op::Sub => "-",
+        Op::Mul => "*",
+        Op::Div => "/",
+    }
+}

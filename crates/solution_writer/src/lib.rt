@@ -1,0 +1,9 @@
+//! The texts that a run writes: reports, and the lines of faults.
+#![tactic(auto)]
+
+mod fault;
+mod lines;
+mod report;
+
+pub use fault::{Fault, fault_line};
+pub use report::{solved_report, translated_report};

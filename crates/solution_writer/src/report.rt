@@ -1,0 +1,142 @@
+// The reports.
+ghost use Rattle.std.specs.Prelude.{◌≡◌, ◌<◌, IfOk, IfSome, IsOk, length, slice_get, string_bytes};
+ghost use Rattle.std.specs.Option.{option_map};
+ghost use Rattle.rational.specs.Rational.{zero_ℚ};
+ghost use Rattle.milp.specs.Form.{sum_at};
+ghost use Rattle.instance.specs.Sums.{sum_answer, form_of};
+ghost use Rattle.solution_writer.specs.Report.{optimal_at as optimal_at_of, unbounded_at as unbounded_at_of, row_lines as row_lines_of, optimal_report as optimal_report_of, unbounded_report as unbounded_report_of, solved_report as solved_report_of, translated_report as translated_report_of, RowsFit, IsReportable};
+
+use crate::lines::{column_lines, head_line, ray_lines, row_line};
+use certificate::{Certificate, Verdict};
+use fraction::Frac;
+use instance::{Instance, Point, activity};
+use std::alloc::{AllocError, Global};
+
+/// The report of a solved problem.
+///
+/// OPTIMAL: the objective with its value, each column with its number, each row with the value of its form.
+/// UNBOUNDED: each column with its number and its step along the ray. INFEASIBLE: that word alone.
+pub fn solved_report(
+    alloc: Global,
+    problem: &Instance,
+    certificate: &Certificate,
+) -> Result<String, AllocError>
+    requires sizes { IsReportable problem.now certificate.now }
+    ensures { IfOk result (λ text. string_bytes text ≡ solved_report_of problem.now certificate.now) }
+{
+    match certificate.verdict() {
+        Verdict::Optimal => optimal_at(alloc, problem, certificate.value(), certificate.point()),
+        Verdict::Infeasible => "INFEASIBLE\n".to_string(alloc),
+        Verdict::Unbounded => unbounded_at(alloc, problem, certificate.point(), certificate.ray()),
+    }
+}
+
+fn optimal_at(
+    alloc: Global,
+    problem: &Instance,
+    value: Option<Frac>,
+    point: Option<&Point>,
+) -> Result<String, AllocError>
+    requires size { IfSome (option_map (λ p. p.now) point) (λ x. length x ≡ length problem.now.columns) }
+    requires rows { IfSome (option_map (λ p. p.now) point) (λ x. RowsFit x problem.now.rows) }
+    ensures { IfOk result (λ text. string_bytes text ≡ optimal_at_of problem.now value (option_map (λ p. p.now) point.entry)) }
+{
+    match value {
+        None => Ok(String::new(alloc)),
+        Some(value) => match point {
+            None => Ok(String::new(alloc)),
+            Some(point) => optimal_report(alloc, problem, value, point),
+        },
+    }
+}
+
+fn optimal_report(
+    alloc: Global,
+    problem: &Instance,
+    value: Frac,
+    point: &Point,
+) -> Result<String, AllocError>
+    requires size { length point.now ≡ length problem.now.columns }
+    requires rows { RowsFit point.now problem.now.rows }
+    ensures { IfOk result (λ text. string_bytes text ≡ optimal_report_of problem.now value point.now) }
+{
+    let mut text = head_line(alloc, problem.objective_name(), value)?;
+    let columns = column_lines(alloc, problem.columns(), point.as_slice())?;
+    let rows = row_lines(alloc, problem, point)?;
+    text.push_str(&columns)?;
+    text.push_str(&rows)?;
+    Ok(text)
+}
+
+fn row_lines(alloc: Global, problem: &Instance, point: &Point) -> Result<String, AllocError>
+    requires size { length point.now ≡ length problem.now.columns }
+    requires rows { RowsFit point.now problem.now.rows }
+    ensures { IfOk result (λ text. string_bytes text ≡ row_lines_of point.now problem.now.rows) }
+{
+    let _columns = problem.columns();
+    let rows = problem.rows();
+    let mut text = String::new(alloc);
+    for (i, row) in rows.iter().enumerate() {
+        let value = row_value(problem, i as u32, point);
+        let line = row_line(alloc, row.name(), value)?;
+        text.push_str(&line)?;
+    }
+    Ok(text)
+}
+
+// The value of a row's form, which fits.
+fn row_value(problem: &Instance, row: u32, point: &Point) -> Frac
+    requires row { row < length problem.now.rows }
+    requires size { length point.now ≡ length problem.now.columns }
+    requires fits { IsOk (sum_answer point.now zero_ℚ (form_of (slice_get problem.now.rows row))) }
+    ensures { result ≡ sum_at point.now (form_of (slice_get problem.now.rows row)) }
+{
+    match activity(problem, row, point) {
+        Ok(value) => value,
+        Err(_) => unreachable!(),
+    }
+}
+
+fn unbounded_at(
+    alloc: Global,
+    problem: &Instance,
+    point: Option<&Point>,
+    ray: Option<&Point>,
+) -> Result<String, AllocError>
+    requires point { IfSome (option_map (λ p. p.now) point) (λ x. length x ≡ length problem.now.columns) }
+    requires ray { IfSome (option_map (λ r. r.now) ray) (λ r. length r ≡ length problem.now.columns) }
+    ensures { IfOk result (λ text. string_bytes text ≡ unbounded_at_of problem.now (option_map (λ p. p.now) point.entry) (option_map (λ r. r.now) ray.entry)) }
+{
+    match point {
+        None => Ok(String::new(alloc)),
+        Some(point) => match ray {
+            None => Ok(String::new(alloc)),
+            Some(ray) => unbounded_report(alloc, problem, point, ray),
+        },
+    }
+}
+
+fn unbounded_report(
+    alloc: Global,
+    problem: &Instance,
+    point: &Point,
+    ray: &Point,
+) -> Result<String, AllocError>
+    requires point { length point.now ≡ length problem.now.columns }
+    requires ray { length ray.now ≡ length problem.now.columns }
+    ensures { IfOk result (λ text. string_bytes text ≡ unbounded_report_of problem.now point.now ray.now) }
+{
+    let mut text = "UNBOUNDED\n".to_string(alloc)?;
+    let lines = ray_lines(alloc, problem.columns(), point.as_slice(), ray.as_slice())?;
+    text.push_str(&lines)?;
+    Ok(text)
+}
+
+/// The report of a problem that was only read: its numbers of rows and columns.
+pub fn translated_report(alloc: Global, problem: &Instance) -> Result<String, AllocError>
+    ensures { IfOk result (λ text. string_bytes text ≡ translated_report_of problem.now) }
+{
+    let rows = problem.rows().len();
+    let columns = problem.columns().len();
+    format!(in alloc; "TRANSLATED\nrows {rows}\ncolumns {columns}\n")
+}
