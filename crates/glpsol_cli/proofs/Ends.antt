@@ -1,47 +1,431 @@
 -- From how the writing ended to what a run's clauses say.
-use Rattle.std.proofs.Common.{◌≡◌, ◌∙◌, ℕ, List, Some, Option, sym, ap, subst, inl, inr}
-use Rattle.rational.specs.Rational.{Rational}
-use Rattle.milp.specs.Problem.{Problem}
-use Rattle.milp.specs.Points.{IsOptimal, objective_value}
-use Rattle.mps_reader.specs.Plain.{plain_meaning}
-use Rattle.outside.specs.Told.{AppendsPrefix}
+use Rattle.std.proofs.Common.{◌≡◌, ◌∙◌, ℕ, ◌+◌, ◌-◌, ◌^◌, ◌≤◌, min, List, [], ◌++◌, take, length, Some, None, Option, refl, sym, ap, subst, inl, inr, arith}
+use Rattle.std.specs.Prelude.{Result, Ok, Err, IfOk, IfErr}
+use Rattle.std.proofs.KnownBytes.{Appends-trans}
+use Rattle.std.proofs.lemmas.List.{append-nil}
 use Rattle.std.specs.Io.KnownBytes.{Appends}
-use Rattle.glpsol_cli.specs.Printed.{report}
-use Rattle.glpsol_cli.specs.Cause.{OfText, Cause, HasReport, Reported, Printed, Solves}
+use Rattle.milp.specs.Problem.{Problem}
+use Rattle.verdicts.specs.Certificate.{Certificate, Verdict}
+use Rattle.verdicts.specs.Certificate as kind
+use Rattle.verdicts.specs.Proves.{Proves, Holds}
+use Rattle.file_fault.specs.declared.fault.FileFault.{FileFault}
+use Rattle.instance.specs.Sums.{value_answer}
+use Rattle.column_bounds.specs.Best.{best_point}
+use Rattle.certificate.specs.Text.{certificate_text}
+use Rattle.outside.specs.Causes.{Rose}
+use Rattle.outside.specs.Told.{Has, AppendsPrefix, IsKeptOrPrefix}
+use Rattle.command_line.specs.Meaning.{settings_of}
+use Rattle.command_line.specs.declared.settings.Settings.{Settings}
+use Rattle.command_line.specs.declared.settings.Outputs.{Outputs}
+use Rattle.command_line.specs.declared.settings.Task.{Task}
+use Rattle.command_line.specs.declared.settings.Task.TheVariants.{Solve, Translate}
+use Rattle.solution_writer.specs.Report.{solved_report, translated_report, IsReportable}
+use Rattle.solution_writer.specs.FaultLine.{no_memory_line}
+use Rattle.glpsol_cli.specs.Asked.{ToldNames, OfText, Names, IsAsked, IsRefused, Means, directed, Solves, Translates, AsksFor}
+use Rattle.glpsol_cli.specs.Cause.{Cause, IsProved, IsVerdict, IsFound, IsTranslated, IsOverflow, IsBest, HasNoPoint, HasRay, IsVerdictOrNoMemory, IsEarly, IsComplete}
+use Rattle.glpsol_cli.specs.Printed.{Printed, HasReport, line_of, AppendsThenPart}
+use Rattle.glpsol_cli.specs.Files.{Files, KeepsBut, IsMade, IsMadeInPart, AllMade, PartMade}
+use Rattle.glpsol_cli.specs.Endings.{IsSized, IsSaved, IsConcluded, IsSolveFault, IsFoundFor, IsFoundOf}
+use Rattle.glpsol_cli.specs.declared.find.Found.{Found}
+use Rattle.glpsol_cli.specs.declared.find.Found.TheVariants.{Sized, Solved}
 use Rattle.glpsol_cli.specs.declared.answer.Answer.{Answer}
-use Rattle.glpsol_cli.specs.declared.answer.Answer.TheVariants.{Optimal, Usage, Missing, OpenFault, ReadFault, WriteFault, TooLong, NotYet, NoMemory}
+use Rattle.glpsol_cli.specs.declared.answer.Answer.TheVariants.{Optimal, Infeasible, Unbounded, Translated, Usage, Missing, OpenFault, ReadFault, WriteFault, TooLong, BadFile, Overflow, NoMemory}
+use Rattle.glpsol_cli.specs.declared.answer.Target.{Target}
+use Rattle.glpsol_cli.specs.declared.answer.Target.TheVariants.{Out, File}
 
-module _ (words : List (List ℕ)) (told : List ℕ → Option (Option (List ℕ))) (p : Problem) (v : Rational) (x : List Rational) (files_rose out_rose : Type 0) (taken taken' : Option (List ℕ)) (of : OfText words told (λ text. plain_meaning text ≡ Some p)) (best : IsOptimal p x) (is : v ≡ objective_value p x) where
-  of_text : {Q : List ℕ → Type 0} → ((text : List ℕ) → plain_meaning text ≡ Some p → Q text) → OfText words told Q
-  of_text f = record { command = of.command; asks = of.asks; there = of.there; within = of.within; text = λ text has. f text (of.text text has) }
+-- ---- faults that rose, and bytes that were added
 
-  solves : (value : Rational) (point : List Rational) → value ≡ v → point ≡ x → OfText words told (λ text. Solves text value point)
-  solves value point e f = of_text (λ text means. record { problem = p; means = means; optimal = subst (IsOptimal p) (sym f) best; value_is = e ∙ is ∙ ap (objective_value p) (sym f) })
+pub rose_since : (a b c : ℕ) → a ≤ b → Rose b c → Rose a c
+rose_since a b c h k = omega (arith, h, k)
 
-  reports : (P : List ℕ → Type 0) (value : Rational) (point : List Rational) → value ≡ v → point ≡ x → P (report p v x) → OfText words told (HasReport P value point)
-  reports P value point e f done = of_text (λ text means. (p, means, subst (λ a. P (report p a point)) (sym e) (subst (λ b. P (report p v b)) (sym f) done)))
+module _ (report line : List ℕ) (a b d : Option (List ℕ)) where
+  -- the whole report, and nothing more
+  pub whole : Appends a b report → Appends b d [] → Appends a d report
+  whole h k = subst (Appends a d) (append-nil report) (Appends-trans a b d report [] h k)
 
-  pub cause : (answer : Answer) → Reported p v x out_rose taken taken' answer → Cause words told files_rose out_rose answer
-  cause (Optimal value point) c = solves value point c.0 c.1
-  cause (WriteFault value point) c = (solves value point c.0 c.1, c.2)
-  cause NoMemory c = tt
-  cause Usage c = absurd c
-  cause (Missing name) c = absurd c
-  cause (OpenFault name) c = absurd c
-  cause (ReadFault name) c = absurd c
-  cause (TooLong name) c = absurd c
-  cause NotYet c = absurd c
+  -- the whole report, and a part of the line
+  pub then_part : Appends a b report → AppendsPrefix b d line → AppendsThenPart a d line report
+  then_part h k = (k.0, Appends-trans a b d report (take k.0 line) h k.1)
 
-  pub printed : (answer : Answer) → Reported p v x out_rose taken taken' answer → Printed words told taken taken' answer
-  printed (Optimal value point) c = reports (Appends taken taken') value point c.0 c.1 c.2
-  printed (WriteFault value point) c = reports (AppendsPrefix taken taken') value point c.0 c.1 c.3
-  printed NoMemory c = elim c [
+-- ---- the certificate's file is made in part
+
+some_is : (a b : List ℕ) → Some a ≡ Some b → a ≡ b
+some_is a b e = cc
+
+module _ (c : Certificate) (file : Option (List ℕ)) (told told' : ToldNames) (bytes n name : List ℕ) (is : file ≡ Some name) (same : n ≡ name) (text : bytes ≡ certificate_text c)
+    (prefix : (before : Option (List ℕ)) → told n ≡ Some before → IsKeptOrPrefix before (told' n) bytes) (others : (other : List ℕ) → (other ≡ n → ⊥) → told' other ≡ told other) where
+  pub keeps_others : KeepsBut file told told'
+  keeps_others other not = others other (λ e. not (is ∙ ap (λ (x : List ℕ). Some x) (sym (e ∙ same))))
+
+  pub made_in_part : IsMadeInPart file c told told'
+  made_in_part other before asked had =
+      let e : other ≡ n = some_is other name (sym asked ∙ is) ∙ sym same in
+      subst (λ b. IsKeptOrPrefix before (told' other) b) text (subst (λ m. IsKeptOrPrefix before (told' m) bytes) (sym e) (prefix before (subst (λ m. told m ≡ Some before) e had)))
+
+-- ---- the certificate is saved after the whole report
+
+module _ (p : Problem) (c : Certificate) (file : Option (List ℕ)) (files_rose out_rose : Type 0) (told told' : ToldNames) (taken middle taken' : Option (List ℕ)) where
+  pub saved : (answer : Answer) → Appends taken middle (solved_report p c) → IsSaved c file files_rose told told' middle taken' answer → IsConcluded p c file files_rose out_rose told told' taken taken' answer
+  saved (Optimal d) all s = (s.0, s.1, whole (solved_report p c) [] taken middle taken' all s.2, s.3, s.4)
+  saved (Infeasible d) all s = (s.0, s.1, whole (solved_report p c) [] taken middle taken' all s.2, s.3, s.4)
+  saved (Unbounded d) all s = (s.0, s.1, whole (solved_report p c) [] taken middle taken' all s.2, s.3, s.4)
+  saved (WriteFault (File name) (Some d)) all s = (s.0, s.1, s.2, then_part (solved_report p c) (line_of (WriteFault (File name) (Some d))) taken middle taken' all s.3, s.4, s.5)
+  saved (WriteFault (File name) None) all s = absurd s
+  saved (WriteFault Out found) all s = absurd s
+  saved (NoMemory (Some d)) all s = (s.0, inr (inr (then_part (solved_report p c) no_memory_line taken middle taken' all s.1)), s.2, s.3)
+  saved (NoMemory None) all s = absurd s
+  saved Translated all s = absurd s
+  saved Usage all s = absurd s
+  saved (Missing name) all s = absurd s
+  saved (OpenFault name) all s = absurd s
+  saved (ReadFault name) all s = absurd s
+  saved (TooLong name) all s = absurd s
+  saved (BadFile fault) all s = absurd s
+  saved (Overflow f) all s = absurd s
+
+-- ---- a solved problem
+
+module _ (words : List (List ℕ)) (first : ToldNames) (p : Problem) (c : Certificate) (file : Option (List ℕ)) (files_rose since_first out_rose : Type 0) (told told' : ToldNames) (taken taken' : Option (List ℕ))
+    (same : (name : List ℕ) → told name ≡ first name) (rose : files_rose → since_first) (of : OfText words first (λ s text. IsAsked s text p × Solves s file)) (proves : Proves p c) (asked_file : AsksFor words file) where
+  of_text : {Q : Settings → List ℕ → Type 0} → ((s : Settings) (text : List ℕ) → IsAsked s text p × Solves s file → Q s text) → OfText words first Q
+  of_text f = record { settings = of.settings; asks = of.asks; there = of.there; within = of.within; text = λ text has. f of.settings text (of.text text has) }
+
+  proved : (d : Certificate) → d ≡ c → (s : Settings) (text : List ℕ) → IsAsked s text p × Solves s file → IsProved d s text
+  proved d e s text asked = record { problem = p; asked = asked.0; file = file; solves = asked.1; proves = subst (Proves p) (sym e) proves }
+
+  verdict : (v : Verdict) (d : Certificate) → d ≡ c → c.verdict ≡ v → OfText words first (IsVerdict v d)
+  verdict v d e is = of_text (λ s text asked. record { verdict = ap (λ (z : Certificate). z.verdict) e ∙ is; proved = proved d e s text asked })
+
+  with_file : (s : Settings) (name : List ℕ) → Solves s file → file ≡ Some name → Solves s (Some name)
+  with_file s name h e = subst (Solves s) e h
+
+  pub cause : (answer : Answer) → IsConcluded p c file files_rose out_rose told told' taken taken' answer → Cause words first since_first out_rose answer
+  cause (Optimal d) h = verdict kind.Optimal d h.0 h.1
+  cause (Infeasible d) h = verdict kind.Infeasible d h.0 h.1
+  cause (Unbounded d) h = verdict kind.Unbounded d h.0 h.1
+  cause (WriteFault Out (Some d)) h = (of_text (proved d h.0), h.1)
+  cause (WriteFault Out None) h = absurd h
+  cause (WriteFault (File name) (Some d)) h = (of_text (λ s text asked. (proved d h.0 s text asked, with_file s name asked.1 h.1)), rose h.2)
+  cause (WriteFault (File name) None) h = absurd h
+  cause (NoMemory (Some d)) h = of_text (proved d h.0)
+  cause (NoMemory None) h = absurd h
+  cause Translated h = absurd h
+  cause Usage h = absurd h
+  cause (Missing name) h = absurd h
+  cause (OpenFault name) h = absurd h
+  cause (ReadFault name) h = absurd h
+  cause (TooLong name) h = absurd h
+  cause (BadFile fault) h = absurd h
+  cause (Overflow f) h = absurd h
+
+  reports : (P : List ℕ → Type 0) (d : Certificate) → d ≡ c → P (solved_report p c) → OfText words first (HasReport P (Some d))
+  reports P d e done = of_text (λ s text asked. record { problem = p; asked = asked.0; has = subst (λ z. P (solved_report p z)) (sym e) done })
+
+  pub printed : (answer : Answer) → IsConcluded p c file files_rose out_rose told told' taken taken' answer → Printed words first taken taken' answer
+  printed (Optimal d) h = reports (Appends taken taken') d h.0 h.2
+  printed (Infeasible d) h = reports (Appends taken taken') d h.0 h.2
+  printed (Unbounded d) h = reports (Appends taken taken') d h.0 h.2
+  printed (WriteFault Out (Some d)) h = reports (AppendsPrefix taken taken') d h.0 h.2
+  printed (WriteFault Out None) h = absurd h
+  printed (WriteFault (File name) (Some d)) h = reports (AppendsThenPart taken taken' (line_of (WriteFault (File name) (Some d)))) d h.0 h.3
+  printed (WriteFault (File name) None) h = absurd h
+  printed (NoMemory (Some d)) h = elim h.1 [
     | inl line ↦ inl line
-    | inr part ↦ inr (of_text (λ text means. (v, x, record { problem = p; means = means; optimal = best; value_is = is }, (p, means, part))))
+    | inr rest ↦ elim rest [
+      | inl part ↦ inr (inl (reports (AppendsPrefix taken taken') d h.0 part))
+      | inr more ↦ inr (inr (reports (AppendsThenPart taken taken' no_memory_line) d h.0 more))
+    ]
   ]
-  printed Usage c = absurd c
-  printed (Missing name) c = absurd c
-  printed (OpenFault name) c = absurd c
-  printed (ReadFault name) c = absurd c
-  printed (TooLong name) c = absurd c
-  printed NotYet c = absurd c
+  printed (NoMemory None) h = absurd h
+  printed Translated h = absurd h
+  printed Usage h = absurd h
+  printed (Missing name) h = absurd h
+  printed (OpenFault name) h = absurd h
+  printed (ReadFault name) h = absurd h
+  printed (TooLong name) h = absurd h
+  printed (BadFile fault) h = absurd h
+  printed (Overflow f) h = absurd h
+
+  keeps : (name : Option (List ℕ)) → KeepsBut name told told' → KeepsBut name first told'
+  keeps name k = λ other not. k other not ∙ same other
+
+  made : IsMade file c told told' → IsMade file c first told'
+  made k = λ name before asked had. k name before asked (same name ∙ had)
+
+  in_part : IsMadeInPart file c told told' → IsMadeInPart file c first told'
+  in_part k = λ name before asked had. k name before asked (same name ∙ had)
+
+  all_made : (d : Certificate) → d ≡ c → KeepsBut file told told' → IsMade file c told told' → AllMade words d first told'
+  all_made d e kept is s other asks solves =
+      subst (λ n. KeepsBut n first told' × IsMade n d first told') (sym (asked_file s other asks solves))
+      (keeps file kept, subst (λ z. IsMade file z first told') (sym e) (made is))
+
+  part_made : (d : Certificate) → d ≡ c → KeepsBut file told told' → IsMadeInPart file c told told' → PartMade words d first told'
+  part_made d e kept is s other asks solves =
+      subst (λ n. KeepsBut n first told' × IsMadeInPart n d first told') (sym (asked_file s other asks solves))
+      (keeps file kept, subst (λ z. IsMadeInPart file z first told') (sym e) (in_part is))
+
+  pub files : (answer : Answer) → IsConcluded p c file files_rose out_rose told told' taken taken' answer → Files words first told' answer
+  files (Optimal d) h = all_made d h.0 h.3 h.4
+  files (Infeasible d) h = all_made d h.0 h.3 h.4
+  files (Unbounded d) h = all_made d h.0 h.3 h.4
+  files (WriteFault Out (Some d)) h = keeps None h.3
+  files (WriteFault Out None) h = absurd h
+  files (WriteFault (File name) (Some d)) h =
+      (subst (λ n. KeepsBut n first told') h.1 (keeps file h.4), subst (λ z. IsMadeInPart (Some name) z first told') (sym h.0) (subst (λ n. IsMadeInPart n c first told') h.1 (in_part h.5)))
+  files (WriteFault (File name) None) h = absurd h
+  files (NoMemory (Some d)) h = part_made d h.0 h.2 h.3
+  files (NoMemory None) h = absurd h
+  files Translated h = absurd h
+  files Usage h = absurd h
+  files (Missing name) h = absurd h
+  files (OpenFault name) h = absurd h
+  files (ReadFault name) h = absurd h
+  files (TooLong name) h = absurd h
+  files (BadFile fault) h = absurd h
+  files (Overflow f) h = absurd h
+
+  pub complete : (answer : Answer) → (since_first → ⊥) → (out_rose → ⊥) → IsConcluded p c file files_rose out_rose told told' taken taken' answer → IsVerdictOrNoMemory answer
+  complete (Optimal d) held out_held h = tt
+  complete (Infeasible d) held out_held h = tt
+  complete (Unbounded d) held out_held h = tt
+  complete (WriteFault Out (Some d)) held out_held h = out_held h.1
+  complete (WriteFault Out None) held out_held h = absurd h
+  complete (WriteFault (File name) (Some d)) held out_held h = held (rose h.2)
+  complete (WriteFault (File name) None) held out_held h = absurd h
+  complete (NoMemory found) held out_held h = tt
+  complete Translated held out_held h = absurd h
+  complete Usage held out_held h = absurd h
+  complete (Missing name) held out_held h = absurd h
+  complete (OpenFault name) held out_held h = absurd h
+  complete (ReadFault name) held out_held h = absurd h
+  complete (TooLong name) held out_held h = absurd h
+  complete (BadFile fault) held out_held h = absurd h
+  complete (Overflow f) held out_held h = absurd h
+
+-- ---- a size
+
+module _ (words : List (List ℕ)) (first : ToldNames) (p : Problem) (files_rose out_rose : Type 0) (told' : ToldNames) (taken taken' : Option (List ℕ))
+    (same : (name : List ℕ) → told' name ≡ first name) (of : OfText words first (λ s text. IsAsked s text p × Translates s)) where
+  of_size : {Q : Settings → List ℕ → Type 0} → ((s : Settings) (text : List ℕ) → IsAsked s text p × Translates s → Q s text) → OfText words first Q
+  of_size f = record { settings = of.settings; asks = of.asks; there = of.there; within = of.within; text = λ text has. f of.settings text (of.text text has) }
+
+  translated : OfText words first IsTranslated
+  translated = of_size (λ s text asked. record { problem = p; asked = asked.0; translates = asked.1 })
+
+  pub size_cause : (answer : Answer) → IsSized p out_rose taken taken' answer → Cause words first files_rose out_rose answer
+  size_cause Translated h = translated
+  size_cause (WriteFault Out None) h = (translated, h.0)
+  size_cause (WriteFault Out (Some d)) h = absurd h
+  size_cause (WriteFault (File name) found) h = absurd h
+  size_cause (NoMemory None) h = tt
+  size_cause (NoMemory (Some d)) h = absurd h
+  size_cause (Optimal d) h = absurd h
+  size_cause (Infeasible d) h = absurd h
+  size_cause (Unbounded d) h = absurd h
+  size_cause Usage h = absurd h
+  size_cause (Missing name) h = absurd h
+  size_cause (OpenFault name) h = absurd h
+  size_cause (ReadFault name) h = absurd h
+  size_cause (TooLong name) h = absurd h
+  size_cause (BadFile fault) h = absurd h
+  size_cause (Overflow f) h = absurd h
+
+  size_reports : (P : List ℕ → Type 0) → P (translated_report p) → OfText words first (HasReport P None)
+  size_reports P done = of_size (λ s text asked. record { problem = p; asked = asked.0; has = done })
+
+  pub size_printed : (answer : Answer) → IsSized p out_rose taken taken' answer → Printed words first taken taken' answer
+  size_printed Translated h = size_reports (Appends taken taken') h
+  size_printed (WriteFault Out None) h = size_reports (AppendsPrefix taken taken') h.1
+  size_printed (WriteFault Out (Some d)) h = absurd h
+  size_printed (WriteFault (File name) found) h = absurd h
+  size_printed (NoMemory None) h = elim h [ inl line ↦ inl line | inr part ↦ inr (size_reports (AppendsPrefix taken taken') part) ]
+  size_printed (NoMemory (Some d)) h = absurd h
+  size_printed (Optimal d) h = absurd h
+  size_printed (Infeasible d) h = absurd h
+  size_printed (Unbounded d) h = absurd h
+  size_printed Usage h = absurd h
+  size_printed (Missing name) h = absurd h
+  size_printed (OpenFault name) h = absurd h
+  size_printed (ReadFault name) h = absurd h
+  size_printed (TooLong name) h = absurd h
+  size_printed (BadFile fault) h = absurd h
+  size_printed (Overflow f) h = absurd h
+
+  pub size_files : (answer : Answer) → IsSized p out_rose taken taken' answer → Files words first told' answer
+  size_files Translated h = λ other not. same other
+  size_files (WriteFault Out None) h = λ other not. same other
+  size_files (WriteFault Out (Some d)) h = absurd h
+  size_files (WriteFault (File name) found) h = absurd h
+  size_files (NoMemory None) h = λ other not. same other
+  size_files (NoMemory (Some d)) h = absurd h
+  size_files (Optimal d) h = absurd h
+  size_files (Infeasible d) h = absurd h
+  size_files (Unbounded d) h = absurd h
+  size_files Usage h = absurd h
+  size_files (Missing name) h = absurd h
+  size_files (OpenFault name) h = absurd h
+  size_files (ReadFault name) h = absurd h
+  size_files (TooLong name) h = absurd h
+  size_files (BadFile fault) h = absurd h
+  size_files (Overflow f) h = absurd h
+
+-- a size is not a solution
+pub size_complete : (words : List (List ℕ)) (first : ToldNames) (p : Problem) (files_rose out_rose : Type 0) → OfText words first (λ s text. IsAsked s text p × Translates s) → IsComplete words first files_rose out_rose → ⊥
+size_complete words first p files_rose out_rose of k =
+    let same : of.settings ≡ k.settings = settings_is of.settings k.settings (sym of.asks ∙ k.asks) in
+    let has : Has (first of.settings.model) k.text = subst (λ (s : Settings). Has (first s.model) k.text) (sym same) k.has in
+    let translates : Translates k.settings = subst Translates same (of.text k.text has).1 in
+    differ k.settings.task k.file translates k.solves
+  where
+    settings_is : (s t : Settings) → Some s ≡ Some t → s ≡ t
+    settings_is s t e = cc
+
+    differ : (task : Task) (file : Option (List ℕ)) → task ≡ Translate → task ≡ Solve (record { certificate = file }) → ⊥
+    differ task file e f = cc
+
+-- ---- what stands in the way
+
+settings_same : (s t : Settings) → Some s ≡ Some t → s ≡ t
+settings_same s t e = cc
+
+-- a text has one problem that is asked about
+asked_same : (s : Settings) (text : List ℕ) (p q : Problem) → IsAsked s text p → IsAsked s text q → p ≡ q
+asked_same s text p q a b = a.is ∙ ap (directed s.direction) (meaning_is a.meaning b.meaning (sym a.means ∙ b.means)) ∙ sym b.is
+  where
+    meaning_is : (x y : Problem) → ◌≡◌ {A = Result Problem FileFault} (Ok x) (Ok y) → x ≡ y
+    meaning_is x y e = cc
+
+module _ (words : List (List ℕ)) (told : ToldNames) (files_rose out_rose : Type 0) (k : IsComplete words told files_rose out_rose) where
+  -- what is said of the words' text holds of the text that is there
+  of_complete : (P : Settings → List ℕ → Type 0) → OfText words told P → P k.settings k.text
+  of_complete P of =
+      let same : of.settings ≡ k.settings = settings_same of.settings k.settings (sym of.asks ∙ k.asks) in
+      let has : Has (told of.settings.model) k.text = subst (λ (s : Settings). Has (told s.model) k.text) (sym same) k.has in
+      subst (λ s. P s k.text) same (of.text k.text has)
+
+  named : (name : List ℕ) → Names words name → Has (told name) k.text
+  named name n =
+      let same : n.settings ≡ k.settings = settings_same n.settings k.settings (sym n.asks ∙ k.asks) in
+      subst (λ m. Has (told m) k.text) (sym (ap (λ (s : Settings). s.model) same) ∙ n.model) k.has
+
+  pub early_complete : (answer : Answer) → IsEarly answer → Cause words told files_rose ⊥ answer → IsVerdictOrNoMemory answer
+  early_complete Usage early h = none_some k.settings (sym h ∙ k.asks)
+    where
+      none_some : (s : Settings) → None ≡ Some s → ⊥
+      none_some s e = cc
+  early_complete (Missing name) early h = h.1 k.text (named name h.0)
+  early_complete (OpenFault name) early h = k.files_held h.1
+  early_complete (ReadFault name) early h = k.files_held h.2
+  early_complete (TooLong name) early h = let long = h.2 k.text (named name h.0) in absurd (omega (arith, long, k.within))
+  early_complete (BadFile fault) early h = ok_err k.asked.meaning fault (sym k.asked.means ∙ of_complete (λ s text. IsRefused text fault) h)
+    where
+      ok_err : (x : Problem) (f : FileFault) → Ok x ≡ Err f → ⊥
+      ok_err x f e = cc
+  early_complete (Overflow f) early h =
+      let over = of_complete (IsOverflow f) h in
+      k.fits f (subst (λ p. value_answer p (best_point p) ≡ Err f) (asked_same k.settings k.text over.problem k.problem over.asked k.asked) over.fails)
+  early_complete (NoMemory found) early h = tt
+  early_complete (Optimal c) early h = absurd early
+  early_complete (Infeasible c) early h = absurd early
+  early_complete (Unbounded c) early h = absurd early
+  early_complete Translated early h = absurd early
+  early_complete (WriteFault target found) early h = absurd early
+
+-- ---- verdicts in the user's words
+
+pub is_best : (words : List (List ℕ)) (told : ToldNames) (c : Certificate) → ((p : Problem) (c : Certificate) → Proves p c → Holds p c c.verdict) → OfText words told (IsVerdict kind.Optimal c) → OfText words told (IsBest c)
+is_best words told c right of = record { settings = of.settings; asks = of.asks; there = of.there; within = of.within; text = λ text has. best text (of.text text has) }
+  where
+    best : (text : List ℕ) → IsVerdict kind.Optimal c of.settings text → IsBest c of.settings text
+    best text v =
+        let holds : Holds v.proved.problem c kind.Optimal = subst (Holds v.proved.problem c) v.verdict (right v.proved.problem c v.proved.proves) in
+        record { problem = v.proved.problem; asked = v.proved.asked; point = holds.0; has_point = holds.1; has_value = holds.2; optimal = holds.3 }
+
+pub has_no_point : (words : List (List ℕ)) (told : ToldNames) (c : Certificate) → ((p : Problem) (c : Certificate) → Proves p c → Holds p c c.verdict) → OfText words told (IsVerdict kind.Infeasible c) → OfText words told HasNoPoint
+has_no_point words told c right of = record { settings = of.settings; asks = of.asks; there = of.there; within = of.within; text = λ text has. none text (of.text text has) }
+  where
+    none : (text : List ℕ) → IsVerdict kind.Infeasible c of.settings text → HasNoPoint of.settings text
+    none text v = record { problem = v.proved.problem; asked = v.proved.asked; none = subst (Holds v.proved.problem c) v.verdict (right v.proved.problem c v.proved.proves) }
+
+pub has_ray : (words : List (List ℕ)) (told : ToldNames) (c : Certificate) → ((p : Problem) (c : Certificate) → Proves p c → Holds p c c.verdict) → OfText words told (IsVerdict kind.Unbounded c) → OfText words told (HasRay c)
+has_ray words told c right of = record { settings = of.settings; asks = of.asks; there = of.there; within = of.within; text = λ text has. ray text (of.text text has) }
+  where
+    ray : (text : List ℕ) → IsVerdict kind.Unbounded c of.settings text → HasRay c of.settings text
+    ray text v =
+        let holds : Holds v.proved.problem c kind.Unbounded = subst (Holds v.proved.problem c) v.verdict (right v.proved.problem c v.proved.proves) in
+        record { problem = v.proved.problem; asked = v.proved.asked; point = holds.0; ray = holds.1; has_point = holds.2; has_ray = holds.3; unbounded = holds.4 }
+
+-- ---- what is asked
+
+pub asked_of : (words : List (List ℕ)) (told : ToldNames) (settings : Settings) (problem result : Problem) (task : Task) → OfText words told (λ s text. (s ≡ settings) × Means text problem) → result ≡ directed settings.direction problem → task ≡ settings.task → OfText words told (λ s text. IsAsked s text result × (s.task ≡ task))
+asked_of words told settings problem result task of is task_is = record {
+  settings = of.settings;
+  asks = of.asks;
+  there = of.there;
+  within = of.within;
+  text = λ text has. let h = of.text text has in (record { meaning = problem; means = h.1; is = is ∙ ap (λ (z : Settings). directed z.direction problem) (sym h.0) }, ap (λ (z : Settings). z.task) h.0 ∙ sym task_is);
+}
+
+-- where the task is a solution, the file is its certificate's
+pub asks_for : (words : List (List ℕ)) (outputs : Outputs) → ((s : Settings) → settings_of words ≡ Some s → s.task ≡ Solve outputs) → AsksFor words outputs.certificate
+asks_for words outputs h s other asks solves = file_is (sym (h s asks) ∙ solves)
+  where
+    file_is : Solve outputs ≡ Solve (record { certificate = other }) → other ≡ outputs.certificate
+    file_is e = cc
+
+-- ---- what is found
+
+module _ (words : List (List ℕ)) (told : ToldNames) (p : Problem) (task : Task) (of : OfText words told (λ s text. IsAsked s text p × (s.task ≡ task))) (tasks : (s : Settings) → settings_of words ≡ Some s → s.task ≡ task) where
+  of_asked : {Q : Settings → List ℕ → Type 0} → ((s : Settings) (text : List ℕ) → IsAsked s text p × (s.task ≡ task) → Q s text) → OfText words told Q
+  of_asked f = record { settings = of.settings; asks = of.asks; there = of.there; within = of.within; text = λ text has. f of.settings text (of.text text has) }
+
+  pub found_of : (found : Found) → IsFoundFor p task found → IsFoundOf words told found
+  found_of (Sized q) h = of_asked (λ s text asked. (subst (IsAsked s text) (sym h.0) asked.0, asked.1 ∙ h.1))
+  found_of (Solved f) h = (
+    of_asked (λ s text asked. (subst (IsAsked s text) (sym h.0) asked.0, asked.1 ∙ h.1)),
+    subst (λ q. Proves q f.certificate) (sym h.0) h.2,
+    subst (λ q. IsReportable q f.certificate) (sym h.0) h.3,
+    asks_for words (record { certificate = f.file }) (λ s asks. tasks s asks ∙ h.1),
+  )
+
+  pub solve_cause : (files_rose : Type 0) (answer : Answer) → IsSolveFault p answer → Cause words told files_rose ⊥ answer
+  solve_cause files_rose (Overflow f) h = of_asked (λ s text asked. record { problem = p; asked = asked.0; fails = h })
+  solve_cause files_rose (NoMemory None) h = tt
+  solve_cause files_rose (NoMemory (Some c)) h = absurd h
+  solve_cause files_rose (Optimal c) h = absurd h
+  solve_cause files_rose (Infeasible c) h = absurd h
+  solve_cause files_rose (Unbounded c) h = absurd h
+  solve_cause files_rose Translated h = absurd h
+  solve_cause files_rose Usage h = absurd h
+  solve_cause files_rose (Missing name) h = absurd h
+  solve_cause files_rose (OpenFault name) h = absurd h
+  solve_cause files_rose (ReadFault name) h = absurd h
+  solve_cause files_rose (WriteFault target found) h = absurd h
+  solve_cause files_rose (TooLong name) h = absurd h
+  solve_cause files_rose (BadFile fault) h = absurd h
+
+pub fault_early : (p : Problem) (answer : Answer) → IsSolveFault p answer → IsEarly answer
+fault_early p (Overflow f) h = tt
+fault_early p (NoMemory None) h = tt
+fault_early p (NoMemory (Some c)) h = absurd h
+fault_early p (Optimal c) h = absurd h
+fault_early p (Infeasible c) h = absurd h
+fault_early p (Unbounded c) h = absurd h
+fault_early p Translated h = absurd h
+fault_early p Usage h = absurd h
+fault_early p (Missing name) h = absurd h
+fault_early p (OpenFault name) h = absurd h
+fault_early p (ReadFault name) h = absurd h
+fault_early p (WriteFault target found) h = absurd h
+fault_early p (TooLong name) h = absurd h
+fault_early p (BadFile fault) h = absurd h
+
+-- what holds of each answer of a kind holds of a result's fault
+pub if_err : {A : Type 0} (P Q : Answer → Type 0) (result : Result A Answer) → ((answer : Answer) → P answer → Q answer) → IfErr result P → IfErr result Q
+if_err P Q (Ok a) f h = tt
+if_err P Q (Err e) f h = f e h
+
+pub if_ok : {A : Type 0} (P Q : A → Type 0) (result : Result A Answer) → ((a : A) → P a → Q a) → IfOk result P → IfOk result Q
+if_ok P Q (Err e) f h = tt
+if_ok P Q (Ok a) f h = f a h

@@ -1,4 +1,1 @@
-pub mod BestBounds
 pub mod Ends
-pub mod PlainProblems
-pub mod Sums

@@ -1,7 +1,6 @@
-pub mod Best
+pub mod Asked
 pub mod Cause
 pub mod Code
-pub mod Command
 pub mod Printed
-pub mod Sums
-pub mod Words
+pub mod Files
+pub mod Endings

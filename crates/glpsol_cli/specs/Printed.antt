@@ -1,42 +1,62 @@
--- The texts that a run writes.
-use Rattle.std.specs.Prelude.{ℕ, List, [], ◌∷◌, ◌++◌, codes}
-use Rattle.rational.specs.Rational.{Rational}
-use Rattle.fraction.specs.Text.{text_of}
-use Rattle.milp.specs.Form.{sum_at}
-use Rattle.milp.specs.Problem.{Column, Row, Problem}
+-- What a run adds to its output: a report, and the line of a fault that comes after it; or a part from the front of one of them.
+use Rattle.std.specs.Prelude.{◌≡◌, ◌⊎◌, ℕ, List, [], ◌++◌, take, Some, None, codes}
+use Rattle.std.specs.declared.option.Option.{Option}
+use Rattle.std.specs.Io.KnownBytes.{Appends}
+use Rattle.milp.specs.Problem.{Problem}
+use Rattle.verdicts.specs.Certificate.{Certificate}
+use Rattle.outside.specs.Told.{AppendsPrefix}
+use Rattle.command_line.specs.declared.settings.Settings.{Settings}
+use Rattle.solution_writer.specs.Report.{solved_report, translated_report}
+use Rattle.solution_writer.specs.FaultLine.{named_line, overflow_line, usage_line, file_line, no_memory_line}
+use Rattle.glpsol_cli.specs.Asked.{ToldNames, OfText, IsAsked}
 use Rattle.glpsol_cli.specs.declared.answer.Answer.{Answer}
-use Rattle.glpsol_cli.specs.declared.answer.Answer.TheVariants.{Optimal, Usage, Missing, OpenFault, ReadFault, WriteFault, TooLong, NotYet, NoMemory}
+use Rattle.glpsol_cli.specs.declared.answer.Answer.TheVariants.{Optimal, Infeasible, Unbounded, Translated, Usage, Missing, OpenFault, ReadFault, WriteFault, TooLong, BadFile, Overflow, NoMemory}
+use Rattle.glpsol_cli.specs.declared.answer.Target.{Target}
+use Rattle.glpsol_cli.specs.declared.answer.Target.TheVariants.{Out, File}
 
-abbrev pub head_line : List ℕ → Rational → List ℕ
-head_line name value = codes "OPTIMAL\nobjective " ++ (name ++ (codes " " ++ (text_of value ++ codes "\n")))
+-- the line of a target that can't be written; the output has none
+abbrev pub target_line_of : Target → List ℕ
+target_line_of Out = []
+target_line_of (File name) = named_line (codes "write fault") name
 
-abbrev pub column_line : List ℕ → Rational → List ℕ
-column_line name number = codes "column " ++ (name ++ (codes " " ++ (text_of number ++ codes "\n")))
+-- the line of a fault; a report, and a fault of the output, have none
+abbrev pub line_of : Answer → List ℕ
+line_of (Optimal c) = []
+line_of (Infeasible c) = []
+line_of (Unbounded c) = []
+line_of Translated = []
+line_of Usage = usage_line
+line_of (Missing name) = named_line (codes "missing") name
+line_of (OpenFault name) = named_line (codes "open fault") name
+line_of (ReadFault name) = named_line (codes "read fault") name
+line_of (WriteFault target found) = target_line_of target
+line_of (TooLong name) = named_line (codes "too long") name
+line_of (BadFile fault) = file_line fault
+line_of (Overflow f) = overflow_line f
+line_of (NoMemory found) = no_memory_line
 
-abbrev pub column_lines : List Column → List Rational → List ℕ
-column_lines [] numbers = []
-column_lines (c ∷ cs) [] = []
-column_lines (c ∷ cs) (number ∷ numbers) = column_line c.name number ++ column_lines cs numbers
+abbrev pub report_of : Problem → Option Certificate → List ℕ
+report_of p None = translated_report p
+report_of p (Some c) = solved_report p c
 
-abbrev pub row_line : List ℕ → Rational → List ℕ
-row_line name value = codes "row " ++ (name ++ (codes " " ++ (text_of value ++ codes "\n")))
+-- known bytes grow by these and then by a part of the line from its front
+abbrev pub AppendsThenPart : Option (List ℕ) → Option (List ℕ) → List ℕ → List ℕ → Type 0
+AppendsThenPart old new line report = (k : ℕ) × Appends old new (report ++ take k line)
 
-abbrev pub row_lines : List Rational → List Row → List ℕ
-row_lines point [] = []
-row_lines point (r ∷ rs) = row_line r.name (sum_at point r.entries) ++ row_lines point rs
+-- the report of the problem that is asked about, with this certificate, or without one of its size, has P
+pub record HasReport (P : List ℕ → Type 0) (found : Option Certificate) (s : Settings) (text : List ℕ) : Type 0 where
+  pub problem : Problem
+  pub asked : IsAsked s text problem
+  pub has : P (report_of problem found)
 
--- the report of a verdict: the objective, each column's number, and the value of each row's form
-abbrev pub report : Problem → Rational → List Rational → List ℕ
-report p value point = head_line p.objective_name value ++ (column_lines p.columns point ++ row_lines point p.rows)
-
--- the line of a fault; a verdict, and a fault of the output, have none
-abbrev pub fault_line : Answer → List ℕ
-fault_line (Optimal value point) = []
-fault_line Usage = codes "usage: glpsol --freemps FILE\n"
-fault_line (Missing name) = codes "missing: " ++ (name ++ codes "\n")
-fault_line (OpenFault name) = codes "open fault: " ++ (name ++ codes "\n")
-fault_line (ReadFault name) = codes "read fault: " ++ (name ++ codes "\n")
-fault_line (WriteFault value point) = []
-fault_line (TooLong name) = codes "too long: " ++ (name ++ codes "\n")
-fault_line NotYet = codes "not yet\n"
-fault_line NoMemory = codes "no memory\n"
+-- what is added with each answer
+abbrev pub Printed : List (List ℕ) → ToldNames → Option (List ℕ) → Option (List ℕ) → Answer → Type 0
+Printed words told old new (Optimal c) = OfText words told (HasReport (Appends old new) (Some c))
+Printed words told old new (Infeasible c) = OfText words told (HasReport (Appends old new) (Some c))
+Printed words told old new (Unbounded c) = OfText words told (HasReport (Appends old new) (Some c))
+Printed words told old new Translated = OfText words told (HasReport (Appends old new) None)
+Printed words told old new (WriteFault Out found) = OfText words told (HasReport (AppendsPrefix old new) found)
+Printed words told old new (WriteFault (File name) found) = OfText words told (HasReport (AppendsThenPart old new (line_of (WriteFault (File name) found))) found)
+Printed words told old new (NoMemory None) = AppendsPrefix old new no_memory_line ⊎ OfText words told (HasReport (AppendsPrefix old new) None)
+Printed words told old new (NoMemory (Some c)) = AppendsPrefix old new no_memory_line ⊎ (OfText words told (HasReport (AppendsPrefix old new) (Some c)) ⊎ OfText words told (HasReport (AppendsThenPart old new no_memory_line) (Some c)))
+Printed words told old new answer = AppendsPrefix old new (line_of answer)

@@ -1,21 +1,54 @@
 // How a run ends.
 ghost use Rattle.std.specs.Prelude.{◌≡◌};
 
-use fraction::Frac;
-use instance::{Name, Point};
+use certificate::Certificate;
+use file_fault::FileFault;
+use fraction::NoFit;
+use instance::Name;
+
+/// Where a run writes.
+#[derive(Drop)]
+pub enum Target {
+    /// Its output.
+    Out,
+    /// The file of this name.
+    File(Name),
+}
 
 /// What a run comes to, with the values that show it.
 #[derive(Drop)]
 pub enum Answer {
-    Optimal { value: Frac, point: Point },
+    /// The certificate's point is best, and all was written.
+    Optimal(Certificate),
+    /// No point is feasible, as the certificate shows, and all was written.
+    Infeasible(Certificate),
+    /// The certificate's ray improves its point without end, and all was written.
+    Unbounded(Certificate),
+    /// The problem was read, and its size written.
+    Translated,
+    /// The words are no command.
     Usage,
+    /// There is no file of this name.
     Missing(Name),
+    /// The file of this name can't be opened.
     OpenFault(Name),
+    /// The file of this name can't be read.
     ReadFault(Name),
-    WriteFault { value: Frac, point: Point },
+    /// The target can't be written. What was found is in the certificate; there is none where only the size was asked for.
+    WriteFault {
+        target: Target,
+        found: Option<Certificate>,
+    },
+    /// The file of this name is longer than 16,777,216 bytes.
     TooLong(Name),
-    NotYet,
-    NoMemory,
+    /// The model's text has this fault, and none before it.
+    BadFile(FileFault),
+    /// The result of this operation does not fit.
+    Overflow(NoFit),
+    /// The memory is not there. What was found before is in the certificate.
+    NoMemory {
+        found: Option<Certificate>,
+    },
 }
 
 impl Answer {
@@ -26,14 +59,18 @@ impl Answer {
         ensures { result ≡ code_of self.now }
     {
         match self {
-            Answer::Optimal { .. } => 0,
+            Answer::Optimal(_)
+            | Answer::Infeasible(_)
+            | Answer::Unbounded(_)
+            | Answer::Translated => 0,
             Answer::Usage
             | Answer::Missing(_)
             | Answer::OpenFault(_)
             | Answer::ReadFault(_)
             | Answer::WriteFault { .. } => 1,
-            Answer::TooLong(_) | Answer::NotYet => 2,
-            Answer::NoMemory => 5,
+            Answer::TooLong(_) | Answer::BadFile(_) => 2,
+            Answer::Overflow(_) => 3,
+            Answer::NoMemory { .. } => 5,
         }
     }
 }

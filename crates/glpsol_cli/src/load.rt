@@ -1,31 +1,29 @@
 // The file becomes a problem.
-ghost use Rattle.std.specs.Prelude.{◌≡◌, ◌≤◌, [], ℕ, List, IfOk, IfErr, IsTrue, Some};
-ghost use Rattle.milp.specs.declared.Direction.TheVariants.{Min};
-ghost use Rattle.rational.specs.Rational.{zero_ℚ};
-ghost use Rattle.mps_reader.specs.Plain.{plain_meaning, is_plain_problem};
+ghost use Rattle.std.specs.Prelude.{◌≡◌, ◌≤◌, [], ℕ, List, IfOk, IfErr, Some};
 ghost use Rattle.outside.specs.Causes.{Rose};
-ghost use Rattle.glpsol_cli.specs.Command.{Command, command_of};
-ghost use Rattle.glpsol_cli.specs.Cause.{OfText, Cause, IsEarlyFault};
+ghost use Rattle.command_line.specs.Meaning.{settings_of};
+ghost use Rattle.command_line.specs.declared.settings.Settings.{Settings as SettingsOf};
+ghost use Rattle.column_bounds.specs.Best.{NoneInteger};
+ghost use Rattle.glpsol_cli.specs.Asked.{OfText, Means};
+ghost use Rattle.glpsol_cli.specs.Cause.{Cause, IsEarly};
 
 use crate::Answer;
 use instance::{Instance, Name};
-use mps_reader::read_plain;
+use mps_reader::{MpsError, declared_problems_are_simple, read_mps};
 use outside::{LoadFault, Store, read_all};
 use std::alloc::Global;
 
-/// The problem that the text of the file means.
+/// The problem that the text of the file declares. It has no rows and no integer columns.
 pub fn load<S: Store>(alloc: Global, name: Name, files: &mut S) -> Result<Instance, Answer>
-    ensures read { (words : List (List ℕ)) (command : Command) → command_of words ≡ Some command → command.model ≡ name
-        → IfOk result (λ problem. OfText words (S.told files.old) (λ text. plain_meaning text ≡ Some problem)) }
-    ensures plain { IfOk result (λ problem. IsTrue (is_plain_problem problem)) }
-    ensures minimise { IfOk result (λ problem. problem.direction ≡ Min) }
+    ensures read { (words : List (List ℕ)) (settings : SettingsOf) → settings_of words ≡ Some settings → settings.model ≡ name
+        → IfOk result (λ problem. OfText words (S.told files.old) (λ s text. (s ≡ settings) × Means text problem)) }
     ensures no_rows { IfOk result (λ problem. problem.rows ≡ []) }
-    ensures no_constant { IfOk result (λ problem. problem.constant ≡ zero_ℚ) }
-    ensures cause { (words : List (List ℕ)) (command : Command) → command_of words ≡ Some command → command.model ≡ name
+    ensures continuous { IfOk result (λ problem. NoneInteger problem.columns) }
+    ensures cause { (words : List (List ℕ)) (settings : SettingsOf) → settings_of words ≡ Some settings → settings.model ≡ name
         → IfErr result (Cause words (S.told files.old) (Rose (S.faults files.old) (S.faults files.new)) ⊥) }
     ensures told { (other : List ℕ) → S.told files.new other ≡ S.told files.old other }
     ensures later { S.faults files.old ≤ S.faults files.new }
-    ensures early { IfErr result IsEarlyFault }
+    ensures early { IfErr result IsEarly }
 {
     let text = match read_all(alloc, files, name.as_str()) {
         Ok(text) => text,
@@ -33,11 +31,12 @@ pub fn load<S: Store>(alloc: Global, name: Name, files: &mut S) -> Result<Instan
         Err(LoadFault::Open) => return Err(Answer::OpenFault(name)),
         Err(LoadFault::Read) => return Err(Answer::ReadFault(name)),
         Err(LoadFault::TooLong) => return Err(Answer::TooLong(name)),
-        Err(LoadFault::NoMemory) => return Err(Answer::NoMemory),
+        Err(LoadFault::NoMemory) => return Err(Answer::NoMemory { found: None }),
     };
-    match read_plain(alloc, &text) {
-        Ok(Some(problem)) => Ok(problem),
-        Ok(None) => Err(Answer::NotYet),
-        Err(_) => Err(Answer::NoMemory),
+    declared_problems_are_simple();
+    match read_mps(alloc, &text) {
+        Ok(problem) => Ok(problem),
+        Err(MpsError::Fault(fault)) => Err(Answer::BadFile(fault)),
+        Err(MpsError::NoMemory) => Err(Answer::NoMemory { found: None }),
     }
 }

@@ -1,63 +1,68 @@
 // What a run writes on its output.
-ghost use Rattle.std.specs.Prelude.{◌≡◌, [], length};
+ghost use Rattle.std.specs.Prelude.{◌≡◌, IfOk, string_bytes};
 ghost use Rattle.outside.specs.Causes.{Rose};
 ghost use Rattle.outside.specs.Told.{AppendsPrefix};
-ghost use Rattle.glpsol_cli.specs.Printed.{fault_line};
-ghost use Rattle.glpsol_cli.specs.Cause.{Reported};
+ghost use Rattle.glpsol_cli.specs.Printed.{line_of, target_line_of};
+ghost use Rattle.glpsol_cli.specs.Endings.{IsSized};
 
-use crate::Answer;
-use crate::report::{fault_text, report_text};
-use crate::solve::Solution;
+use crate::{Answer, Target};
 use instance::Instance;
 use outside::{Sink, Trouble, write_all};
-use std::alloc::Global;
-
-// A problem with its solution.
-#[derive(Drop)]
-pub struct Found {
-    pub problem: Instance,
-    pub solution: Solution,
-}
-
-/// Writes the report of what was found.
-pub fn conclude<O: Sink>(alloc: Global, out: &mut O, found: Found) -> Answer
-    requires size { length found.solution.point ≡ length found.problem.columns }
-    requires no_rows { found.problem.rows ≡ [] }
-    ensures { Reported found.problem found.solution.value found.solution.point (Rose (O.faults out.old) (O.faults out.new)) (O.taken out.old) (O.taken out.new) result }
-{
-    let Found { problem, solution } = found;
-    publish_report(alloc, out, &problem, solution)
-}
-
-/// Writes the report, or what it comes to.
-pub fn publish_report<O: Sink>(
-    alloc: Global,
-    out: &mut O,
-    problem: &Instance,
-    solution: Solution,
-) -> Answer
-    requires size { length solution.point ≡ length problem.now.columns }
-    requires no_rows { problem.now.rows ≡ [] }
-    ensures { Reported problem.now solution.value solution.point (Rose (O.faults out.old) (O.faults out.new)) (O.taken out.old) (O.taken out.new) result }
-{
-    let Ok(text) = report_text(alloc, problem, &solution) else {
-        return publish_fault(alloc, out, Answer::NoMemory);
-    };
-    let Solution { value, point } = solution;
-    match write_all(out, text.as_bytes()) {
-        Ok(()) => Answer::Optimal { value, point },
-        Err(Trouble::Failed) => Answer::WriteFault { value, point },
-        Err(Trouble::NoMemory) => Answer::NoMemory,
-    }
-}
+use solution_writer::{Fault, fault_line, translated_report};
+use std::alloc::{AllocError, Global};
 
 /// Writes the line of a fault. Where that fails, the fault stays.
 pub fn publish_fault<O: Sink>(alloc: Global, out: &mut O, fault: Answer) -> Answer
     ensures same { result ≡ fault }
-    ensures prefix { AppendsPrefix (O.taken out.old) (O.taken out.new) (fault_line fault) }
+    ensures prefix { AppendsPrefix (O.taken out.old) (O.taken out.new) (line_of fault) }
 {
-    if let Ok(line) = fault_text(alloc, &fault) {
+    if let Ok(line) = line(alloc, &fault) {
         let _ = write_all(out, line.as_bytes());
     }
     fault
+}
+
+// The line of a fault; a report, and a fault of the output, have none.
+fn line(alloc: Global, answer: &Answer) -> Result<String, AllocError>
+    ensures { IfOk result (λ text. string_bytes text ≡ line_of answer.now) }
+{
+    match answer {
+        Answer::Optimal(_) | Answer::Infeasible(_) | Answer::Unbounded(_) | Answer::Translated =>
+            Ok(String::new(alloc)),
+        Answer::Usage => fault_line(alloc, &Fault::Usage),
+        Answer::Missing(name) => fault_line(alloc, &Fault::Missing(name)),
+        Answer::OpenFault(name) => fault_line(alloc, &Fault::OpenFault(name)),
+        Answer::ReadFault(name) => fault_line(alloc, &Fault::ReadFault(name)),
+        Answer::WriteFault { target, .. } => target_line(alloc, target),
+        Answer::TooLong(name) => fault_line(alloc, &Fault::TooLong(name)),
+        Answer::BadFile(fault) => fault_line(alloc, &Fault::File(*fault)),
+        Answer::Overflow(fault) => fault_line(alloc, &Fault::Overflow(*fault)),
+        Answer::NoMemory { .. } => fault_line(alloc, &Fault::NoMemory),
+    }
+}
+
+fn target_line(alloc: Global, target: &Target) -> Result<String, AllocError>
+    ensures { IfOk result (λ text. string_bytes text ≡ target_line_of target.now) }
+{
+    match target {
+        Target::Out => Ok(String::new(alloc)),
+        Target::File(name) => fault_line(alloc, &Fault::WriteFault(name)),
+    }
+}
+
+/// Writes the size of a problem, or what it comes to.
+pub fn publish_size<O: Sink>(alloc: Global, out: &mut O, problem: &Instance) -> Answer
+    ensures { IsSized problem.now (Rose (O.faults out.old) (O.faults out.new)) (O.taken out.old) (O.taken out.new) result }
+{
+    let Ok(text) = translated_report(alloc, problem) else {
+        return publish_fault(alloc, out, Answer::NoMemory { found: None });
+    };
+    match write_all(out, text.as_bytes()) {
+        Ok(()) => Answer::Translated,
+        Err(Trouble::Failed) => Answer::WriteFault {
+            target: Target::Out,
+            found: None,
+        },
+        Err(Trouble::NoMemory) => Answer::NoMemory { found: None },
+    }
 }

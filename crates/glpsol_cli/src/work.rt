@@ -1,20 +1,20 @@
 // The whole of the program's work.
-ghost use Rattle.std.specs.Prelude.{◌≡◌, ◌≤◌, [], ℕ, List, map, length, string_bytes, IfOk, IfErr, Some};
-ghost use Rattle.rational.specs.Rational.{Rational};
-ghost use Rattle.milp.specs.Points.{IsOptimal, objective_value};
-ghost use Rattle.mps_reader.specs.Plain.{plain_meaning};
+ghost use Rattle.std.specs.Prelude.{◌≡◌, ℕ, List, map, string_bytes};
+ghost use Rattle.verdicts.specs.Certificate.{Certificate};
 ghost use Rattle.outside.specs.Causes.{Rose};
-ghost use Rattle.glpsol_cli.specs.Cause.{OfText, Cause, Solves, Printed, IsComplete, IsVerdictOrNoMemory, IsEarlyFault};
+ghost use Rattle.glpsol_cli.specs.Asked.{OfText};
+ghost use Rattle.glpsol_cli.specs.Cause.{Cause, IsBest, HasNoPoint, HasRay, IsComplete, IsVerdictOrNoMemory};
+ghost use Rattle.glpsol_cli.specs.Printed.{Printed};
+ghost use Rattle.glpsol_cli.specs.Files.{Files};
 
 use crate::Answer;
-use crate::load::load;
-use crate::publish::{Found, conclude, publish_fault};
-use crate::solve::solve;
-use crate::words::read_words;
-use instance::Name;
+use crate::find::{Found, find};
+use crate::publish::{publish_fault, publish_size};
+use crate::save::conclude;
 use outside::{Sink, Store};
 use std::alloc::Global;
 use std::thread::Threads;
+use verdicts::certificates_are_right;
 
 /// Does what the words ask for.
 pub fn run<T: Threads + Sync, S: Store, O: Sink>(
@@ -24,51 +24,33 @@ pub fn run<T: Threads + Sync, S: Store, O: Sink>(
     files: &mut S,
     out: &mut O,
 ) -> Answer
-    // A verdict is true of the file's text.
-    ensures optimal { (value : Rational) (point : List Rational) → result ≡ Answer.Optimal value point
-        → OfText (map string_bytes words.items) (S.told files.old) (λ text. Solves text value point) }
+    // Where it answers Optimal, the point meets every bound, row and integrality that the text declares, and no such point is better.
+    ensures optimal { (c : Certificate) → result ≡ Answer.Optimal c → OfText (map string_bytes words.items) (S.told files.old) (IsBest c) }
 
-    // Each answer has its cause.
+    // Where it answers Infeasible, no such point exists.
+    ensures infeasible { (c : Certificate) → result ≡ Answer.Infeasible c → OfText (map string_bytes words.items) (S.told files.old) HasNoPoint }
+
+    // Where it answers Unbounded, the point is feasible, and the ray improves it without end.
+    ensures unbounded { (c : Certificate) → result ≡ Answer.Unbounded c → OfText (map string_bytes words.items) (S.told files.old) (HasRay c) }
+
+    // Each answer has its cause, and each verdict a certificate that proves it.
     ensures cause { Cause (map string_bytes words.items) (S.told files.old)
         (Rose (S.faults files.old) (S.faults files.new)) (Rose (O.faults out.old) (O.faults out.new)) result }
 
-    // It writes the report, or a part from the front of the report or of the fault's line.
+    // It writes the report, and the line of a fault that comes after it, or a part from the front.
     ensures printed { Printed (map string_bytes words.items) (S.told files.old) (O.taken out.old) (O.taken out.new) result }
 
-    // It leaves the files as they were.
-    ensures files { (name : List ℕ) → S.told files.new name ≡ S.told files.old name }
+    // It leaves the files as they were, but for the certificate's.
+    ensures files { Files (map string_bytes words.items) (S.told files.old) (S.told files.new) result }
 
     // Where nothing stands in the way, it gives a verdict.
     ensures complete { IsComplete (map string_bytes words.items) (S.told files.old)
         (Rose (S.faults files.old) (S.faults files.new)) (Rose (O.faults out.old) (O.faults out.new)) → IsVerdictOrNoMemory result }
 {
-    match decide(alloc, &words, files) {
-        Ok(found) => conclude(alloc, out, found),
+    certificates_are_right();
+    match find(alloc, &words, files) {
+        Ok(Found::Sized(problem)) => publish_size(alloc, out, &problem),
+        Ok(Found::Solved(solved)) => conclude(alloc, files, out, solved),
         Err(fault) => publish_fault(alloc, out, fault),
-    }
-}
-
-// The problem that the words name, and its solution.
-fn decide<S: Store>(alloc: Global, words: &[String], files: &mut S) -> Result<Found, Answer>
-    ensures read { IfOk result (λ found. OfText (map string_bytes words.now) (S.told files.old) (λ text. plain_meaning text ≡ Some found.problem)) }
-    ensures size { IfOk result (λ found. length found.solution.point ≡ length found.problem.columns) }
-    ensures no_rows { IfOk result (λ found. found.problem.rows ≡ []) }
-    ensures optimal { IfOk result (λ found. IsOptimal found.problem found.solution.point) }
-    ensures value { IfOk result (λ found. found.solution.value ≡ objective_value found.problem found.solution.point) }
-    ensures cause { IfErr result (Cause (map string_bytes words.now) (S.told files.old) (Rose (S.faults files.old) (S.faults files.new)) ⊥) }
-    ensures early { IfErr result IsEarlyFault }
-    ensures told { (other : List ℕ) → S.told files.new other ≡ S.told files.old other }
-    ensures later { S.faults files.old ≤ S.faults files.new }
-{
-    let Some(command) = read_words(words) else {
-        return Err(Answer::Usage);
-    };
-    let Ok(model) = Name::new(alloc, command.model) else {
-        return Err(Answer::NoMemory);
-    };
-    let problem = load(alloc, model, files)?;
-    match solve(alloc, &problem) {
-        Ok(solution) => Ok(Found { problem, solution }),
-        Err(_) => Err(Answer::NoMemory),
     }
 }

@@ -1,0 +1,19 @@
+use Rattle.std.proofs.Common.{◌∙◌, ap, true}
+use Rattle.std.proofs.lemmas.Result.{IfOk-weaker}
+use Rattle.clap.specs.Simple.{app_of_fields, on_top}
+use Rattle.command_line.specs.Options.{command}
+use Rattle.command_line.proofs.Taken.{added}
+use Rattle.command_line.proofs.options.command.Goals as goal
+
+pub returns : goal.returns
+unfolding command
+returns c =
+    let app = ap app_of_fields c.no_binary_name.ensures ∙ ap (on_top (λ s. record s { no_binary_name = true })) c.new.ensures.app in
+    let app = ap app_of_fields c.disable_help_flag.ensures ∙ ap (on_top (λ s. record s { disable_help_flag = true })) app in
+    let app = added c.in_ok-arg.ensures c.new-2.ensures.optional.1 c.new-2.ensures.rule app in
+    let app = added c.in_ok-arg-2.ensures c.flag.ensures.local c.flag.ensures.rule app in
+    let app = added c.in_ok-arg-3.ensures c.flag-2.ensures.local c.flag-2.ensures.rule app in
+    let app = added c.in_ok-arg-4.ensures c.flag-3.ensures.local c.flag-3.ensures.rule app in
+    let app = added c.in_ok-arg-5.ensures c.flag-4.ensures.local c.flag-4.ensures.rule app in
+    let app = added c.in_ok-arg-6.ensures c.flag-5.ensures.local c.flag-5.ensures.rule app in
+    IfOk-weaker c.arg-7.result _ _ (λ _ adds. added adds c.option.ensures.local c.option.ensures.rule app) c.arg-7.ensures

@@ -1,0 +1,53 @@
+-- The options of the program, as `clap` sees them.
+use Rattle.std.specs.Prelude.{Bool, true, List, [], ◌∷◌, Some, codes}
+use Rattle.clap.specs.Words.{App, Row, Rule, Text, fault_of, found_of, matches_of, new_rule, rows_of}
+use Rattle.clap.specs.Simple.{new_shape}
+use Rattle.clap.specs.Walk.{is_empty}
+use Rattle.clap.specs.declared.builder.action.ArgAction.TheVariants.{SetTrue}
+use Rattle.clap.specs.declared.parser.matches.ArgMatches.{ArgMatches}
+
+-- the one word that is no option and no option's value
+abbrev pub file_rule : Rule
+file_rule = new_rule (codes "FILE")
+
+-- `--name`
+abbrev pub flag_rule : Text → Rule
+flag_rule name = record (new_rule name) { long = Some name; action = Some SetTrue }
+
+-- `--name VALUE`
+abbrev pub option_rule : Text → Rule
+option_rule name = record (new_rule name) { long = Some name }
+
+-- what may stand among the words
+abbrev pub rules : List Rule
+rules = file_rule
+    ∷ flag_rule (codes "freemps")
+    ∷ flag_rule (codes "check")
+    ∷ flag_rule (codes "min")
+    ∷ flag_rule (codes "max")
+    ∷ flag_rule (codes "exact")
+    ∷ option_rule (codes "cert")
+    ∷ []
+
+-- the command: the words are those after the program's name, and there is no `--help`
+unfoldable pub command : App
+command = record {
+  top = record (new_shape (codes "glpsol")) {
+    rules = rules;
+    no_binary_name = true;
+    disable_help_flag = true;
+  };
+  subs = [];
+}
+
+-- each word is an option, an option's value or FILE, each at most once, and each option has its value
+unfoldable pub is_taken : List Text → Bool
+is_taken words = is_empty (fault_of command words)
+
+-- what is given for each option and for FILE
+unfoldable pub given : List Text → List Row
+given words = matches_of command words
+
+-- what `clap` found
+abbrev pub given_in : ArgMatches → List Row
+given_in matches = rows_of (found_of matches)

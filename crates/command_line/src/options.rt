@@ -1,0 +1,66 @@
+// The options of the program, as `clap` takes them.
+ghost use Rattle.std.specs.Prelude.{◌≡◌, IfOk, IfErr, map, string_bytes, true, false};
+ghost use Rattle.clap.specs.Words.{app_of, kind_of, rule_of};
+ghost use Rattle.command_line.specs.Options.{command, file_rule, flag_rule, given, given_in, is_taken, option_rule};
+ghost use Rattle.clap.specs.declared.error.kind.ErrorKind.TheVariants.{OutOfMemory};
+ghost use Rattle.command_line.specs.declared.settings.WordsFault.TheVariants.{Usage};
+
+use crate::WordsFault;
+use clap::error::ErrorKind;
+use clap::{Arg, ArgAction, ArgMatches, Command, Error};
+use std::alloc::{AllocError, Global};
+
+/// What `clap` finds in the words, where it takes them.
+pub(crate) fn matches_on<'a>(
+    alloc: Global,
+    words: &'a [String],
+) -> Result<ArgMatches<'a>, WordsFault>
+    ensures taken { IfOk result (λ _. is_taken (map string_bytes words.now) ≡ true) }
+    ensures found { IfOk result (λ matches. given_in matches ≡ given (map string_bytes words.now)) }
+    ensures refused { IfErr result (λ fault. fault ≡ Usage → is_taken (map string_bytes words.now) ≡ false) }
+{
+    Ok(command(alloc)?.try_get_matches_from(words)?)
+}
+
+fn command<'a>(alloc: Global) -> Result<Command<'a>, AllocError>
+    ensures { IfOk result (λ made. app_of made ≡ command) }
+{
+    Command::new(alloc, "glpsol")
+        .no_binary_name(true)
+        .disable_help_flag(true)
+        .arg(Arg::new(alloc, "FILE"))?
+        .arg(flag(alloc, "freemps"))?
+        .arg(flag(alloc, "check"))?
+        .arg(flag(alloc, "min"))?
+        .arg(flag(alloc, "max"))?
+        .arg(flag(alloc, "exact"))?
+        .arg(option(alloc, "cert"))
+}
+
+/// `--name`.
+fn flag<'a>(alloc: Global, name: &'a str) -> Arg<'a>
+    ensures rule { rule_of result ≡ flag_rule name.entry.now }
+    ensures local { result.global ≡ false }
+{
+    Arg::new(alloc, name).long(name).action(ArgAction::SetTrue)
+}
+
+/// `--name VALUE`.
+fn option<'a>(alloc: Global, name: &'a str) -> Arg<'a>
+    ensures rule { rule_of result ≡ option_rule name.entry.now }
+    ensures local { result.global ≡ false }
+{
+    Arg::new(alloc, name).long(name)
+}
+
+impl From<Error> for WordsFault {
+    ghost from_gives = { λ error fault. fault ≡ Usage → kind_of error ≡ OutOfMemory → ⊥ };
+
+    fn from(error: Error) -> Self {
+        if error.kind() == ErrorKind::OutOfMemory {
+            WordsFault::NoMemory
+        } else {
+            WordsFault::Usage
+        }
+    }
+}

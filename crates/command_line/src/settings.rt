@@ -1,0 +1,62 @@
+// What a command asks for.
+ghost use Rattle.std.specs.Prelude.{◌≡◌};
+ghost use Rattle.command_line.specs.declared.settings.WordsFault.TheVariants.{NoMemory as WordsNoMemory};
+
+use instance::{Direction, Name};
+use std::alloc::AllocError;
+use thiserror::Error;
+
+/// What a command asks for.
+#[derive(Drop)]
+pub struct Settings {
+    /// The language of the model's text.
+    pub language: Language,
+    /// The model's file.
+    pub model: Name,
+    /// The direction of the objective, where it takes the place of the model's own.
+    pub direction: Option<Direction>,
+    /// What is to be done with the model.
+    pub task: Task,
+}
+
+/// A language in which a model is written.
+#[derive(Clone, Copy, Debug, PartialEq, Eq)]
+pub enum Language {
+    /// Free MPS.
+    FreeMps,
+}
+
+/// What is to be done with a model.
+#[derive(Drop)]
+pub enum Task {
+    /// It is solved.
+    Solve(Outputs),
+    /// It is read, and its size reported.
+    Translate,
+}
+
+/// The files that are written when a model is solved.
+#[derive(Drop)]
+pub struct Outputs {
+    /// The file of the certificate.
+    pub certificate: Option<Name>,
+}
+
+/// Why words gave no settings.
+#[derive(Clone, Copy, Debug, PartialEq, Eq, Error)]
+pub enum WordsFault {
+    /// The words are no command.
+    #[error("the words are no command")]
+    Usage,
+    /// Memory ran out.
+    #[error("out of memory")]
+    NoMemory,
+}
+
+impl From<AllocError> for WordsFault {
+    ghost from_gives = { λ _ e. e ≡ WordsNoMemory };
+
+    fn from(_: AllocError) -> Self {
+        WordsFault::NoMemory
+    }
+}

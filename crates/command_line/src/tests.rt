@@ -1,0 +1,121 @@
+// Words, and the settings that they ask for.
+use crate::{Language, Settings, Task, WordsFault, read_words};
+use instance::{Direction, Name};
+use std::alloc::{AllocError, Global};
+use std::test::Fail;
+
+/// Words, parted by `|`, and what they ask for: the language, the model's file, the direction, the task and its file.
+const COMMANDS: [(&str, &str); 14] = [
+    ("--freemps|f", "mps f, own direction, solve, no cert"),
+    ("f|--freemps", "mps f, own direction, solve, no cert"),
+    ("--freemps|f|--min", "mps f, min, solve, no cert"),
+    ("--max|--freemps|f", "mps f, max, solve, no cert"),
+    (
+        "--exact|--freemps|f",
+        "mps f, own direction, solve, no cert",
+    ),
+    ("--freemps|--|f", "mps f, own direction, solve, no cert"),
+    ("--freemps|--|-f", "mps -f, own direction, solve, no cert"),
+    ("--freemps|--|--", "mps --, own direction, solve, no cert"),
+    ("--freemps|-", "mps -, own direction, solve, no cert"),
+    ("--freemps|", "mps , own direction, solve, no cert"),
+    (
+        "--freemps|f|--cert|c",
+        "mps f, own direction, solve, cert c",
+    ),
+    (
+        "--freemps|--cert=c=d|f",
+        "mps f, own direction, solve, cert c=d",
+    ),
+    ("--freemps|f|--cert=", "mps f, own direction, solve, cert "),
+    ("--freemps|f|--check|--min", "mps f, min, translate"),
+];
+
+/// Words, parted by `|`, that are no command.
+const NO_COMMANDS: [&str; 24] = [
+    "--freemps",
+    "f",
+    "--freemps|f|g",
+    "--freemps=f",
+    "--free|f",
+    "--FREEMPS|f",
+    "-freemps|f",
+    "--freemps|--freemps|f",
+    "--freemps|f|--min|--max",
+    "--freemps|f|--min|--min",
+    "--freemps|f|--exact|--exact",
+    "--freemps|f|--check|--check",
+    "--freemps|f|--check|--cert|c",
+    "--freemps|f|--cert",
+    "--freemps|f|--cert|--min",
+    "--freemps|f|--cert|-c",
+    "--freemps|f|--cert|c|--cert|c",
+    "--freemps|--cert|--|f",
+    "--freemps|f|--certificate|c",
+    "--freemps|f|--help",
+    "--freemps|f|-h",
+    "--freemps|f|--version",
+    "--|--freemps|f",
+    "help",
+];
+
+#[test]
+fn commands_are_read(rt: HostRuntime) -> Result<(), Fail> {
+    let alloc = rt.alloc();
+    for (row, wanted) in COMMANDS {
+        let words = words_of(alloc, row)?;
+        match read_words(alloc, &words) {
+            Ok(settings) => assert_eq!(rt; shown(alloc, &settings)?.as_str(), wanted, "at {row}"),
+            Err(fault) => panic!(rt; "{fault} at {row}"),
+        }
+    }
+    Ok(())
+}
+
+#[test]
+fn other_words_are_no_command(rt: HostRuntime) -> Result<(), Fail> {
+    let alloc = rt.alloc();
+    assert!(rt; read_words(alloc, &[]).err() == Some(WordsFault::Usage));
+    for row in NO_COMMANDS {
+        let words = words_of(alloc, row)?;
+        assert!(rt;
+            read_words(alloc, &words).err() == Some(WordsFault::Usage),
+            "at {row}"
+        );
+    }
+    Ok(())
+}
+
+fn words_of(alloc: Global, row: &str) -> Result<Vec<String>, AllocError> {
+    let mut words = Vec::new(alloc);
+    for word in row.split('|') {
+        words.push(word.to_string(alloc)?)?;
+    }
+    Ok(words)
+}
+
+fn shown(alloc: Global, settings: &Settings) -> Result<String, AllocError> {
+    let language = match settings.language {
+        Language::FreeMps => "mps",
+    };
+    let direction = match settings.direction {
+        None => "own direction",
+        Some(Direction::Min) => "min",
+        Some(Direction::Max) => "max",
+    };
+    let model = settings.model.as_str();
+    match &settings.task {
+        Task::Solve(outputs) => {
+            let certificate = file_shown(alloc, "cert", &outputs.certificate)?;
+            format!(in alloc; "{language} {model}, {direction}, solve, {certificate}")
+        }
+        Task::Translate => format!(in alloc; "{language} {model}, {direction}, translate"),
+    }
+}
+
+fn file_shown(alloc: Global, kind: &str, file: &Option<Name>) -> Result<String, AllocError> {
+    match file {
+        Some(name) => format!(in alloc; "{kind} {}", name.as_str()),
+        None => format!(in alloc; "no {kind}"),
+    }
+}
