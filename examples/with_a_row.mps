@@ -1,4 +1,4 @@
-NAME a row makes it a text that is not read yet
+NAME a row: a text that is refused as long as rows are not read
 ROWS
  N cost
  G least
