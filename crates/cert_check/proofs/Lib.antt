@@ -1,0 +1,14 @@
+pub mod Scan
+pub mod Walk
+pub mod Products
+pub mod ItemOrder
+pub mod Merge
+pub mod Signs
+pub mod Ascending
+pub mod Meeting
+pub mod Places
+pub mod Trials
+pub mod Exact
+pub mod PartLaws
+pub mod OutcomeLaws
+pub mod FaultLaws

@@ -1,0 +1,6 @@
+pub mod Setting
+pub mod Walk
+pub mod Sums
+pub mod Lookup
+pub mod Parts
+pub mod Outcome

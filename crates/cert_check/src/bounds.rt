@@ -1,0 +1,137 @@
+// The bounds of columns under the splits on the way to a node.
+ghost use Rattle.std.specs.Prelude.{◌≡◌, ◌≤◌, [], length};
+ghost use Rattle.verdicts.specs.Proves.{lower_under, upper_under, greater as greater_of, lesser as lesser_of};
+ghost use Rattle.cert_check.specs.Setting.{side_of, way};
+ghost use Rattle.cert_check.specs.Sums.{next_answer, lower_answer};
+ghost use Rattle.cert_check.specs.Walk.{found_lower, found_upper, merged_lower, merged_upper};
+
+use crate::way::{Side, last_turn};
+use certificate::{Tree, WholeNumber};
+use fraction::{Frac, NoFit};
+use instance::Instance;
+
+// The lower bound of a column at a place: the greatest of its own and of the sums P + 1 on the way, or the first of these
+// from the place back that does not fit.
+pub(crate) fn lower_at(
+    problem: &Instance,
+    tree: &Tree,
+    place: usize,
+    column: u32,
+) -> Result<Option<Frac>, NoFit>
+    requires { place ≤ length tree.now }
+    ensures { result ≡ lower_answer problem.now (way tree.now place) column }
+{
+    let mut found = None;
+    let mut at = place;
+    while let Some(turn) = last_turn(tree, at) {
+        found = with_lower(found, turn.side, column)?;
+        at = turn.place;
+    }
+    Ok(over_own(found, problem, column))
+}
+
+// The upper bound of a column at a place: the least of its own and of the numbers P on the way.
+pub(crate) fn upper_at(problem: &Instance, tree: &Tree, place: usize, column: u32) -> Option<Frac>
+    requires { place ≤ length tree.now }
+    ensures { result ≡ upper_under problem.now (way tree.now place) column }
+{
+    let mut found = None;
+    let mut at = place;
+    while let Some(turn) = last_turn(tree, at) {
+        found = with_upper(found, turn.side, column);
+        at = turn.place;
+    }
+    under_own(found, problem, column)
+}
+
+fn with_lower(found: Option<Frac>, side: Side, column: u32) -> Result<Option<Frac>, NoFit>
+    ensures { result ≡ found_lower found (side_of side) column }
+{
+    match side {
+        Side::Low(_) => Ok(found),
+        Side::High(split) => {
+            if split.column() != column {
+                return Ok(found);
+            }
+            let bound = next(split.at())?;
+            Ok(Some(greater(found, bound)))
+        }
+    }
+}
+
+fn with_upper(found: Option<Frac>, side: Side, column: u32) -> Option<Frac>
+    ensures { result ≡ found_upper found (side_of side) column }
+{
+    match side {
+        Side::High(_) => found,
+        Side::Low(split) => {
+            if split.column() != column {
+                return found;
+            }
+            Some(lesser(found, split.at().to_frac()))
+        }
+    }
+}
+
+// at + 1.
+pub(crate) fn next(at: WholeNumber) -> Result<Frac, NoFit>
+    ensures { result ≡ next_answer at }
+{
+    at.to_frac().add(Frac::whole(1))
+}
+
+fn greater(bound: Option<Frac>, b: Frac) -> Frac
+    ensures { result ≡ greater_of bound b }
+{
+    match bound {
+        None => b,
+        Some(a) => if a <= b { b } else { a },
+    }
+}
+
+fn lesser(bound: Option<Frac>, b: Frac) -> Frac
+    ensures { result ≡ lesser_of bound b }
+{
+    match bound {
+        None => b,
+        Some(a) => if a <= b { a } else { b },
+    }
+}
+
+fn over_own(found: Option<Frac>, problem: &Instance, column: u32) -> Option<Frac>
+    ensures { result ≡ merged_lower found (lower_under problem.now [] column) }
+{
+    let own = own_lower(problem, column);
+    match found {
+        None => own,
+        Some(a) => Some(greater(own, a)),
+    }
+}
+
+fn under_own(found: Option<Frac>, problem: &Instance, column: u32) -> Option<Frac>
+    ensures { result ≡ merged_upper found (upper_under problem.now [] column) }
+{
+    let own = own_upper(problem, column);
+    match found {
+        None => own,
+        Some(a) => Some(lesser(own, a)),
+    }
+}
+
+fn own_lower(problem: &Instance, column: u32) -> Option<Frac>
+    ensures { result ≡ lower_under problem.now [] column }
+{
+    match problem.columns().get(column as usize) {
+        None => None,
+        Some(column) => column.lower(),
+    }
+}
+
+fn own_upper(problem: &Instance, column: u32) -> Option<Frac>
+    ensures { result ≡ upper_under problem.now [] column }
+{
+    match problem.columns().get(column as usize) {
+        None => None,
+        Some(column) => column.upper(),
+    }
+}

@@ -1,0 +1,140 @@
+// Whether weights make a form.
+ghost use Rattle.std.specs.Prelude.{◌<◌, length, ◌≡◌, ◌++◌, IsTrue};
+ghost use Rattle.rational.specs.Rational.{zero_ℚ, whole};
+ghost use Rattle.std.specs.Prelude.{negsuc, [], ◌∷◌};
+ghost use Rattle.verdicts.specs.WeightedSums.{coefficient_of, scaled};
+ghost use Rattle.cert_check.specs.Sums.{products, with_products, weight_products, are_forms};
+ghost use Rattle.cert_check.specs.Parts.{problem_alone, side_weights, side_products, ascending, signed_by};
+
+use crate::kind::FormSide;
+use crate::lookup::entry_of;
+use crate::numbers::{same, signed};
+use crate::setting::Setting;
+use crate::sums::{column_sum, with_form, with_product};
+use certificate::{FormSplit, Weights};
+use fraction::{Frac, NoFit};
+use instance::Entry;
+use milp::Direction;
+
+// The coefficient of a column in a form.
+#[tactic(auto, using(crate::proofs::Ascending::coefficient_found, crate::proofs::Ascending::coefficient_none))]
+fn coefficient(form: &[Entry], column: u32) -> Frac
+    requires { IsTrue (ascending 0 form.now) }
+    ensures { result ≡ coefficient_of form.now column }
+{
+    match entry_of(form, column) {
+        None => Frac::whole(0),
+        Some(coefficient) => coefficient,
+    }
+}
+
+// The same, with the sign of a direction where there is one.
+fn wanted_at(form: &[Entry], sign: Option<Direction>, column: u32) -> Frac
+    requires { IsTrue (ascending 0 form.now) }
+    ensures { result ≡ signed_by sign (coefficient_of form.now column) }
+{
+    let value = coefficient(form, column);
+    match sign {
+        None => value,
+        Some(direction) => signed(direction, value),
+    }
+}
+
+// F is the form, with the sign of a direction where there is one: column by column, up to the first that differs.
+pub(crate) fn is_form(
+    setting: &Setting,
+    weights: &Weights,
+    wanted: &[Entry],
+    sign: Option<Direction>,
+) -> Result<bool, NoFit>
+    requires { IsTrue (ascending 0 wanted.now) }
+    ensures { result ≡ are_forms (weight_products setting.now weights.now) (λ j. signed_by sign (coefficient_of wanted.now j)) 0 setting.now.problem.columns }
+{
+    let columns = setting.problem().columns();
+    for (j, _) in columns.iter().enumerate() {
+        let sum = column_sum(setting, weights, j as u32, Frac::whole(0))?;
+        if !same(sum, wanted_at(wanted, sign, j as u32)) {
+            return Ok(false);
+        }
+    }
+    Ok(true)
+}
+
+// A total plus a weight times the negative of an entry's coefficient, where the entry is of the column.
+#[tactic(auto, using(crate::proofs::Signs::greatest))]
+fn with_negative_entry(total: Frac, weight: Frac, entry: Entry, column: u32) -> Result<Frac, NoFit>
+    ensures { result ≡ with_products total (products weight (scaled (whole (negsuc 0)) (entry ∷ [])) column) }
+{
+    if entry.column == column {
+        with_product(total, weight, signed(Direction::Max, entry.coefficient))
+    } else {
+        Ok(total)
+    }
+}
+
+// A total plus a weight times the coefficients of a column in the negative of a form.
+fn with_negative_form(start: Frac, weight: Frac, form: &[Entry], column: u32) -> Result<Frac, NoFit>
+    ensures { result ≡ with_products start (products weight (scaled (whole (negsuc 0)) form.now) column) }
+{
+    let mut total = start;
+    for entry in form {
+        total = with_negative_entry(total, weight, *entry, column)?;
+    }
+    Ok(total)
+}
+
+// What the inequality of a split's side adds to F at a column.
+fn side_sum(split: &FormSplit, side: FormSide, column: u32) -> Result<Frac, NoFit>
+    ensures { result ≡ with_products zero_ℚ (side_products split.now side column) }
+{
+    let form = split.form().as_slice();
+    match side {
+        FormSide::AtMost => with_negative_form(Frac::whole(0), split.low(), form, column),
+        FormSide::AtLeast => with_form(Frac::whole(0), split.high(), form, column),
+    }
+}
+
+// F of a split's side at a column.
+#[tactic(auto, using(crate::proofs::Products::products_then))]
+fn side_column_sum(
+    setting: &Setting,
+    split: &FormSplit,
+    side: FormSide,
+    column: u32,
+) -> Result<Frac, NoFit>
+    requires { column < length setting.now.problem.columns }
+    ensures { result ≡ with_products zero_ℚ (side_products split.now side column ++ weight_products setting.now (side_weights split.now side) column) }
+{
+    let start = side_sum(split, side, column)?;
+    column_sum(setting, weights_of(split, side), column, start)
+}
+
+// The other weights of a split's side.
+pub(crate) fn weights_of(split: &FormSplit, side: FormSide) -> &Weights
+    ensures { result.now ≡ side_weights split.now side }
+{
+    match side {
+        FormSide::AtMost => split.low_weights(),
+        FormSide::AtLeast => split.high_weights(),
+    }
+}
+
+// F of a split's side is the form: column by column, up to the first that differs.
+pub(crate) fn is_side_form(
+    setting: &Setting,
+    split: &FormSplit,
+    side: FormSide,
+    wanted: &[Entry],
+) -> Result<bool, NoFit>
+    requires { IsTrue (ascending 0 wanted.now) }
+    ensures { result ≡ are_forms (λ j. side_products split.now side j ++ weight_products setting.now (side_weights split.now side) j) (coefficient_of wanted.now) 0 setting.now.problem.columns }
+{
+    let columns = setting.problem().columns();
+    for (j, _) in columns.iter().enumerate() {
+        let sum = side_column_sum(setting, split, side, j as u32)?;
+        if !same(sum, coefficient(wanted, j as u32)) {
+            return Ok(false);
+        }
+    }
+    Ok(true)
+}

@@ -1,0 +1,86 @@
+// Nodes of a tree of splits.
+ghost use Rattle.std.specs.Prelude.{◌≡◌, [], ◌∷◌, ◌++◌, OnOk, OnErr, None};
+ghost use Rattle.search_node.specs.Sides.{side_of};
+
+use crate::Basis;
+use certificate::Split;
+use std::alloc::{AllocError, Global};
+use std::marker::Model;
+
+/// The side of a split on which a node lies.
+#[derive(Clone, Copy, Debug, PartialEq, Eq)]
+pub enum Side {
+    /// The column is at most where the split parts.
+    Low,
+    /// The column is at least the next whole number.
+    High,
+}
+
+/// A split on the way to a node: its side, and the basis of the node above, from which it was read.
+#[derive(Drop)]
+pub struct SplitTaken {
+    pub split: Split,
+    pub side: Side,
+    pub basis: Basis,
+}
+
+/// The splits on the way to a node, the first of them first.
+#[derive(Drop)]
+pub struct SplitsTaken {
+    splits: Vec<SplitTaken>,
+}
+
+impl Model for SplitsTaken {
+    ghost use Rattle.std.specs.Prelude.{List};
+    ghost use Rattle.search_node.specs.declared.node.SplitTaken.{SplitTaken as SplitTakenOf};
+
+    ghost Value = { List SplitTakenOf };
+
+    ghost view = { λ s. s.splits.items };
+}
+
+impl SplitsTaken {
+    /// No split.
+    pub fn new(alloc: Global) -> Self
+        ensures { result ≡ [] }
+    {
+        SplitsTaken {
+            splits: Vec::new(alloc),
+        }
+    }
+
+    /// One more split, below the others. After an error nothing has changed.
+    pub fn push(&mut self, split: SplitTaken) -> Result<(), AllocError>
+        ensures ok { OnOk result (self.new ≡ self.old ++ split ∷ []) }
+        ensures kept { OnErr result (self.new ≡ self.old) }
+    {
+        self.splits.push(split)?;
+        Ok(())
+    }
+
+    /// The splits, for reading.
+    pub fn as_slice(&self) -> &[SplitTaken]
+        ensures { result.now ≡ self.now }
+    {
+        &self.splits
+    }
+}
+
+/// A node of a tree: the basis from which the root's cuts were read, if there are any, and the splits on its way.
+#[derive(Drop)]
+pub struct Node {
+    pub root_basis: Option<Basis>,
+    pub splits: SplitsTaken,
+}
+
+impl Node {
+    /// The root, without cuts.
+    pub fn root(alloc: Global) -> Self
+        ensures { result ≡ record { root_basis = None; splits = [] } }
+    {
+        Node {
+            root_basis: None,
+            splits: SplitsTaken::new(alloc),
+        }
+    }
+}
