@@ -1,0 +1,147 @@
+-- The table at the start of a run.
+use Rattle.std.proofs.Common.{◌≡◌, ◌∙◌, ℕ, zero, suc, ◌+◌, ◌-◌, ◌<◌, ◌≤◌, ◌≢◌, List, [], ◌∷◌, ◌++◌, length, get_or, set, drop, replicate, refl, sym, ap, subst, arith, Bool, true, false, cond, ◌==◌, Option, Some, None, IfSome, slice_get}
+use mathlib.Core.Path.{ap₂}
+use Rattle.std.proofs.lemmas.List.{drop_more, length-set, get_or-set_same, get_or-set_other, length-append, get_or_append_left, get_or-append-add}
+use Rattle.std.proofs.lemmas.Bool.Decides.{nat_tests}
+use Rattle.std.proofs.Math.Decide.{ℕ_discrete, dec_lt}
+use Rattle.rational.specs.Rational.{Rational, zero_ℚ, ◌+ℚ◌}
+use Rattle.rational.proofs.Field as Q
+use Rattle.milp.specs.Form.{Entry, number_at}
+use Rattle.verdicts.specs.WeightedSums.{AllBelow, coefficient_of}
+use Rattle.simplex.specs.Ascending.{IsAscending}
+use Rattle.simplex.specs.Start.{IsDense, AreDense, AreCounted}
+
+-- ---- one row
+
+-- the entries of `form` before `rest` are in the row, and those of `rest` come at `least` and later
+pub record IsPartlyDense (n : ℕ) (form rest : List Entry) (row : List Rational) (least : ℕ) : Type 0 where
+  pub ascending : IsAscending least rest
+  pub below : AllBelow n rest
+  pub size : length row ≡ n
+  pub done : (j : ℕ) → j < least → number_at row j ≡ coefficient_of form j
+  pub same : (j : ℕ) → least ≤ j → coefficient_of form j ≡ coefficient_of rest j
+  pub left : (j : ℕ) → least ≤ j → number_at row j ≡ zero_ℚ
+
+zeros : (n j : ℕ) → number_at (replicate n zero_ℚ) j ≡ zero_ℚ
+zeros zero j = refl
+zeros (suc n) zero = refl
+zeros (suc n) (suc j) = zeros n j
+
+length-zeros : (n : ℕ) → length (replicate n zero_ℚ) ≡ n
+length-zeros zero = refl
+length-zeros (suc n) = let e = length-zeros n in omega arith
+
+pub none_dense : (n : ℕ) (form : List Entry) (row : List Rational) → AllBelow n form → IsAscending 0 form → row ≡ replicate n zero_ℚ → (least : ℕ) × IsPartlyDense n form form row least
+none_dense n form row h k e = (
+  0,
+  record {
+    ascending = k;
+    below = h;
+    size = ap length e ∙ length-zeros n;
+    done = λ j l. absurd (omega arith);
+    same = λ j l. refl;
+    left = λ j l. ap (λ r. number_at r j) e ∙ zeros n j;
+  },
+)
+
+-- no coefficient before the first column
+before : (least : ℕ) (form : List Entry) (j : ℕ) → IsAscending least form → j < least → coefficient_of form j ≡ zero_ℚ
+before least [] j h k = refl
+before least (e ∷ es) j h k =
+    let low : least ≤ e.column = h.0 in
+    let other : (e.column == j) ≡ false = grind (arith, nat_tests) in
+    rw other (Q.zero-add _ ∙ before (e.column + 1) es j h.1 (omega arith))
+
+skipped : (e : Entry) (es : List Entry) (j : ℕ) → e.column ≢ j → coefficient_of (e ∷ es) j ≡ coefficient_of es j
+skipped e es j n = let other : (e.column == j) ≡ false = grind (arith, nat_tests) in rw other (Q.zero-add _)
+
+taken : (e : Entry) (es : List Entry) → IsAscending (e.column + 1) es → coefficient_of (e ∷ es) e.column ≡ e.coefficient
+taken e es h = let self : (e.column == e.column) ≡ true = grind (arith, nat_tests) in rw self (ap (λ t. e.coefficient +ℚ t) (before (e.column + 1) es e.column h (omega arith)) ∙ Q.add-zero _)
+
+pub more_dense : (n : ℕ) (form : List Entry) (e : Entry) (rest rest_after : List Entry) (row : List Rational) → rest ≡ e ∷ rest_after → (least : ℕ) × IsPartlyDense n form rest row least
+    → (least : ℕ) × IsPartlyDense n form rest_after (set row e.column e.coefficient) least
+more_dense n form e rest es row is (least, p) = go (let P : List Entry → Type 0 = λ r. IsPartlyDense n form r row least in subst P is p)
+  where
+    go : IsPartlyDense n form (e ∷ es) row least → (least : ℕ) × IsPartlyDense n form es (set row e.column e.coefficient) least
+    go q = (
+      e.column + 1,
+      record {
+        ascending = q.ascending.1;
+        below = q.below.1;
+        size = length-set row e.column e.coefficient ∙ q.size;
+        done = done;
+        same = λ j l. q.same j (let k = q.ascending.0 in omega arith) ∙ skipped e es j (λ w. absurd (omega arith));
+        left = λ j l. get_or-set_other row e.column j e.coefficient zero_ℚ (λ w. absurd (omega arith)) ∙ q.left j (let k = q.ascending.0 in omega arith);
+      },
+    )
+      where
+        here : number_at (set row e.column e.coefficient) e.column ≡ e.coefficient
+        here = get_or-set_same row e.column e.coefficient zero_ℚ (rw (q.size) (q.below.0))
+
+        apart : (j : ℕ) → j ≢ e.column → number_at (set row e.column e.coefficient) j ≡ number_at row j
+        apart j m = get_or-set_other row e.column j e.coefficient zero_ℚ m
+
+        done : (j : ℕ) → j < e.column + 1 → number_at (set row e.column e.coefficient) j ≡ coefficient_of form j
+        done j l = elim (ℕ_discrete j e.column) [
+          | yes at ↦ let P : ℕ → Type 0 = λ k. number_at (set row e.column e.coefficient) k ≡ coefficient_of form k in
+              subst P (sym at) (here ∙ sym (q.same e.column q.ascending.0 ∙ taken e es q.ascending.1))
+          | no m ↦ apart j m ∙ elim (dec_lt j least) [
+            | yes low ↦ q.done j low
+            | no high ↦ q.left j (omega arith) ∙ sym (q.same j (omega arith) ∙ skipped e es j (λ w. m (sym w)) ∙ before (e.column + 1) es j q.ascending.1 (omega arith))
+          ]
+        ]
+
+pub all_dense : (n : ℕ) (form rest : List Entry) (row : List Rational) → rest ≡ [] → (least : ℕ) × IsPartlyDense n form rest row least → IsDense n form row
+all_dense n form rest row is (least, p) = go (let P : List Entry → Type 0 = λ r. IsPartlyDense n form r row least in subst P is p)
+  where
+    go : IsPartlyDense n form [] row least → IsDense n form row
+    go q = record {
+      size = q.size;
+      numbers = λ j l. elim (dec_lt j least) [
+        | yes low ↦ q.done j low
+        | no high ↦ q.left j (omega arith) ∙ sym (q.same j (omega arith))
+      ];
+    }
+
+pub entry_inside : (n : ℕ) (form : List Entry) (e : Entry) (rest rest_after : List Entry) (row : List Rational) → rest ≡ e ∷ rest_after → (least : ℕ) × IsPartlyDense n form rest row least → e.column < length row
+entry_inside n form e rest es row is (least, p) = let q : IsPartlyDense n form (e ∷ es) row least = (let P : List Entry → Type 0 = λ r. IsPartlyDense n form r row least in subst P is p) in rw (q.size) (q.below.0)
+
+-- ---- all rows
+
+pub one_more_row : (n i : ℕ) (forms : List (List Entry)) (rows : List (List Rational)) (form : List Entry) (row : List Rational) → length rows ≡ i → form ≡ get_or forms i [] → IsDense n form row
+    → ((k : ℕ) → k < i → IsDense n (get_or forms k []) (get_or rows k []))
+    → (length (rows ++ row ∷ []) ≡ i + 1) × ((k : ℕ) → k < i + 1 → IsDense n (get_or forms k []) (get_or (rows ++ row ∷ []) k []))
+one_more_row n i forms rows form row size is one all = (length-append rows (row ∷ []) ∙ (omega arith), each)
+  where
+    last : get_or (rows ++ row ∷ []) i [] ≡ row
+    last = let e : i ≡ length rows + 0 = omega arith in ap (λ k. get_or (rows ++ row ∷ []) k []) e ∙ get_or-append-add rows (row ∷ []) 0 []
+
+    each : (k : ℕ) → k < i + 1 → IsDense n (get_or forms k []) (get_or (rows ++ row ∷ []) k [])
+    each k h = elim (ℕ_discrete k i) [
+      | yes at ↦ let P : ℕ → Type 0 = λ m. IsDense n (get_or forms m []) (get_or (rows ++ row ∷ []) m []) in
+          subst P (sym at) (let R : List Entry → List Rational → Type 0 = IsDense n in subst (λ f. R f (get_or (rows ++ row ∷ []) i [])) is (subst (λ r. R form r) (sym last) one))
+      | no m ↦ let R : List Rational → Type 0 = λ r. IsDense n (get_or forms k []) r in subst R (sym (get_or_append_left rows (row ∷ []) [] k (omega arith))) (all k (omega arith))
+    ]
+
+pub form_here : (P : List Entry → Type 0) (forms : List (List Entry)) (i : ℕ) (form : List Entry) → ((k : ℕ) → IfSome (slice_get forms k) P) → slice_get forms i ≡ Some form → P form
+form_here P forms i form h e = let R : Option (List Entry) → Type 0 = λ o. IfSome o P in subst R e (h i)
+
+-- ---- positions
+
+pub none_counted : (old : List ℕ) → AreCounted old 0 old
+none_counted old = record { size = omega arith; kept = λ i h. refl; counted = λ k h. absurd (omega arith) }
+
+pub one_more_counted : (old new : List ℕ) (k : ℕ) → AreCounted old k new → AreCounted old (k + 1) (new ++ k ∷ [])
+one_more_counted old new k h = record {
+  size = length-append new (k ∷ []) ∙ (let e = h.size in omega arith);
+  kept = λ i l. get_or_append_left new (k ∷ []) 0 i (let e = h.size in omega arith) ∙ h.kept i l;
+  counted = λ m l. elim (ℕ_discrete m k) [
+    | yes at ↦ let e : length old + m ≡ length new + 0 = (let f = h.size in omega arith) in ap (λ j. get_or (new ++ k ∷ []) j 0) e ∙ get_or-append-add new (k ∷ []) 0 0 ∙ sym at
+    | no n ↦ get_or_append_left new (k ∷ []) 0 (length old + m) (let e = h.size in omega arith) ∙ h.counted m (omega arith)
+  ];
+}
+
+-- ---- the next of a list
+
+pub next_of : {X : Type 0} (xs items : List X) (i : ℕ) (e r : X) → items ≡ xs → i < length items → r ≡ get_or items i r → e ≡ r → drop i xs ≡ e ∷ drop (i + 1) xs
+next_of xs items i e r same h is e_is = sym (ap (drop i) same) ∙ drop_more items i r h ∙ ap₂ (λ a l. a ∷ drop (i + 1) l) (sym is ∙ sym e_is) same

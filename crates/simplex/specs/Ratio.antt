@@ -1,0 +1,37 @@
+-- How far a variable moves until it reaches a bound.
+use Rattle.std.specs.Prelude.{ℕ, ◌<◌, ◌≡◌, Bool, true, false, List, Option, Some, None, option_map, if◌then◌else◌}
+use Rattle.rational.specs.Rational.{Rational, zero_ℚ, neg_ℚ, ◌-ℚ◌}
+use Rattle.milp.specs.Form.{number_at}
+use Rattle.verdicts.specs.Compare.{is_less}
+use Rattle.basis.specs.System.{Bounds, System}
+use Rattle.basis.specs.Bland.{Reaches}
+use Rattle.basis.specs.Pivots.{IsLengthOperation}
+use Rattle.fraction.specs.declared.frac.NoFit.{NoFit}
+use Rattle.simplex.specs.Rows.{result_fits}
+use Rattle.simplex.specs.Table.{Table, dictionary_of}
+use Rattle.simplex.specs.Values.{direction_of}
+use Rattle.basis.specs.declared.Place.{Place}
+use Rattle.basis.specs.declared.Place.TheVariants.{AtLower, AtUpper}
+
+-- a, or minus a where the mover falls
+abbrev pub turned : Bool → Rational → Rational
+turned true a = a
+turned false a = neg_ℚ a
+
+-- how each variable moves where the resting variable q rises by 1, or falls by 1
+abbrev pub along : Table → ℕ → Bool → ℕ → Rational
+along t q rises v = turned rises (direction_of t q v)
+
+-- the bound in the way of a variable that changes so
+abbrev pub bound_ahead : Bounds → Rational → Option (Rational × Place)
+bound_ahead b change = if is_less zero_ℚ change then option_map (λ u. (u, AtUpper)) b.upper else (if is_less change zero_ℚ then option_map (λ l. (l, AtLower)) b.lower else None)
+
+-- after the step t, and no other, v is at a bound in its way, that of this place
+pub record IsReach (s : System) (x r : ℕ → Rational) (v : ℕ) (t : Rational) (place : Place) : Type 0 where
+  pub reaches : Reaches s x r t v place
+  pub only : (u : Rational) (p : Place) → Reaches s x r u v p → u ≡ t
+
+-- e is an operation that finds the length of a step, and does not fit
+pub record IsLengthFault (s : System) (x : List Rational) (t : Table) (q : ℕ) (e : NoFit) : Type 0 where
+  pub operation : IsLengthOperation s t.places (number_at x) (dictionary_of t) q e.a e.b
+  pub not_fit : result_fits e.op e.a e.b ≡ false
