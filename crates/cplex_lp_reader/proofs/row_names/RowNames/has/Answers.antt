@@ -1,0 +1,8 @@
+-- By the names' bytes.
+use Rattle.std.proofs.Common.{◌∙◌, ℕ, List, string_bytes}
+use Rattle.cplex_lp_reader.specs.Names.{is_name}
+use Rattle.cplex_lp_reader.proofs.Lookup.{bytes_eq-sym, list_any-same}
+use Rattle.cplex_lp_reader.proofs.row_names.RowNames.has.Goals as goal
+
+pub returns : goal.returns
+returns c = rw (← c.self.view_is) (c.contains.ensures ∙ list_any-same string_bytes _ (is_name c.args.name.now) (λ k. bytes_eq-sym c.args.name.now (string_bytes k)) _)

@@ -1,0 +1,157 @@
+-- Constraints: `[name ":"] [number relation] term { term } relation number`, where each term has a name
+-- (GLPK Reference Manual, appendix on the CPLEX LP format: constraints section).
+use Rattle.std.specs.Prelude.{ℕ, ◌+◌, nat_lt, nat_le, Bool, true, false, List, [], ◌∷◌, ◌++◌, length, codes, Some, None, Result, Ok, if◌then◌else◌}
+use Rattle.std.specs.declared.option.Option.{Option}
+use Rattle.std.specs.List.{list_any}
+use Rattle.std.specs.Str.{bytes_eq}
+use Rattle.std.specs.Fmt.{decimal}
+use Rattle.rational.specs.Rational.{Rational, one_ℚ}
+use Rattle.milp.specs.Problem.{Row}
+use Rattle.file_fault.specs.declared.fault.FaultKind.TheVariants.{Twice, TooMany}
+use Rattle.file_fault.specs.declared.fault.FileFault.{FileFault}
+use Rattle.cplex_lp_reader.specs.declared.profile.Profile.{Profile}
+use Rattle.cplex_lp_reader.specs.declared.token.Relation.{Relation}
+use Rattle.cplex_lp_reader.specs.declared.token.Relation.TheVariants.{AtMost, AtLeast, Exactly}
+use Rattle.cplex_lp_reader.specs.declared.token.TokenKind.{TokenKind}
+use Rattle.cplex_lp_reader.specs.declared.token.TokenKind.TheVariants.{Word, Literal, Plus, Minus, Compared}
+use Rattle.cplex_lp_reader.specs.declared.place.Sign.{Sign}
+use Rattle.cplex_lp_reader.specs.declared.place.Sign.TheVariants.{Unsigned}
+use Rattle.cplex_lp_reader.specs.declared.place.TermPlace.{TermPlace}
+use Rattle.cplex_lp_reader.specs.declared.place.TermPlace.TheVariants.{Begun, Factor, Done}
+use Rattle.cplex_lp_reader.specs.declared.place.Place.{Place}
+use Rattle.cplex_lp_reader.specs.declared.place.Place.TheVariants.{RowStart, RowColon, RowFirst, RowNumber, RowTerms, RowRight}
+use Rattle.cplex_lp_reader.specs.Tokens.{Token}
+use Rattle.cplex_lp_reader.specs.Steps.{fault_at, misplaced, then_do, number_of}
+use Rattle.cplex_lp_reader.specs.Declaration.{OpenRow, new_row, Declaration, at_place, added, entries_of, place_in, mentioned}
+use Rattle.cplex_lp_reader.specs.Grammar.{after_plus, after_minus, signed, is_colon, is_before_colon}
+
+-- ---- a row begins
+
+abbrev pub is_row : List ℕ → List Row → Bool
+is_row name rows = list_any (λ (r : Row). bytes_eq r.name name) rows
+
+-- the row of this name begins with the token t; a name is used once
+abbrev pub row_opened : Profile → List ℕ → Token → Declaration → Result Declaration FileFault
+row_opened profile name t d =
+    if is_row name d.rows then fault_at t.line Twice
+    else if nat_le profile.rows (length d.rows) then fault_at t.line TooMany
+    else Ok (record d { open_row = new_row name t.line })
+
+-- row i without a name is `r.i`
+abbrev pub default_name : List Row → List ℕ
+default_name rows = codes "r." ++ decimal (length rows + 1)
+
+-- a row without a name begins, and another token comes
+abbrev pub unnamed_row : Profile → Declaration → Token → Place → Result Declaration FileFault
+unnamed_row profile d t place = then_do (λ opened. Ok (at_place place opened)) (row_opened profile (default_name d.rows) t d)
+
+-- ---- terms
+
+-- v times the column of a name
+abbrev pub row_term : Profile → Rational → Token → Declaration → Result Declaration FileFault
+row_term profile v t d =
+    then_do (λ more. then_do (λ form. Ok (record more { open_row = record more.open_row { form = form }; place = RowTerms Done })) (added t.line (place_in t.text d.columns) v more.open_row.form))
+    (mentioned profile t d)
+
+-- where a term is about to begin, or has signs alone
+abbrev pub row_begun : TokenKind → Profile → Declaration → Sign → Token → Result Declaration FileFault
+row_begun Plus profile d sign t = Ok (at_place (RowTerms (Begun (after_plus sign))) d)
+row_begun Minus profile d sign t = Ok (at_place (RowTerms (Begun (after_minus sign))) d)
+row_begun Literal profile d sign t = then_do (λ v. Ok (at_place (RowTerms (Factor (signed sign v))) d)) (number_of t)
+row_begun Word profile d sign t = row_term profile (signed sign one_ℚ) t d
+row_begun kind profile d sign t = misplaced t
+
+-- after the number before a name
+abbrev pub row_factor : TokenKind → Profile → Declaration → Rational → Token → Result Declaration FileFault
+row_factor Word profile d v t = row_term profile v t d
+row_factor kind profile d v t = misplaced t
+
+-- two relations have the same direction, and neither is `=`
+abbrev pub may_follow : Option Relation → Relation → Bool
+may_follow None relation = true
+may_follow (Some AtMost) AtMost = true
+may_follow (Some AtLeast) AtLeast = true
+may_follow left relation = false
+
+-- after a term another begins with a sign, or the row's right side with a relation
+abbrev pub row_done : TokenKind → Declaration → Token → Result Declaration FileFault
+row_done Plus d t = Ok (at_place (RowTerms (Begun (after_plus Unsigned))) d)
+row_done Minus d t = Ok (at_place (RowTerms (Begun (after_minus Unsigned))) d)
+row_done (Compared relation) d t = if may_follow d.open_row.left relation then Ok (at_place (RowRight relation Unsigned) d) else misplaced t
+row_done kind d t = misplaced t
+
+abbrev pub in_row_terms : TermPlace → Profile → Declaration → Token → Result Declaration FileFault
+in_row_terms (Begun sign) profile d t = row_begun t.kind profile d sign t
+in_row_terms (Factor v) profile d t = row_factor t.kind profile d v t
+in_row_terms Done profile d t = row_done t.kind d t
+
+-- ---- the first tokens
+
+-- a name before a colon is the row's
+abbrev pub row_name : Profile → Declaration → Token → List Token → Result Declaration FileFault
+row_name profile d t rest =
+    if is_before_colon rest then then_do (λ opened. Ok (at_place RowColon opened)) (row_opened profile t.text t d)
+    else then_do (row_term profile one_ℚ t) (row_opened profile (default_name d.rows) t d)
+
+abbrev pub at_row_start : TokenKind → Profile → Declaration → Token → List Token → Result Declaration FileFault
+at_row_start Word profile d t rest = row_name profile d t rest
+at_row_start Plus profile d t rest = unnamed_row profile d t (RowFirst (after_plus Unsigned))
+at_row_start Minus profile d t rest = unnamed_row profile d t (RowFirst (after_minus Unsigned))
+at_row_start Literal profile d t rest = then_do (λ v. unnamed_row profile d t (RowNumber v)) (number_of t)
+at_row_start kind profile d t rest = misplaced t
+
+abbrev pub at_row_colon : Declaration → Token → Result Declaration FileFault
+at_row_colon d t = if is_colon t.kind then Ok (at_place (RowFirst Unsigned) d) else misplaced t
+
+-- where the first term or the number on the left is about to begin, or has signs alone
+abbrev pub at_row_first : TokenKind → Profile → Declaration → Sign → Token → Result Declaration FileFault
+at_row_first Plus profile d sign t = Ok (at_place (RowFirst (after_plus sign)) d)
+at_row_first Minus profile d sign t = Ok (at_place (RowFirst (after_minus sign)) d)
+at_row_first Literal profile d sign t = then_do (λ v. Ok (at_place (RowNumber (signed sign v)) d)) (number_of t)
+at_row_first Word profile d sign t = row_term profile (signed sign one_ℚ) t d
+at_row_first kind profile d sign t = misplaced t
+
+-- the number v is on the row's left, before a relation
+abbrev pub left_set : Relation → Rational → OpenRow → OpenRow
+left_set AtMost v row = record row { left = Some AtMost; lower = Some v }
+left_set AtLeast v row = record row { left = Some AtLeast; upper = Some v }
+left_set Exactly v row = row
+
+abbrev pub with_left : Declaration → Rational → Relation → Declaration
+with_left d v relation = record d { open_row = left_set relation v d.open_row; place = RowTerms (Begun Unsigned) }
+
+-- after a row's first number a name or a relation comes, which isn't `=`
+abbrev pub at_row_number : TokenKind → Profile → Declaration → Rational → Token → Result Declaration FileFault
+at_row_number Word profile d v t = row_term profile v t d
+at_row_number (Compared AtMost) profile d v t = Ok (with_left d v AtMost)
+at_row_number (Compared AtLeast) profile d v t = Ok (with_left d v AtLeast)
+at_row_number kind profile d v t = misplaced t
+
+-- ---- a row ends
+
+-- the number v is on the row's right, after a relation
+abbrev pub right_set : Relation → Rational → OpenRow → OpenRow
+right_set AtMost v row = record row { upper = Some v }
+right_set AtLeast v row = record row { lower = Some v }
+right_set Exactly v row = record row { lower = Some v; upper = Some v }
+
+abbrev pub finished_row : OpenRow → Row
+finished_row row = record { name = row.name; lower = row.lower; upper = row.upper; entries = entries_of row.form }
+
+abbrev pub entry_count : List Row → ℕ
+entry_count [] = 0
+entry_count (r ∷ rs) = length r.entries + entry_count rs
+
+-- entries past their limit are a fault of the row's first line
+abbrev pub row_closed : Profile → Row → Declaration → Result Declaration FileFault
+row_closed profile row d =
+    if nat_lt profile.entries (entry_count d.rows + length row.entries) then fault_at d.open_row.line TooMany
+    else Ok (record d { rows = d.rows ++ row ∷ []; place = RowStart })
+
+-- where the number on the right is about to come, or has signs alone
+abbrev pub at_row_right : TokenKind → Profile → Declaration → Relation → Sign → Token → Result Declaration FileFault
+at_row_right Plus profile d relation sign t = Ok (at_place (RowRight relation (after_plus sign)) d)
+at_row_right Minus profile d relation sign t = Ok (at_place (RowRight relation (after_minus sign)) d)
+at_row_right Literal profile d relation sign t =
+    then_do (λ v. row_closed profile (finished_row (right_set relation (signed sign v) d.open_row)) d) (number_of t)
+at_row_right kind profile d relation sign t = misplaced t

@@ -1,0 +1,143 @@
+-- What a CPLEX LP text has declared so far.
+use Rattle.std.specs.Prelude.{ℕ, ◌+◌, ◌==◌, nat_lt, nat_le, Bool, false, zero, suc, List, [], ◌∷◌, ◌++◌, length, unsigned_abs, not, filter, codes, Some, None, Result, Ok, if◌then◌else◌, take, drop}
+use Rattle.std.specs.declared.option.Option.{Option}
+use Rattle.std.specs.List.{position_or_len}
+use Rattle.std.specs.Str.{bytes_eq}
+use Rattle.rational.specs.Rational.{Rational, zero_ℚ}
+use Rattle.fraction.specs.Answers.{add_answer}
+use Rattle.milp.specs.Form.{Entry}
+use Rattle.milp.specs.Problem.{Column, Row, Problem}
+use Rattle.milp.specs.declared.Direction.{Direction}
+use Rattle.milp.specs.declared.Direction.TheVariants.{Min}
+use Rattle.file_fault.specs.declared.fault.FaultKind.TheVariants.{TooMany}
+use Rattle.file_fault.specs.declared.fault.FileFault.{FileFault}
+use Rattle.cplex_lp_reader.specs.declared.profile.Profile.{Profile}
+use Rattle.cplex_lp_reader.specs.declared.token.Relation.{Relation}
+use Rattle.cplex_lp_reader.specs.declared.place.Place.{Place}
+use Rattle.cplex_lp_reader.specs.declared.place.Place.TheVariants.{Start}
+use Rattle.cplex_lp_reader.specs.Tokens.{Token}
+use Rattle.cplex_lp_reader.specs.Steps.{fault_at, then_do, fitting_at}
+
+-- ---- the whole
+
+-- the row that is being read
+pub record OpenRow : Type 0 where
+  pub name : List ℕ
+  -- the line of its first token
+  pub line : ℕ
+  -- the relation after the number on its left
+  pub left : Option Relation
+  pub lower : Option Rational
+  pub upper : Option Rational
+  -- the sum of the terms of each name, zeros too, in order of column
+  pub form : List Entry
+
+abbrev pub new_row : List ℕ → ℕ → OpenRow
+new_row name line = record { name = name; line = line; left = None; lower = None; upper = None; form = [] }
+
+pub record Declaration : Type 0 where
+  pub place : Place
+  pub direction : Direction
+  pub objective_name : List ℕ
+  -- the sum of the terms of each name, zeros too, in order of column
+  pub objective : List Entry
+  pub constant : Rational
+  -- the rows that are read to their end
+  pub rows : List Row
+  pub open_row : OpenRow
+  pub columns : List Column
+
+-- without a name the objective is `obj`
+abbrev pub nothing_declared : Declaration
+nothing_declared = record {
+  place = Start;
+  direction = Min;
+  objective_name = codes "obj";
+  objective = [];
+  constant = zero_ℚ;
+  rows = [];
+  open_row = new_row [] 0;
+  columns = [];
+}
+
+-- another token comes next
+abbrev pub at_place : Place → Declaration → Declaration
+at_place place d = record d { place = place }
+
+-- ---- forms
+
+abbrev pub is_from : ℕ → Entry → Bool
+is_from j e = nat_le j e.column
+
+-- where the entry of column j stands, or would stand
+abbrev pub place_of : ℕ → List Entry → ℕ
+place_of j form = position_or_len (is_from j) form
+
+abbrev pub no_entry : Entry
+no_entry = record { column = 0; coefficient = zero_ℚ }
+
+abbrev pub begins_with : ℕ → List Entry → Bool
+begins_with j [] = false
+begins_with j (e ∷ es) = e.column == j
+
+-- a term after the entries of earlier columns, added to that of the same column, if it is there
+abbrev pub joined : ℕ → ℕ → Rational → List Entry → List Entry → Result (List Entry) FileFault
+joined line j v before [] = Ok (before ++ record { column = j; coefficient = v } ∷ [])
+joined line j v before (e ∷ after) =
+    if e.column == j then then_do (λ sum. Ok (before ++ record { column = j; coefficient = sum } ∷ after)) (fitting_at line (add_answer e.coefficient v))
+    else Ok (before ++ record { column = j; coefficient = v } ∷ e ∷ after)
+
+-- a term added to those of the same column, from the left; the fault is at its line
+abbrev pub added : ℕ → ℕ → Rational → List Entry → Result (List Entry) FileFault
+added line j v form = joined line j v (take (place_of j form) form) (drop (place_of j form) form)
+
+abbrev pub is_zero : Rational → Bool
+is_zero v = unsigned_abs v.numerator == 0
+
+abbrev pub is_entry : Entry → Bool
+is_entry e = not (is_zero e.coefficient)
+
+-- a sum of 0 leaves no entry
+abbrev pub entries_of : List Entry → List Entry
+entries_of form = filter is_entry form
+
+-- ---- columns, in order of first mention
+
+abbrev pub is_column_named : List ℕ → Column → Bool
+is_column_named name c = bytes_eq c.name name
+
+-- the place of the column of a name; where there is none, the place that it would take
+abbrev pub place_in : List ℕ → List Column → ℕ
+place_in name columns = position_or_len (is_column_named name) columns
+
+-- a column begins at 0 without an upper bound
+abbrev pub new_column : List ℕ → Column
+new_column name = record { name = name; lower = Some zero_ℚ; upper = None; integer = false }
+
+-- a column is there, since its name is mentioned
+abbrev pub mentioned : Profile → Token → Declaration → Result Declaration FileFault
+mentioned profile t d =
+    if nat_lt (place_in t.text d.columns) (length d.columns) then Ok d
+    else if nat_le profile.columns (length d.columns) then fault_at t.line TooMany
+    else Ok (record d { columns = d.columns ++ new_column t.text ∷ [] })
+
+-- the column at a place changed by f
+abbrev pub with_changed : ℕ → (Column → Column) → List Column → List Column
+with_changed place f [] = []
+with_changed zero f (c ∷ cs) = f c ∷ cs
+with_changed (suc place) f (c ∷ cs) = c ∷ with_changed place f cs
+
+abbrev pub with_column : ℕ → (Column → Column) → Declaration → Declaration
+with_column place f d = record d { columns = with_changed place f d.columns }
+
+-- ---- the problem
+
+abbrev pub problem_of : Declaration → Problem
+problem_of d = record {
+  columns = d.columns;
+  rows = d.rows;
+  direction = d.direction;
+  objective_name = d.objective_name;
+  objective = entries_of d.objective;
+  constant = d.constant;
+}

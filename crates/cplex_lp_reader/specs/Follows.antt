@@ -1,0 +1,22 @@
+-- What a step of the reader, what it has read and the definition's answer have to do with each other.
+use Rattle.std.specs.Prelude.{◌≡◌, Result, Ok, Err}
+use Rattle.file_fault.specs.declared.fault.FileFault.{FileFault}
+use Rattle.cplex_lp_reader.specs.declared.error.LpError.{LpError}
+use Rattle.cplex_lp_reader.specs.declared.error.LpError.TheVariants.{Fault, NoMemory}
+
+-- the step and the definition go the same way; want of memory is free
+abbrev pub Follows : {A : Type 0} → Result (Unit {0}) LpError → A → Result A FileFault → Type 0
+Follows (Ok _) new answer = answer ≡ Ok new
+Follows (Err (Fault fault)) new answer = answer ≡ Err fault
+Follows (Err NoMemory) new answer = Unit {0}
+
+-- the same of what is read
+abbrev pub Reads : {A : Type 0} → Result A LpError → Result A FileFault → Type 0
+Reads (Ok a) answer = answer ≡ Ok a
+Reads (Err (Fault fault)) answer = answer ≡ Err fault
+Reads (Err NoMemory) answer = Unit {0}
+
+-- an answer as the reader gives it
+abbrev pub as_read : {A : Type 0} → Result A FileFault → Result A LpError
+as_read (Ok a) = Ok a
+as_read (Err fault) = Err (Fault fault)

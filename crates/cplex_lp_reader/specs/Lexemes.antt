@@ -1,0 +1,130 @@
+-- The words and marks of a CPLEX LP text (GLPK Reference Manual, appendix on the CPLEX LP format: names, numbers, relations).
+use Rattle.std.specs.Prelude.{ℕ, ◌+◌, ◌==◌, nat_lt, ◌&&◌, ◌||◌, not, Bool, false, List, [], ◌∷◌, drop, Some, None, if◌then◌else◌, true}
+use Rattle.std.specs.declared.option.Option.{Option}
+use Rattle.std.specs.List.{position_or_len}
+use Rattle.std.specs.Char.{is_ascii_digit, is_ascii_alphanumeric}
+use Rattle.cplex_lp_reader.specs.declared.lexeme.Lexeme.{Lexeme}
+use Rattle.cplex_lp_reader.specs.declared.token.TokenKind.{TokenKind}
+use Rattle.cplex_lp_reader.specs.declared.token.TokenKind.TheVariants.{Word, Literal, Plus, Minus, Colon, Compared, Stray}
+use Rattle.cplex_lp_reader.specs.declared.token.Relation.{Relation}
+use Rattle.cplex_lp_reader.specs.declared.token.Relation.TheVariants.{AtMost, AtLeast, Exactly}
+
+-- ---- bytes
+
+abbrev pub is_blank : ℕ → Bool
+is_blank b = (b == 32) || (b == 9)
+
+-- ! " # $ % & ' ( ) , . /
+abbrev pub is_low_mark : ℕ → Bool
+is_low_mark b = (nat_lt 32 b && nat_lt b 42) || ((b == 44) || ((b == 46) || (b == 47)))
+
+-- ; ? @ _ ` { | } ~
+abbrev pub is_high_mark : ℕ → Bool
+is_high_mark b = (b == 59) || ((b == 63) || ((b == 64) || ((b == 95) || ((b == 96) || (nat_lt 122 b && nat_lt b 127)))))
+
+-- letters, digits and !"#$%&/(),.;?@_`'{}|~
+abbrev pub is_name_byte : ℕ → Bool
+is_name_byte b = is_ascii_alphanumeric b || (is_low_mark b || is_high_mark b)
+
+-- a name begins with neither a digit nor a point
+abbrev pub begins_name : ℕ → Bool
+begins_name b = is_name_byte b && not (is_ascii_digit b || (b == 46))
+
+-- ---- lengths
+
+abbrev pub is_no_digit : ℕ → Bool
+is_no_digit b = not (is_ascii_digit b)
+
+abbrev pub is_no_name_byte : ℕ → Bool
+is_no_name_byte b = not (is_name_byte b)
+
+-- how many digits stand at the start
+abbrev pub digits : List ℕ → ℕ
+digits text = position_or_len is_no_digit text
+
+-- how many bytes of a name stand at the start
+abbrev pub name_bytes : List ℕ → ℕ
+name_bytes text = position_or_len is_no_name_byte text
+
+-- the length of an exponent at the start, which has digits after its mark and its sign or none
+abbrev pub raised : ℕ → ℕ → ℕ
+raised before count = if count == 0 then 0 else before + count
+
+abbrev pub is_sign : ℕ → Bool
+is_sign b = (b == 43) || (b == 45)
+
+abbrev pub is_exponent_mark : ℕ → Bool
+is_exponent_mark b = (b == 101) || (b == 69)
+
+abbrev pub after_mark : List ℕ → ℕ
+after_mark [] = 0
+after_mark (b ∷ bs) = if is_sign b then raised 2 (digits bs) else raised 1 (digits (b ∷ bs))
+
+abbrev pub exponent_length : List ℕ → ℕ
+exponent_length [] = 0
+exponent_length (b ∷ bs) = if is_exponent_mark b then after_mark bs else 0
+
+-- the length of a point and so many digits after it: one side has a digit
+abbrev pub point_length : ℕ → ℕ → ℕ
+point_length whole places = if (whole == 0) && (places == 0) then 0 else 1 + places
+
+-- the length of a point with digits after it, where so many digits stand before it
+abbrev pub places_length : ℕ → List ℕ → ℕ
+places_length whole [] = 0
+places_length whole (b ∷ bs) =
+    if b == 46 then point_length whole (digits bs) else 0
+
+-- the length of the digits and point at the start: digits with a point or none, or a point and digits
+abbrev pub mantissa_length : List ℕ → ℕ
+mantissa_length text = digits text + places_length (digits text) (drop (digits text) text)
+
+-- the length of the longest number at the start without sign; 0 where there is none
+abbrev pub literal_length : List ℕ → ℕ
+literal_length text =
+    if mantissa_length text == 0 then 0 else mantissa_length text + exponent_length (drop (mantissa_length text) text)
+
+-- ---- what stands at the start of a text
+
+abbrev pub next_is : ℕ → List ℕ → Bool
+next_is wanted [] = false
+next_is wanted (b ∷ bs) = b == wanted
+
+abbrev pub mark : ℕ → TokenKind → Lexeme
+mark size kind = record { size = size; kind = Some kind }
+
+-- a relation, of one byte or of two
+abbrev pub compared : Relation → Bool → Lexeme
+compared relation two = mark (if two then 2 else 1) (Compared relation)
+
+-- = and =< and =>
+abbrev pub equality_at : List ℕ → Lexeme
+equality_at bs =
+    if next_is 60 bs then compared AtMost true
+    else if next_is 62 bs then compared AtLeast true
+    else compared Exactly false
+
+-- < and <=, > and >=, those of =, and a byte that begins nothing
+abbrev pub relation_at : ℕ → List ℕ → Lexeme
+relation_at b bs =
+    if b == 60 then compared AtMost (next_is 61 bs)
+    else if b == 62 then compared AtLeast (next_is 61 bs)
+    else if b == 61 then equality_at bs
+    else mark 1 Stray
+
+abbrev pub mark_at : ℕ → List ℕ → Lexeme
+mark_at b bs =
+    if b == 43 then mark 1 Plus
+    else if b == 45 then mark 1 Minus
+    else if b == 58 then mark 1 Colon
+    else relation_at b bs
+
+abbrev pub literal_or_mark : List ℕ → ℕ → List ℕ → Lexeme
+literal_or_mark text b bs = if literal_length text == 0 then mark_at b bs else mark (literal_length text) Literal
+
+-- how many bytes it takes, and the kind of token; a blank is none
+abbrev pub lexeme_at : List ℕ → Lexeme
+lexeme_at [] = record { size = 1; kind = None }
+lexeme_at (b ∷ bs) =
+    if is_blank b then record { size = 1; kind = None }
+    else if begins_name b then mark (1 + name_bytes bs) Word
+    else literal_or_mark (b ∷ bs) b bs

@@ -1,0 +1,12 @@
+pub mod Profile
+pub mod Lexemes
+pub mod Tokens
+pub mod Steps
+pub mod Names
+pub mod Follows
+pub mod Declaration
+pub mod Grammar
+pub mod Objective
+pub mod Constraints
+pub mod Bounds
+pub mod CplexLp

@@ -1,0 +1,134 @@
+// Linear forms in the making.
+ghost use Rattle.std.specs.Prelude.{◌≡◌, ℕ, ◌<◌, ◌≤◌, get_or, set, [], true, false, length, take, drop};
+ghost use Rattle.std.specs.List.{position};
+ghost use Rattle.fraction.specs.Answers.{add_answer};
+ghost use Rattle.cplex_lp_reader.specs.Follows.{Follows, as_read};
+ghost use Rattle.cplex_lp_reader.specs.Steps.{fitting_at};
+ghost use Rattle.cplex_lp_reader.specs.Declaration.{no_entry, is_from, place_of, begins_with, joined, added};
+
+use crate::error::LpError;
+use file_fault::{FaultKind, FileFault};
+use fraction::Frac;
+use instance::Entry;
+use std::alloc::Global;
+use std::marker::Model;
+
+// The sum of the terms of each column, zeros too, in order of column.
+#[derive(Drop)]
+pub(crate) struct Form {
+    entries: Vec<Entry>,
+}
+
+impl Model for Form {
+    ghost use Rattle.std.specs.Prelude.{List};
+    ghost use Rattle.milp.specs.Form.{Entry as FormEntry};
+
+    ghost Value = { List FormEntry };
+
+    ghost view = { λ f. f.entries.items };
+}
+
+// The fault of a number that doesn't fit.
+pub(crate) fn sum_at(line: usize, a: Frac, b: Frac) -> Result<Frac, LpError>
+    ensures { result ≡ as_read (fitting_at line (add_answer a b)) }
+{
+    match a.add(b) {
+        Ok(sum) => Ok(sum),
+        Err(_) => Err(LpError::Fault(FileFault {
+            line,
+            kind: FaultKind::TooWide,
+        })),
+    }
+}
+
+impl Form {
+    pub(crate) fn new(alloc: Global) -> Self
+        ensures { result ≡ [] }
+    {
+        Form {
+            entries: Vec::new(alloc),
+        }
+    }
+
+    // The first entry of this column or a later one.
+    fn first_from(&self, column: u32) -> Option<usize>
+        ensures { result ≡ position (is_from column) self.now }
+    {
+        self.entries.iter().position(|e| column <= e.column)
+    }
+
+    // Where the entry of a column stands, or would stand.
+    fn place(&self, column: u32) -> usize
+        ensures value { result ≡ place_of column self.now }
+        ensures within { result ≤ length self.now }
+    {
+        match self.first_from(column) {
+            Some(place) => place,
+            None => self.entries.len(),
+        }
+    }
+
+    // A term added to those of its column, from the left; the fault is at its line.
+    pub(crate) fn add(&mut self, line: usize, column: u32, value: Frac) -> Result<(), LpError>
+        ensures { Follows result self.new (added line column value self.old) }
+    {
+        let place = self.place(column);
+        if self.has_at(place, column) {
+            self.join(line, place, column, value)
+        } else {
+            self.insert(place, column, value)
+        }
+    }
+
+    // The entry of this column stands at a place.
+    fn has_at(&self, place: usize, column: u32) -> bool
+        ensures { result ≡ begins_with column (drop place self.now) }
+    {
+        place < self.entries.len() && self.entries[place].column == column
+    }
+
+    fn coefficient(&self, place: usize) -> Frac
+        requires { place < length self.now }
+        ensures { result ≡ (get_or self.now place no_entry).coefficient }
+    {
+        self.entries[place].coefficient
+    }
+
+    fn set(&mut self, place: usize, entry: Entry)
+        requires { place < length self.old }
+        ensures { self.new ≡ set self.old place entry }
+    {
+        self.entries[place] = entry;
+    }
+
+    // The term is added to the entry of its column.
+    fn join(&mut self, line: usize, place: usize, column: u32, value: Frac) -> Result<(), LpError>
+        requires { begins_with column (drop place self.old) ≡ true }
+        ensures { Follows result self.new (joined line column value (take place self.old) (drop place self.old)) }
+    {
+        let coefficient = sum_at(line, self.coefficient(place), value)?;
+        self.set(
+            place,
+            Entry {
+                column,
+                coefficient,
+            },
+        );
+        Ok(())
+    }
+
+    fn insert(&mut self, place: usize, column: u32, value: Frac) -> Result<(), LpError>
+        requires other { begins_with column (drop place self.old) ≡ false }
+        requires within { place ≤ length self.old }
+        ensures { (line : ℕ) → Follows result self.new (joined line column value (take place self.old) (drop place self.old)) }
+    {
+        let entry = Entry {
+            column,
+            coefficient: value,
+        };
+        match self.entries.insert(place, entry) {
+            Ok(_) => Ok(()),
+            Err(_) => Err(LpError::NoMemory),
+        }
+    }
+}

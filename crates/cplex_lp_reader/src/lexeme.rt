@@ -1,0 +1,314 @@
+// The words and marks of a line.
+ghost use Rattle.std.specs.Prelude.{◌≡◌, ℕ, IsTrue, ◌+◌, ◌^◌, ◌<◌, ◌≤◌, ◌∷◌, length, drop};
+ghost use Rattle.std.specs.List.{position};
+ghost use Rattle.cplex_lp_reader.specs.Lexemes.{is_blank as blank, is_low_mark as low_mark, is_high_mark as high_mark, is_name_byte as name_byte, begins_name as name_begins, is_no_digit, is_no_name_byte, digits as digits_at_start, name_bytes as name_bytes_at_start, raised as raised_by, point_length as length_of_point, is_sign as sign_byte, is_exponent_mark as exponent_mark, after_mark as after_exponent_mark, exponent_length as length_of_exponent, places_length as length_of_places, mantissa_length as length_of_mantissa, literal_length as length_of_literal, relation_at as relation_here, mark_at as mark_here, lexeme_at as lexeme_here, next_is as next_byte_is, mark as mark_of, compared as compared_by, equality_at as equality_here, literal_or_mark as literal_or_mark_here};
+
+use crate::token::{Relation, TokenKind};
+
+// What stands at a place of a line: how many bytes it takes, and the kind of token; a blank is none.
+#[derive(Clone, Copy)]
+pub(crate) struct Lexeme {
+    pub(crate) size: usize,
+    pub(crate) kind: Option<TokenKind>,
+}
+
+// ---- bytes
+
+fn is_blank(b: u8) -> bool
+    ensures { result ≡ blank b }
+{
+    b == b' ' || b == b'\t'
+}
+
+// ! " # $ % & ' ( ) , . /
+fn is_low_mark(b: u8) -> bool
+    ensures { result ≡ low_mark b }
+{
+    (b' ' < b && b < b'*') || (b == b',' || (b == b'.' || b == b'/'))
+}
+
+// ; ? @ _ ` { | } ~
+fn is_high_mark(b: u8) -> bool
+    ensures { result ≡ high_mark b }
+{
+    b == b';' || (b == b'?' || (b == b'@' || (b == b'_' || (b == b'`' || (b'z' < b && b < 127)))))
+}
+
+fn is_name_byte(b: u8) -> bool
+    ensures { result ≡ name_byte b }
+{
+    b.is_ascii_alphanumeric() || (is_low_mark(b) || is_high_mark(b))
+}
+
+fn begins_name(b: u8) -> bool
+    ensures { result ≡ name_begins b }
+{
+    is_name_byte(b) && !(b.is_ascii_digit() || b == b'.')
+}
+
+fn is_sign(b: u8) -> bool
+    ensures { result ≡ sign_byte b }
+{
+    b == b'+' || b == b'-'
+}
+
+fn is_exponent_mark(b: u8) -> bool
+    ensures { result ≡ exponent_mark b }
+{
+    b == b'e' || b == b'E'
+}
+
+// ---- lengths
+
+fn first_no_digit(text: &[u8]) -> Option<usize>
+    ensures { result ≡ position is_no_digit text.now }
+{
+    text.iter().position(|b| !b.is_ascii_digit())
+}
+
+fn first_no_name_byte(text: &[u8]) -> Option<usize>
+    ensures { result ≡ position is_no_name_byte text.now }
+{
+    text.iter().position(|b| !is_name_byte(*b))
+}
+
+// How many digits stand at the start.
+fn digits(text: &[u8]) -> usize
+    ensures value { result ≡ digits_at_start text.now }
+    ensures within { result ≤ length text.now }
+{
+    match first_no_digit(text) {
+        Some(place) => place,
+        None => text.len(),
+    }
+}
+
+// How many bytes of a name stand at the start.
+fn name_bytes(text: &[u8]) -> usize
+    ensures value { result ≡ name_bytes_at_start text.now }
+    ensures within { result ≤ length text.now }
+{
+    match first_no_name_byte(text) {
+        Some(place) => place,
+        None => text.len(),
+    }
+}
+
+// What comes after so many bytes.
+pub(crate) fn after(text: &[u8], count: usize) -> &[u8]
+    requires { count ≤ length text.now }
+    ensures { result.now ≡ drop count text.now }
+{
+    &text[count..]
+}
+
+// The length of an exponent after its mark.
+fn after_mark(text: &[u8]) -> usize
+    ensures value { result ≡ after_exponent_mark text.now }
+    ensures within { result ≤ length text.now + 1 }
+{
+    match text {
+        [] => 0,
+        [first, rest @ ..] => {
+            if is_sign(*first) {
+                raised(2, digits(rest))
+            } else {
+                raised(1, digits(text))
+            }
+        }
+    }
+}
+
+// So many digits with what is before them, where there are digits.
+fn raised(before: usize, count: usize) -> usize
+    requires { before + count < 2 ^ 64 }
+    ensures { result ≡ raised_by before count }
+{
+    if count == 0 { 0 } else { before + count }
+}
+
+fn exponent_length(text: &[u8]) -> usize
+    ensures value { result ≡ length_of_exponent text.now }
+    ensures within { result ≤ length text.now }
+{
+    match text {
+        [] => 0,
+        [first, rest @ ..] => {
+            if is_exponent_mark(*first) {
+                after_mark(rest)
+            } else {
+                0
+            }
+        }
+    }
+}
+
+// The length of a point and so many digits after it: one side has a digit.
+fn point_length(whole: usize, places: usize) -> usize
+    requires { places < 2 ^ 63 }
+    ensures { result ≡ length_of_point whole places }
+{
+    if whole == 0 && places == 0 {
+        0
+    } else {
+        1 + places
+    }
+}
+
+// The length of a point with digits after it, where so many stand before it.
+fn places_length(whole: usize, text: &[u8]) -> usize
+    ensures value { result ≡ length_of_places whole text.now }
+    ensures within { result ≤ length text.now }
+{
+    match text {
+        [] => 0,
+        [first, rest @ ..] => {
+            if *first == b'.' {
+                point_length(whole, digits(rest))
+            } else {
+                0
+            }
+        }
+    }
+}
+
+fn mantissa_length(text: &[u8]) -> usize
+    ensures value { result ≡ length_of_mantissa text.now }
+    ensures within { result ≤ length text.now }
+{
+    let whole = digits(text);
+    whole + places_length(whole, after(text, whole))
+}
+
+// The length of the longest number at the start without sign; 0 where there is none.
+fn literal_length(text: &[u8]) -> usize
+    ensures value { result ≡ length_of_literal text.now }
+    ensures within { result ≤ length text.now }
+{
+    let mantissa = mantissa_length(text);
+    if mantissa == 0 {
+        0
+    } else {
+        mantissa + exponent_length(after(text, mantissa))
+    }
+}
+
+// ---- what stands at the start of a text
+
+fn mark(size: usize, kind: TokenKind) -> Lexeme
+    ensures value { result ≡ mark_of size kind }
+    ensures size { result.size ≡ size }
+{
+    Lexeme {
+        size,
+        kind: Some(kind),
+    }
+}
+
+fn next_is(wanted: u8, text: &[u8]) -> bool
+    ensures value { result ≡ next_byte_is wanted text.now }
+    ensures more { IsTrue result → 1 ≤ length text.now }
+{
+    match text {
+        [] => false,
+        [first, ..] => *first == wanted,
+    }
+}
+
+// A relation, of one byte or of two.
+fn compared(relation: Relation, two: bool) -> Lexeme
+    ensures value { result ≡ compared_by relation two }
+    ensures some { 0 < result.size }
+    ensures within { (n : ℕ) → (IsTrue two → 1 ≤ n) → result.size ≤ 1 + n }
+{
+    mark(if two { 2 } else { 1 }, TokenKind::Compared(relation))
+}
+
+// `=`, `=<` and `=>`.
+fn equality_at(rest: &[u8]) -> Lexeme
+    ensures value { result ≡ equality_here rest.now }
+    ensures some { 0 < result.size }
+    ensures within { result.size ≤ 1 + length rest.now }
+{
+    if next_is(b'<', rest) {
+        compared(Relation::AtMost, true)
+    } else if next_is(b'>', rest) {
+        compared(Relation::AtLeast, true)
+    } else {
+        compared(Relation::Exactly, false)
+    }
+}
+
+// `<` and `<=`, `>` and `>=`, those of `=`, and a byte that begins nothing.
+fn relation_at(first: u8, rest: &[u8]) -> Lexeme
+    ensures value { result ≡ relation_here first rest.now }
+    ensures some { 0 < result.size }
+    ensures within { result.size ≤ 1 + length rest.now }
+{
+    if first == b'<' {
+        compared(Relation::AtMost, next_is(b'=', rest))
+    } else if first == b'>' {
+        compared(Relation::AtLeast, next_is(b'=', rest))
+    } else if first == b'=' {
+        equality_at(rest)
+    } else {
+        mark(1, TokenKind::Stray)
+    }
+}
+
+fn mark_at(first: u8, rest: &[u8]) -> Lexeme
+    ensures value { result ≡ mark_here first rest.now }
+    ensures some { 0 < result.size }
+    ensures within { result.size ≤ 1 + length rest.now }
+{
+    if first == b'+' {
+        mark(1, TokenKind::Plus)
+    } else if first == b'-' {
+        mark(1, TokenKind::Minus)
+    } else if first == b':' {
+        mark(1, TokenKind::Colon)
+    } else {
+        relation_at(first, rest)
+    }
+}
+
+// A literal, or else a mark.
+fn literal_or_mark(first: u8, rest: &[u8], text: &[u8]) -> Lexeme
+    requires { text.now ≡ first ∷ rest.now }
+    ensures value { result ≡ literal_or_mark_here (first ∷ rest.now) first rest.now }
+    ensures some { 0 < result.size }
+    ensures within { result.size ≤ 1 + length rest.now }
+{
+    let size = literal_length(text);
+    if size == 0 {
+        mark_at(first, rest)
+    } else {
+        mark(size, TokenKind::Literal)
+    }
+}
+
+// What stands at the start of a text.
+pub(crate) fn lexeme_at(text: &[u8]) -> Lexeme
+    ensures value { result ≡ lexeme_here text.now }
+    ensures some { 0 < result.size }
+    ensures within { 0 < length text.now → result.size ≤ length text.now }
+{
+    match text {
+        [] => Lexeme {
+            size: 1,
+            kind: None,
+        },
+        [first, rest @ ..] => {
+            if is_blank(*first) {
+                Lexeme {
+                    size: 1,
+                    kind: None,
+                }
+            } else if begins_name(*first) {
+                mark(1 + name_bytes(rest), TokenKind::Word)
+            } else {
+                literal_or_mark(*first, rest, text)
+            }
+        }
+    }
+}

@@ -1,0 +1,99 @@
+// The tokens of a text.
+ghost use Rattle.std.specs.Prelude.{◌≡◌};
+ghost use Rattle.cplex_lp_reader.specs.Tokens.{as_section as as_section_words, is_name as is_name_kind};
+
+use std::marker::Model;
+
+// The sections that words begin.
+#[derive(Clone, Copy)]
+pub(crate) enum Section {
+    Minimize,
+    Maximize,
+    Constraints,
+    Bounds,
+    General,
+    Binary,
+    End,
+}
+
+// `<` and `<=`, `>` and `>=`, `=`.
+#[derive(Clone, Copy)]
+pub(crate) enum Relation {
+    AtMost,
+    AtLeast,
+    Exactly,
+}
+
+#[derive(Clone, Copy)]
+pub(crate) enum TokenKind {
+    // the words of a section, as the first of a line
+    SectionWords(Section),
+    Word,
+    Literal,
+    Plus,
+    Minus,
+    Colon,
+    Compared(Relation),
+    // a byte that begins no token
+    Stray,
+}
+
+impl TokenKind {
+    pub(crate) fn is_name(self) -> bool
+        ensures { result ≡ is_name_kind self }
+    {
+        match self {
+            TokenKind::Word => true,
+            _ => false,
+        }
+    }
+}
+
+// A token with the number of its line.
+#[derive(Drop)]
+pub(crate) struct Token<'a> {
+    line: usize,
+    kind: TokenKind,
+    text: &'a str,
+}
+
+impl<'a> Model for Token<'a> {
+    ghost use Rattle.cplex_lp_reader.specs.Tokens.{Token as TokenOf};
+
+    ghost Value = { TokenOf };
+
+    ghost view = { λ t. record { line = t.line; kind = t.kind; text = t.text.now } };
+}
+
+impl<'a> Token<'a> {
+    pub(crate) fn new(line: usize, kind: TokenKind, text: &'a str) -> Self
+        ensures { result ≡ record { line = line; kind = kind; text = text.now } }
+    {
+        Token { line, kind, text }
+    }
+
+    pub(crate) fn line(&self) -> usize
+        ensures { result ≡ self.now.line }
+    {
+        self.line
+    }
+
+    pub(crate) fn kind(&self) -> TokenKind
+        ensures { result ≡ self.now.kind }
+    {
+        self.kind
+    }
+
+    pub(crate) fn text(&self) -> &'a str
+        ensures { result.now ≡ self.now.text }
+    {
+        self.text
+    }
+
+    // It is made the words of a section.
+    pub(crate) fn make_section(&mut self, section: Section)
+        ensures { self.new ≡ as_section_words section self.old }
+    {
+        self.kind = TokenKind::SectionWords(section);
+    }
+}
