@@ -23,8 +23,6 @@ pub enum FaultKind {
     TooMany,
     /// The text ends before its end is declared.
     NoEnd,
-    /// A row where rows aren't read.
-    RowsNotYet,
     /// An integer column where integer columns aren't read.
     IntegersNotYet,
 }
@@ -43,7 +41,6 @@ impl FaultKind {
             FaultKind::Twice => "Twice",
             FaultKind::TooMany => "TooMany",
             FaultKind::NoEnd => "NoEnd",
-            FaultKind::RowsNotYet => "RowsNotYet",
             FaultKind::IntegersNotYet => "IntegersNotYet",
         }
     }

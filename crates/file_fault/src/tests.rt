@@ -5,11 +5,11 @@ use crate::{FaultKind, FileFault};
 fn names_its_kind(rt: HostRuntime) {
     let fault = FileFault {
         line: 3,
-        kind: FaultKind::RowsNotYet,
+        kind: FaultKind::IntegersNotYet,
     };
-    assert!(rt; fault.kind.as_str() == "RowsNotYet");
+    assert!(rt; fault.kind.as_str() == "IntegersNotYet");
     let Ok(text) = format!(in rt.alloc(); "file fault: line {}: {}", fault.line, fault.kind) else {
         panic!(rt; "memory for a line");
     };
-    assert!(rt; text.as_str() == "file fault: line 3: RowsNotYet");
+    assert!(rt; text.as_str() == "file fault: line 3: IntegersNotYet");
 }

@@ -9,7 +9,7 @@ use Rattle.rational.specs.Rational.{Rational}
 use Rattle.fraction.specs.Literal.{read_of}
 use Rattle.milp.specs.Problem.{Column, Row, Problem}
 use Rattle.file_fault.specs.declared.fault.FaultKind.{FaultKind}
-use Rattle.file_fault.specs.declared.fault.FaultKind.TheVariants.{BadSection, BadLine, NoEnd, Unknown, Twice, TooMany, RowsNotYet, IntegersNotYet}
+use Rattle.file_fault.specs.declared.fault.FaultKind.TheVariants.{BadSection, BadLine, NoEnd, Unknown, Twice, TooMany, IntegersNotYet}
 use Rattle.file_fault.specs.declared.fault.FileFault.{FileFault}
 use Rattle.mps_reader.specs.declared.profile.Profile.{Profile}
 use Rattle.mps_reader.specs.declared.section.Section.{Section}
@@ -27,7 +27,7 @@ use Rattle.mps_reader.specs.Declaration.{is_free, may_follow, DeclaredRow, new_r
 use Rattle.mps_reader.specs.Steps.{then_do, at_end, with_number}
 use Rattle.mps_reader.specs.RowsAndColumns.{row_kind_of, makes_objective, with_new_row, row_of_kind, row_line, marker_of, is_marker, with_integers, turned, marker_line, new_column, is_the_name, at_column, given, is_entry_too_many, with_entry, at_value, at_row, at_entry, after_pair, at_second_entry, at_entries, column_line}
 use Rattle.mps_reader.specs.RhsRangesBounds.{is_of_first_set, with_set, Pair, Pairs, pairs_of, PairStep, second_pair, both_pairs, pairs_line, rhs_added, rhs_on_row, rhs_pair, rhs_of, range_of, range_added, with_range, range_on_row, range_pair, step_of, pair_line, bound_kind_of, has_value, makes_integer, bounded, BoundFields, bound_fields, bound_value, with_bound, bound_on_column, bound_with_fields, bound_of_kind, bound_line}
-use Rattle.mps_reader.specs.FreeMps.{section_of, in_section, after_word, is_of_rows, with_section, at_section, header_line, data_line, is_ended, is_passed_over, text_line, with_line, declared_from, finished, declared_within, declared}
+use Rattle.mps_reader.specs.FreeMps.{section_of, in_section, after_word, at_section, header_line, data_line, is_ended, is_passed_over, text_line, with_line, declared_from, finished, declared_within, declared}
 use Rattle.mps_reader.specs.Finished.{finished_row, problem_with, problem_of}
 use Rattle.mps_reader.proofs.StepsKeep.{test-keeps, then_do-keeps, at_end-keeps, with_number-keeps, at_line-keeps}
 
@@ -38,13 +38,8 @@ record IsSimple (profile : Profile) (d : Declaration) : Type 0 where
   continuous : profile.takes_integers ≡ false → All IsContinuous d.columns
   -- a column that begins now is not an integer one
   outside : profile.takes_integers ≡ false → d.in_integers ≡ false
-  no_rows : profile.takes_rows ≡ false → d.rows ≡ []
 
 -- ---- what a bound and a new number change
-
-none-changed : {X : Type 0} (p : X → Bool) (f : X → X) (xs : List X) → xs ≡ [] → with_first_changed p f xs ≡ []
-none-changed p f [] e = refl
-none-changed p f (x ∷ xs) e = cc
 
 first-changed : {X : Type 0} (P : X → Type 0) (p : X → Bool) (f : X → X) → ((x : X) → P x → P (f x)) → (xs : List X) → All P xs → All P (with_first_changed p f xs)
 first-changed P p f keeps [] a = a
@@ -66,10 +61,6 @@ neither true true e f = cc
 neither true false e f = cc
 neither false b e f = refl
 
-is-taken : (b : Bool) → not b ≡ false → b ≡ false → ⊥
-is-taken true e f = cc
-is-taken false e f = cc
-
 module _ (profile : Profile) where
   abbrev Simple : Declaration → Type 0
   Simple d = IsSimple profile d
@@ -80,38 +71,29 @@ module _ (profile : Profile) where
   with_row-keeps : (f : DeclaredRow → DeclaredRow) (name : List ℕ) (d : Declaration) → Simple d → Simple (with_row f name d)
   with_row-keeps f name d s =
       test-keeps Simple (is_objective_named name d.objective) (record d { objective = option_map f d.objective }) (record d { rows = with_first_changed (is_row_named name) f d.rows })
-      (λ _. record { continuous = s.continuous; outside = s.outside; no_rows = s.no_rows })
-      (λ _. record { continuous = s.continuous; outside = s.outside; no_rows = λ e. none-changed (is_row_named name) f d.rows (s.no_rows e) })
+      (λ _. record { continuous = s.continuous; outside = s.outside })
+      (λ _. record { continuous = s.continuous; outside = s.outside })
 
   -- ---- headers
 
-  with_section-keeps : (section : Section) (d : Declaration) → Simple d → Keeps (with_section profile section d)
-  with_section-keeps section d s = test-keeps Keeps (is_of_rows section && not profile.takes_rows) (Err RowsNotYet) (Ok (in_section section d)) (λ _. tt) (λ _. record { continuous = s.continuous; outside = s.outside; no_rows = s.no_rows })
-
-  at_section-keeps : (d : Declaration) → Simple d → (section : Option Section) (fields : List (List ℕ)) → Keeps (at_section profile d section fields)
+  at_section-keeps : (d : Declaration) → Simple d → (section : Option Section) (fields : List (List ℕ)) → Keeps (at_section d section fields)
   at_section-keeps d s None fields = tt
   at_section-keeps d s (Some section) fields =
-      test-keeps Keeps (may_follow d.section section) (then_do (with_section profile section) (at_end (after_word section fields) d)) (Err BadSection)
-      (λ _. then_do-keeps Simple Simple (with_section profile section) (at_end (after_word section fields) d) (at_end-keeps Simple (after_word section fields) d s) (with_section-keeps section))
+      test-keeps Keeps (may_follow d.section section) (at_end (after_word section fields) (in_section section d)) (Err BadSection)
+      (λ _. at_end-keeps Simple (after_word section fields) (in_section section d) (record { continuous = s.continuous; outside = s.outside }))
       (λ _. tt)
 
-  header_line-keeps : (d : Declaration) → Simple d → (fields : List (List ℕ)) → Keeps (header_line profile d fields)
+  header_line-keeps : (d : Declaration) → Simple d → (fields : List (List ℕ)) → Keeps (header_line d fields)
   header_line-keeps d s [] = tt
   header_line-keeps d s (word ∷ fields) = at_section-keeps d s (section_of word) fields
 
   -- ---- ROWS
 
-  refused : {A : Type 0} (r : Result A FaultKind) → Keeps (then_do (λ _. Err RowsNotYet) r)
-  refused (Ok a) = tt
-  refused (Err kind) = tt
-
   with_new_row-keeps : (d : Declaration) → Simple d → (name : List ℕ) (kind : RowKind) (fields : List (List ℕ)) → Keeps (with_new_row profile d name kind fields)
   with_new_row-keeps d s name kind fields =
-      test-keeps Keeps (not profile.takes_rows) (then_do (λ _. Err RowsNotYet) (at_end fields d)) (if nat_le profile.rows (length d.rows) then Err TooMany else at_end fields (record d { rows = d.rows ++ new_row name kind ∷ [] }))
-      (λ _. refused (at_end fields d))
-      (λ taken. test-keeps Keeps (nat_le profile.rows (length d.rows)) (Err TooMany) (at_end fields (record d { rows = d.rows ++ new_row name kind ∷ [] }))
+      test-keeps Keeps (nat_le profile.rows (length d.rows)) (Err TooMany) (at_end fields (record d { rows = d.rows ++ new_row name kind ∷ [] }))
       (λ _. tt)
-      (λ _. at_end-keeps Simple fields (record d { rows = d.rows ++ new_row name kind ∷ [] }) (record { continuous = s.continuous; outside = s.outside; no_rows = λ e. absurd (is-taken profile.takes_rows taken e) })))
+      (λ _. at_end-keeps Simple fields (record d { rows = d.rows ++ new_row name kind ∷ [] }) (record { continuous = s.continuous; outside = s.outside }))
 
   row_of_kind-keeps : (d : Declaration) → Simple d → (kind : Option RowKind) (fields : List (List ℕ)) → Keeps (row_of_kind profile d kind fields)
   row_of_kind-keeps d s None fields = tt
@@ -120,7 +102,7 @@ module _ (profile : Profile) where
       test-keeps Keeps (is_row d name) (Err Twice) (if makes_objective kind d.objective then at_end fields (record d { objective = Some (new_row name Objective) }) else with_new_row profile d name kind fields)
       (λ _. tt)
       (λ _. test-keeps Keeps (makes_objective kind d.objective) (at_end fields (record d { objective = Some (new_row name Objective) })) (with_new_row profile d name kind fields)
-      (λ _. at_end-keeps Simple fields (record d { objective = Some (new_row name Objective) }) (record { continuous = s.continuous; outside = s.outside; no_rows = s.no_rows }))
+      (λ _. at_end-keeps Simple fields (record d { objective = Some (new_row name Objective) }) (record { continuous = s.continuous; outside = s.outside }))
       (λ _. with_new_row-keeps d s name kind fields))
 
   row_line-keeps : (d : Declaration) → Simple d → (fields : List (List ℕ)) → Keeps (row_line profile d fields)
@@ -132,7 +114,7 @@ module _ (profile : Profile) where
   with_integers-keeps : (d : Declaration) → Simple d → Keeps (with_integers profile d)
   with_integers-keeps d s =
       test-keeps Keeps profile.takes_integers (Ok (record d { current = None; in_integers = true })) (Err IntegersNotYet)
-      (λ taken. record { continuous = s.continuous; outside = λ e. sym taken ∙ e; no_rows = s.no_rows })
+      (λ taken. record { continuous = s.continuous; outside = λ e. sym taken ∙ e })
       (λ _. tt)
 
   turned-keeps : (d : Declaration) → Simple d → (begins : Option Bool) (fields : List (List ℕ)) → Keeps (turned profile d begins fields)
@@ -143,7 +125,7 @@ module _ (profile : Profile) where
       (λ _. then_do-keeps Simple Simple (with_integers profile) (at_end fields d) (at_end-keeps Simple fields d s) with_integers-keeps)
   turned-keeps d s (Some false) fields =
       test-keeps Keeps d.in_integers (at_end fields (record d { current = None; in_integers = false })) (Err BadLine)
-      (λ _. at_end-keeps Simple fields (record d { current = None; in_integers = false }) (record { continuous = s.continuous; outside = λ _. refl; no_rows = s.no_rows }))
+      (λ _. at_end-keeps Simple fields (record d { current = None; in_integers = false }) (record { continuous = s.continuous; outside = λ _. refl }))
       (λ _. tt)
 
   marker_line-keeps : (d : Declaration) → Simple d → (fields : List (List ℕ)) → Keeps (marker_line profile d fields)
@@ -157,7 +139,7 @@ module _ (profile : Profile) where
       (λ _. test-keeps Keeps (is_the_name d.current name) (Ok d) (Err Twice) (λ _. s) (λ _. tt))
       (λ _. test-keeps Keeps (nat_le profile.columns (length d.columns)) (Err TooMany) (Ok (record d { columns = d.columns ++ new_column name d.in_integers ∷ []; current = Some name }))
       (λ _. tt)
-      (λ _. record { continuous = λ e. All-push IsContinuous d.columns (new_column name d.in_integers) (s.continuous e) (s.outside e); outside = s.outside; no_rows = s.no_rows }))
+      (λ _. record { continuous = λ e. All-push IsContinuous d.columns (new_column name d.in_integers) (s.continuous e) (s.outside e); outside = s.outside }))
 
   with_entry-keeps : (d : Declaration) → Simple d → (row : List ℕ) (value : Rational) → Keeps (with_entry profile d row value)
   with_entry-keeps d s row value = test-keeps Keeps (is_entry_too_many profile d row value) (Err TooMany) (Ok (with_row (given (length d.columns) value) row d)) (λ _. tt) (λ _. with_row-keeps (given (length d.columns) value) row d s)
@@ -191,7 +173,7 @@ module _ (profile : Profile) where
   -- ---- RHS and RANGES
 
   with_set-keeps : (set : Option (List ℕ)) (d : Declaration) → Simple d → Simple (with_set set d)
-  with_set-keeps set d s = record { continuous = s.continuous; outside = s.outside; no_rows = s.no_rows }
+  with_set-keeps set d s = record { continuous = s.continuous; outside = s.outside }
 
   second_pair-keeps : (step : PairStep) → ((d : Declaration) → Simple d → (pair : Pair) → Keeps (step d pair)) → (pair : Option Pair) (d : Declaration) → Simple d → Keeps (second_pair step pair d)
   second_pair-keeps step keeps None d s = s
@@ -246,7 +228,6 @@ module _ (profile : Profile) where
       (λ allowed. record {
         continuous = λ e. first-changed IsContinuous (is_column_named column) (bounded kind value) (bounded-continuous kind value (neither (makes_integer kind) profile.takes_integers allowed e)) d.columns (s.continuous e);
         outside = s.outside;
-        no_rows = s.no_rows;
       })
 
   bound_on_column-keeps : (d : Declaration) → Simple d → (kind : BoundKind) (b : BoundFields) → Keeps (bound_on_column profile d kind b)
@@ -284,9 +265,9 @@ module _ (profile : Profile) where
 
   text_line-keeps : (d : Declaration) → Simple d → (line : List ℕ) → Keeps (text_line profile d line)
   text_line-keeps d s line =
-      test-keeps Keeps (not (is_utf8 line)) (Err BadLine) (if is_header line then header_line profile d (fields_of line) else data_line profile d.section d (fields_of line))
+      test-keeps Keeps (not (is_utf8 line)) (Err BadLine) (if is_header line then header_line d (fields_of line) else data_line profile d.section d (fields_of line))
       (λ _. tt)
-      (λ _. test-keeps Keeps (is_header line) (header_line profile d (fields_of line)) (data_line profile d.section d (fields_of line))
+      (λ _. test-keeps Keeps (is_header line) (header_line d (fields_of line)) (data_line profile d.section d (fields_of line))
       (λ _. header_line-keeps d s (fields_of line))
       (λ _. data_line-keeps d.section d s (fields_of line)))
 
@@ -298,7 +279,7 @@ module _ (profile : Profile) where
   declared_from-keeps n d s (line ∷ lines) = at_line-keeps Simple n (λ more. declared_from profile (n + 1) more lines) (with_line profile d line) (with_line-keeps d s line) (λ more t. declared_from-keeps (n + 1) more t lines)
 
   nothing-is-simple : Simple nothing_declared
-  nothing-is-simple = record { continuous = λ e. All-nil IsContinuous; outside = λ e. refl; no_rows = λ e. refl }
+  nothing-is-simple = record { continuous = λ e. All-nil IsContinuous; outside = λ e. refl }
 
   -- what holds of the problem of a simple declaration holds of a problem that a text declares
   of-finished : (P : Problem → Type 0) → ((d : Declaration) → Simple d → P (problem_of d)) → (r : Result Declaration FileFault) → IfOk r (IsSimple profile) → (p : Problem) → finished r ≡ Ok p → P p
@@ -318,10 +299,6 @@ same-rows : (columns : List Column) (rows : List Row) (objective : Option Declar
 same-rows columns rows None = refl
 same-rows columns rows (Some objective) = refl
 
-no-finished : (rows : List DeclaredRow) → rows ≡ [] → map finished_row rows ≡ []
-no-finished [] e = refl
-no-finished (r ∷ rows) e = cc
-
 element-of-all : {X : Type 0} (P : X → Type 0) (xs : List X) → All P xs → (j : ℕ) → IfSome (slice_get xs j) P
 element-of-all P [] a j = tt
 element-of-all P (x ∷ xs) a zero = All-head P x xs a
@@ -330,11 +307,5 @@ element-of-all P (x ∷ xs) a (suc j) = element-of-all P xs (All-tail P x xs a) 
 pub columns_are_continuous : (profile : Profile) (text : List ℕ) (p : Problem) → profile.takes_integers ≡ false → declared_within profile text ≡ Ok p → (j : ℕ) → IfSome (slice_get p.columns j) (λ c. c.integer ≡ false)
 columns_are_continuous profile text p untaken e = element-of-all IsContinuous p.columns (of-declared profile (λ (q : Problem). All IsContinuous q.columns) (λ d s. subst (All IsContinuous) (sym (same-columns d.columns (map finished_row d.rows) d.objective)) (s.continuous untaken)) text p e)
 
-pub there_are_no_rows : (profile : Profile) (text : List ℕ) (p : Problem) → profile.takes_rows ≡ false → declared_within profile text ≡ Ok p → p.rows ≡ []
-there_are_no_rows profile text p untaken e = of-declared profile (λ (q : Problem). q.rows ≡ []) (λ d s. same-rows d.columns (map finished_row d.rows) d.objective ∙ no-finished d.rows (s.no_rows untaken)) text p e
-
 pub declared_columns_are_continuous : (text : List ℕ) (p : Problem) → declared text ≡ Ok p → (j : ℕ) → IfSome (slice_get p.columns j) (λ c. c.integer ≡ false)
 declared_columns_are_continuous text p e = columns_are_continuous reader_profile text p refl e
-
-pub declared_rows_are_none : (text : List ℕ) (p : Problem) → declared text ≡ Ok p → p.rows ≡ []
-declared_rows_are_none text p e = there_are_no_rows reader_profile text p refl e

@@ -5,7 +5,7 @@ use Rattle.std.specs.List.{list_all}
 use Rattle.std.specs.Str.{bytes_eq, is_utf8}
 use Rattle.milp.specs.Problem.{Problem}
 use Rattle.file_fault.specs.declared.fault.FaultKind.{FaultKind}
-use Rattle.file_fault.specs.declared.fault.FaultKind.TheVariants.{BadSection, BadLine, NoEnd, RowsNotYet}
+use Rattle.file_fault.specs.declared.fault.FaultKind.TheVariants.{BadSection, BadLine, NoEnd}
 use Rattle.file_fault.specs.declared.fault.FileFault.{FileFault}
 use Rattle.mps_reader.specs.declared.profile.Profile.{Profile}
 use Rattle.mps_reader.specs.declared.section.Section.{Section}
@@ -47,28 +47,13 @@ after_word Ranges fields = fields
 after_word Bounds fields = fields
 after_word Ended fields = fields
 
--- RHS and RANGES speak of rows
-abbrev pub is_of_rows : Section → Bool
-is_of_rows Rhs = true
-is_of_rows Ranges = true
-is_of_rows Start = false
-is_of_rows NameLine = false
-is_of_rows Rows = false
-is_of_rows Columns = false
-is_of_rows Bounds = false
-is_of_rows Ended = false
+abbrev pub at_section : Declaration → Option Section → List (List ℕ) → Result Declaration FaultKind
+at_section d None fields = Err BadSection
+at_section d (Some section) fields = if may_follow d.section section then at_end (after_word section fields) (in_section section d) else Err BadSection
 
-abbrev pub with_section : Profile → Section → Declaration → Result Declaration FaultKind
-with_section profile section d = if is_of_rows section && not profile.takes_rows then Err RowsNotYet else Ok (in_section section d)
-
-abbrev pub at_section : Profile → Declaration → Option Section → List (List ℕ) → Result Declaration FaultKind
-at_section profile d None fields = Err BadSection
-at_section profile d (Some section) fields =
-    if may_follow d.section section then then_do (with_section profile section) (at_end (after_word section fields) d) else Err BadSection
-
-abbrev pub header_line : Profile → Declaration → List (List ℕ) → Result Declaration FaultKind
-header_line profile d [] = Err BadSection
-header_line profile d (word ∷ fields) = at_section profile d (section_of word) fields
+abbrev pub header_line : Declaration → List (List ℕ) → Result Declaration FaultKind
+header_line d [] = Err BadSection
+header_line d (word ∷ fields) = at_section d (section_of word) fields
 
 -- ---- lines
 
@@ -106,7 +91,7 @@ is_passed_over line = is_comment line || list_all is_blank line
 abbrev pub text_line : Profile → Declaration → List ℕ → Result Declaration FaultKind
 text_line profile d line =
     if not (is_utf8 line) then Err BadLine
-    else if is_header line then header_line profile d (fields_of line)
+    else if is_header line then header_line d (fields_of line)
     else data_line profile d.section d (fields_of line)
 
 -- nothing after ENDATA is read

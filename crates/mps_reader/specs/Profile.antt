@@ -8,12 +8,11 @@ pub record IsWithinInstance (profile : Profile) : Type 0 where
   pub columns : profile.columns ≤ 100_000
   pub entries : profile.entries ≤ 2_000_000
 
--- today's reader: neither rows nor integer columns are read
+-- today's reader: integer columns are not read
 abbrev pub reader_profile : Profile
 reader_profile = record {
   rows = 100_000;
   columns = 100_000;
   entries = 2_000_000;
-  takes_rows = false;
   takes_integers = false;
 }

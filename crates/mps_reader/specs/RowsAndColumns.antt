@@ -6,7 +6,7 @@ use Rattle.rational.specs.Rational.{Rational, zero_ℚ}
 use Rattle.fraction.specs.Literal.{read_of}
 use Rattle.milp.specs.Problem.{Column}
 use Rattle.file_fault.specs.declared.fault.FaultKind.{FaultKind}
-use Rattle.file_fault.specs.declared.fault.FaultKind.TheVariants.{BadLine, Unknown, Twice, TooMany, RowsNotYet, IntegersNotYet}
+use Rattle.file_fault.specs.declared.fault.FaultKind.TheVariants.{BadLine, Unknown, Twice, TooMany, IntegersNotYet}
 use Rattle.mps_reader.specs.declared.profile.Profile.{Profile}
 use Rattle.mps_reader.specs.declared.row.RowKind.{RowKind}
 use Rattle.mps_reader.specs.declared.row.RowKind.TheVariants.{Objective, Free, AtMost, AtLeast, Exactly}
@@ -27,11 +27,10 @@ row_kind_of word =
 abbrev pub makes_objective : RowKind → Option DeclaredRow → Bool
 makes_objective kind objective = is_free kind && not (is_some objective)
 
--- one more row, where rows are taken
+-- one more row
 abbrev pub with_new_row : Profile → Declaration → List ℕ → RowKind → List (List ℕ) → Result Declaration FaultKind
 with_new_row profile d name kind fields =
-    if not profile.takes_rows then then_do (λ _. Err RowsNotYet) (at_end fields d)
-    else if nat_le profile.rows (length d.rows) then Err TooMany
+    if nat_le profile.rows (length d.rows) then Err TooMany
     else at_end fields (record d { rows = d.rows ++ new_row name kind ∷ [] })
 
 abbrev pub row_of_kind : Profile → Declaration → Option RowKind → List (List ℕ) → Result Declaration FaultKind

@@ -1,17 +1,14 @@
-// What a reader that doesn't take rows or integer columns yet has none of.
-ghost use Rattle.std.specs.Prelude.{◌≡◌, ℕ, List, [], false, slice_get, IfSome, Ok};
+// What a reader that doesn't take integer columns yet has none of.
+ghost use Rattle.std.specs.Prelude.{◌≡◌, ℕ, List, false, slice_get, IfSome, Ok};
 ghost use Rattle.milp.specs.Problem.{Problem};
 ghost use Rattle.mps_reader.specs.declared.profile.Profile.{Profile};
 ghost use Rattle.mps_reader.specs.FreeMps.{declared_within, declared};
 
-/// A text that is read has no integer columns while integer columns aren't read, and no rows while rows aren't read.
-#[tactic(auto, using(crate::proofs::Simple::columns_are_continuous, crate::proofs::Simple::declared_columns_are_continuous, crate::proofs::Simple::there_are_no_rows, crate::proofs::Simple::declared_rows_are_none))]
-pub fn declared_problems_are_simple()
+/// A text that is read has no integer columns while integer columns aren't read.
+#[tactic(auto, using(crate::proofs::Simple::columns_are_continuous, crate::proofs::Simple::declared_columns_are_continuous))]
+pub fn declared_problems_are_continuous()
     ensures continuous { (profile : Profile) (text : List ℕ) (p : Problem) → profile.takes_integers ≡ false
         → declared_within profile text ≡ Ok p → (j : ℕ) → IfSome (slice_get p.columns j) (λ c. c.integer ≡ false) }
-    ensures no_rows { (profile : Profile) (text : List ℕ) (p : Problem) → profile.takes_rows ≡ false
-        → declared_within profile text ≡ Ok p → p.rows ≡ [] }
     ensures continuous_today { (text : List ℕ) (p : Problem) → declared text ≡ Ok p
         → (j : ℕ) → IfSome (slice_get p.columns j) (λ c. c.integer ≡ false) }
-    ensures no_rows_today { (text : List ℕ) (p : Problem) → declared text ≡ Ok p → p.rows ≡ [] }
 {}

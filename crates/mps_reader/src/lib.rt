@@ -26,5 +26,5 @@ mod tests;
 
 pub use error::MpsError;
 pub use file_fault::{FaultKind, FileFault};
-pub use laws::declared_problems_are_simple;
+pub use laws::declared_problems_are_continuous;
 pub use read::read_mps;

@@ -70,7 +70,7 @@ fn text_line<'a>(
     };
     let fields = fields_in(alloc, text)?;
     if is_header(line) {
-        header_line(profile, draft, &fields)
+        header_line(draft, &fields)
     } else {
         data_line(alloc, profile, draft, &fields)
     }
@@ -78,35 +78,27 @@ fn text_line<'a>(
 
 // ---- headers
 
-fn header_line(profile: &Profile, draft: &mut Draft, fields: &[&str]) -> Result<(), LineError>
-    ensures { Follows result draft.new (header_line_of profile.now draft.old (map (λ f. f.now) fields.now)) }
+fn header_line(draft: &mut Draft, fields: &[&str]) -> Result<(), LineError>
+    ensures { Follows result draft.new (header_line_of draft.old (map (λ f. f.now) fields.now)) }
 {
     match fields {
         [] => Err(LineError::Fault(FaultKind::BadSection)),
         [word, rest @ ..] => match Section::of_word(word) {
             None => Err(LineError::Fault(FaultKind::BadSection)),
-            Some(section) => at_section(profile, draft, section, rest),
+            Some(section) => at_section(draft, section, rest),
         },
     }
 }
 
 // What follows NAME isn't looked at, and nothing follows another header's word.
-fn at_section(
-    profile: &Profile,
-    draft: &mut Draft,
-    section: Section,
-    rest: &[&str],
-) -> Result<(), LineError>
-    ensures { Follows result draft.new (at_new_section profile.now draft.old (Some section) (map (λ f. f.now) rest.now)) }
+fn at_section(draft: &mut Draft, section: Section, rest: &[&str]) -> Result<(), LineError>
+    ensures { Follows result draft.new (at_new_section draft.old (Some section) (map (λ f. f.now) rest.now)) }
 {
     if !draft.section().may_be_followed(section) {
         return Err(LineError::Fault(FaultKind::BadSection));
     }
     if has_more(section, rest) {
         return Err(LineError::Fault(FaultKind::BadLine));
-    }
-    if section.is_of_rows() && !profile.takes_rows {
-        return Err(LineError::Fault(FaultKind::RowsNotYet));
     }
     draft.enter(section);
     Ok(())

@@ -9,7 +9,6 @@ pub(crate) struct Profile {
     pub(crate) rows: usize,
     pub(crate) columns: usize,
     pub(crate) entries: usize,
-    pub(crate) takes_rows: bool,
     pub(crate) takes_integers: bool,
 }
 
@@ -22,7 +21,6 @@ pub(crate) fn reader_profile() -> Profile
         rows: 100_000,
         columns: 100_000,
         entries: 2_000_000,
-        takes_rows: false,
         takes_integers: false,
     }
 }

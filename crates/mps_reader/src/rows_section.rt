@@ -72,7 +72,7 @@ fn new_objective<'a>(
     Ok(())
 }
 
-// One more row, where rows are taken.
+// One more row.
 fn new_row<'a>(
     alloc: Global,
     profile: &Profile,
@@ -85,13 +85,6 @@ fn new_row<'a>(
     requires new { is_row draft.old name.now ≡ false }
     ensures { Follows result draft.new (one_more_row profile.now draft.old name.now kind (map (λ f. f.now) rest.now)) }
 {
-    if !profile.takes_rows {
-        return Err(LineError::Fault(if rest.is_empty() {
-            FaultKind::RowsNotYet
-        } else {
-            FaultKind::BadLine
-        }));
-    }
     if draft.row_count() >= profile.rows {
         return Err(LineError::Fault(FaultKind::TooMany));
     }

@@ -1,7 +1,7 @@
 // The sections of a text.
 ghost use Rattle.std.specs.Prelude.{◌≡◌, ◌≤◌};
 ghost use Rattle.mps_reader.specs.Declaration.{rank as rank_of, furthest as furthest_after, may_follow as may_follow_section};
-ghost use Rattle.mps_reader.specs.FreeMps.{section_of, is_ended as is_last, is_of_rows as speaks_of_rows};
+ghost use Rattle.mps_reader.specs.FreeMps.{section_of, is_ended as is_last};
 
 // The sections in their order; `Start` is before the first header, and `Ended` after the last one.
 #[derive(Clone, Copy)]
@@ -86,21 +86,6 @@ impl Section {
             | Section::Rhs
             | Section::Ranges
             | Section::Bounds => false,
-        }
-    }
-
-    // RHS and RANGES speak of rows.
-    pub(crate) fn is_of_rows(self) -> bool
-        ensures { result ≡ speaks_of_rows self }
-    {
-        match self {
-            Section::Rhs | Section::Ranges => true,
-            Section::Start
-            | Section::NameLine
-            | Section::Rows
-            | Section::Columns
-            | Section::Bounds
-            | Section::Ended => false,
         }
     }
 }

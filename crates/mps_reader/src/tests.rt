@@ -76,6 +76,7 @@ const FAULTS: &str = "\
 10 Unknown @RANGES/ R g 1
 10 Unknown @BOUNDS/ UP b y 1
 10 Unknown @BOUNDS/ FR y
+3 BadLine ROWS/ N cost/ E e more
 3 Twice ROWS/ N cost/ N cost
 3 Twice ROWS/ N cost/ L cost
 4 Twice ROWS/ N cost/ L c/ G c
@@ -96,17 +97,6 @@ const FAULTS: &str = "\
 10 IntegersNotYet @BOUNDS/ BV x
 10 IntegersNotYet @BOUNDS/ LI b x 1
 10 IntegersNotYet @BOUNDS/ UI x 1
-";
-
-const FAULTS_WITHOUT_ROWS: &str = "\
-2 RowsNotYet ROWS/ L c
-3 RowsNotYet ROWS/ N cost/ N f
-3 RowsNotYet ROWS/ N cost/ E e
-3 BadLine ROWS/ N cost/ E e more
-3 Twice ROWS/ N cost/ L cost
-5 RowsNotYet ROWS/ N cost/COLUMNS/ x cost 1/RHS
-5 RowsNotYet ROWS/ N cost/COLUMNS/ x cost 1/RANGES
-5 BadLine ROWS/ N cost/COLUMNS/ x cost 1/RHS more
 ";
 
 const FAULTS_WITH_INTEGERS: &str = "\
@@ -158,25 +148,14 @@ fn check_faults(rt: &impl Abort, alloc: Global, profile: &Profile, table: &str) 
     Ok(())
 }
 
-// A reader that takes rows too.
-fn row_profile() -> Profile
-    ensures { IsWithinInstance result }
-{
-    Profile {
-        takes_rows: true,
-        ..reader_profile()
-    }
-}
-
 #[test]
 fn first_faults(rt: HostRuntime) -> Result<(), Fail> {
-    check_faults(&rt, rt.alloc(), &row_profile(), FAULTS)
+    check_faults(&rt, rt.alloc(), &reader_profile(), FAULTS)
 }
 
 #[test]
 fn first_faults_in_other_profiles(rt: HostRuntime) -> Result<(), Fail> {
-    let reader = row_profile();
-    check_faults(&rt, rt.alloc(), &reader_profile(), FAULTS_WITHOUT_ROWS)?;
+    let reader = reader_profile();
     let with_integers = Profile {
         takes_integers: true,
         ..reader
@@ -257,7 +236,7 @@ fn reads_columns_and_bounds(rt: HostRuntime) {
 fn reads_rows_and_their_sides(rt: HostRuntime) {
     let text =
         b"ROWS\n N obj\n L r.1\n L r.2\nCOLUMNS\n x obj 3 r.1 1\n x r.2 1\n y obj 2 r.1 1\n y r.2 3\nRHS\n R r.1 4 r.2 6\nBOUNDS\n UP b x 3\nENDATA\n";
-    let Ok(problem) = read_within(rt.alloc(), &row_profile(), text) else {
+    let Ok(problem) = read_mps(rt.alloc(), text) else {
         panic!(rt; "a problem");
     };
     assert!(rt; are_entries(problem.objective().as_slice(), &[(0, (3, 1)), (1, (2, 1))]));
@@ -279,7 +258,7 @@ fn reads_rows_and_their_sides(rt: HostRuntime) {
 fn reads_ranges(rt: HostRuntime) {
     let text =
         b"ROWS\n N cost\n E c1\n G c2\n L c3\n E c4\n N c5\nCOLUMNS\n x cost 1 c1 1\nRHS\n R c1 5 c2 1\n R c5 7\nRANGES\n G c1 -2 c2 -.5\n G c3 3 c4 2\nENDATA\n";
-    let Ok(problem) = read_within(rt.alloc(), &row_profile(), text) else {
+    let Ok(problem) = read_mps(rt.alloc(), text) else {
         panic!(rt; "a problem");
     };
     let [c1, c2, c3, c4, c5] = problem.rows() else {
@@ -299,7 +278,7 @@ fn reads_integers(rt: HostRuntime) {
         b"* Problem:    small\nNAME small\nROWS\n N cost\n G c1\nCOLUMNS\n M0001 'MARKER' 'INTORG'\n x cost 1 c1 2\n M0002 'MARKER' 'INTEND'\n y cost 0\nRHS\n RHS1 cost 10 c1 3\nBOUNDS\n FR BND1 y\nENDATA\n";
     let profile = Profile {
         takes_integers: true,
-        ..row_profile()
+        ..reader_profile()
     };
     let Ok(problem) = read_within(rt.alloc(), &profile, text) else {
         panic!(rt; "a problem");
