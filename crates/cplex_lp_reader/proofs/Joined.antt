@@ -1,5 +1,5 @@
 -- A term is added to the entry of its column.
-use Rattle.std.proofs.Common.{◌≡◌, ◌∙◌, ℕ, ◌+◌, ◌<◌, ◌==◌, Bool, true, false, List, [], ◌∷◌, ◌++◌, length, take, drop, get_or, set, Result, Ok, Err, if◌then◌else◌, sym, ap, refl, inl, inr, arith}
+use Rattle.std.proofs.Common.{◌≡◌, ◌∙◌, ℕ, ◌+◌, ◌<◌, true, List, ◌∷◌, ◌++◌, length, take, drop, get_or, set, Result, Ok, Err, sym, ap, refl, inl, inr, arith}
 use Rattle.std.proofs.lemmas.List.{drop_more, drop_all, take-append-drop, take-set, drop-set-lt, get_or-set_same}
 use Rattle.std.proofs.Math.ListN.{length-set}
 use Rattle.std.proofs.lemmas.Bool.{cases_lt}
@@ -7,10 +7,8 @@ use Rattle.rational.specs.Rational.{Rational}
 use Rattle.fraction.specs.Answers.{add_answer}
 use Rattle.milp.specs.Form.{Entry}
 use Rattle.file_fault.specs.declared.fault.FileFault.{FileFault}
-use Rattle.cplex_lp_reader.specs.declared.error.LpError.{LpError}
-use Rattle.cplex_lp_reader.specs.declared.error.LpError.TheVariants.{Fault, NoMemory}
 use Rattle.cplex_lp_reader.specs.Follows.{as_read}
-use Rattle.cplex_lp_reader.specs.Steps.{fitting_at, then_do}
+use Rattle.cplex_lp_reader.specs.Steps.{fitting_at}
 use Rattle.cplex_lp_reader.specs.Declaration.{no_entry, begins_with, joined}
 
 pub read-ok : {A : Type 0} (answer : Result A FileFault) (a : A) → as_read answer ≡ Ok a → answer ≡ Ok a

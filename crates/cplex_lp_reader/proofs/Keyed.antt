@@ -1,5 +1,5 @@
 -- Lists whose elements have names of their own: the place of a name is its place among the names.
-use Rattle.std.proofs.Common.{◌≡◌, ℕ, ◌<◌, ◌≤◌, Bool, true, false, cond, List, [], ◌∷◌, ◌++◌, length, map, Some, None, not, ◌+◌, sym, ap, refl, ◌∙◌, arith}
+use Rattle.std.proofs.Common.{◌≡◌, ℕ, ◌<◌, ◌≤◌, Bool, true, false, List, [], ◌∷◌, ◌++◌, length, map, Some, None, not, ◌+◌, sym, ap, refl, ◌∙◌, arith}
 use Rattle.std.proofs.lemmas.Bool.Decides.{nat_tests}
 use Rattle.std.proofs.lemmas.List.{map-append}
 use Rattle.std.proofs.lemmas.List.Sums.{prefix_len-le-length}
@@ -30,6 +30,9 @@ module _ {X : Type 0} (key : X → List ℕ) (name : List ℕ) (names : List (Li
 
   pub not-found : None ≡ position (is_name name) names → length xs ≡ position_or_len test xs
   not-found e = let t : position (is_name name) (map key xs) ≡ None = rw (← index) (sym e) in let p = place-none test xs (position-same key test (is_name name) (λ x. refl) xs ∙ t) in let q : position_or_len test xs ≤ length xs = prefix_len-le-length (λ x. not (test x)) xs in omega arith
+
+  pub any-name : list_any (is_name name) names ≡ list_any test xs
+  any-name = rw index (sym (list_any-same key test (is_name name) (λ x. refl) xs))
 
   pub name-absent : length xs ≤ position_or_len test xs → list_any (is_name name) names ≡ false
   name-absent e = rw index (sym (list_any-same key test (is_name name) (λ x. refl) xs) ∙ none-passes test xs e)

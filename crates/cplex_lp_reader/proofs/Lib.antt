@@ -4,3 +4,8 @@ pub mod Scanned
 pub mod Joined
 pub mod Lookup
 pub mod Keyed
+pub mod Terms
+pub mod Changed
+pub mod Kept
+pub mod Building
+pub mod Continuous

@@ -10,6 +10,8 @@ use Rattle.cplex_lp_reader.specs.declared.token.Relation.{Relation}
 use Rattle.cplex_lp_reader.specs.declared.token.Relation.TheVariants.{AtMost, AtLeast, Exactly}
 use Rattle.cplex_lp_reader.specs.declared.token.TokenKind.{TokenKind}
 use Rattle.cplex_lp_reader.specs.declared.token.TokenKind.TheVariants.{Word, Literal, Plus, Minus, Compared}
+use Rattle.cplex_lp_reader.specs.declared.declared_column.ColumnChange.{ColumnChange}
+use Rattle.cplex_lp_reader.specs.declared.declared_column.ColumnChange.TheVariants.{Kept, Bounded, Freed, MadeInteger, MadeBinary}
 use Rattle.cplex_lp_reader.specs.declared.place.Sign.{Sign}
 use Rattle.cplex_lp_reader.specs.declared.place.Sign.TheVariants as sign
 use Rattle.cplex_lp_reader.specs.declared.place.Limit.{Limit}
@@ -62,10 +64,23 @@ turned Exactly = Exactly
 abbrev pub freed : Column → Column
 freed c = record c { lower = None; upper = None }
 
--- the column of a name is there and changed by f, and another token comes
-abbrev pub with_mentioned : Profile → Declaration → Token → Place → (Column → Column) → Result Declaration FileFault
-with_mentioned profile d t place f =
-    then_do (λ more. Ok (at_place place (with_column (place_in t.text d.columns) f more))) (mentioned profile t d)
+abbrev pub made_integer : Column → Column
+made_integer c = record c { integer = true }
+
+abbrev pub made_binary : Column → Column
+made_binary c = record c { lower = Some zero_ℚ; upper = Some one_ℚ; integer = true }
+
+abbrev pub changed : ColumnChange → Column → Column
+changed Kept c = c
+changed (Bounded relation limit) c = bounded relation limit c
+changed Freed c = freed c
+changed MadeInteger c = made_integer c
+changed MadeBinary c = made_binary c
+
+-- the column of a name is there and changed, and another token comes
+abbrev pub with_mentioned : Profile → Declaration → Token → Place → ColumnChange → Result Declaration FileFault
+with_mentioned profile d t place change =
+    then_do (λ more. Ok (at_place place (with_column (place_in t.text d.columns) (changed change) more))) (mentioned profile t d)
 
 -- ---- the number on the left
 
@@ -73,7 +88,7 @@ with_mentioned profile d t place f =
 abbrev pub bound_word : Profile → Declaration → Token → Result Declaration FileFault
 bound_word profile d t =
     if is_infinity t.text then Ok (at_place (BoundRelation PlusInfinity) d)
-    else with_mentioned profile d t (BoundNamed (place_in t.text d.columns)) (λ c. c)
+    else with_mentioned profile d t (BoundNamed (place_in t.text d.columns)) Kept
 
 abbrev pub at_bound_start : TokenKind → Profile → Declaration → Token → Result Declaration FileFault
 at_bound_start Word profile d t = bound_word profile d t
@@ -102,7 +117,7 @@ at_bound_relation kind d limit t = misplaced t
 abbrev pub at_bound_name : TokenKind → Profile → Declaration → Limit → Relation → Token → Result Declaration FileFault
 at_bound_name Word profile d limit relation t =
     if is_infinity t.text then misplaced t
-    else with_mentioned profile d t (BoundCompared (place_in t.text d.columns)) (bounded (turned relation) limit)
+    else with_mentioned profile d t (BoundCompared (place_in t.text d.columns)) (Bounded (turned relation) limit)
 at_bound_name kind profile d limit relation t = misplaced t
 
 -- after a name the number on its right may come; else another bound begins
@@ -113,35 +128,29 @@ at_bound_compared kind profile d column t = at_bound_start kind profile d t
 -- the same, or `free`, after a name that stands first
 abbrev pub at_bound_named : TokenKind → Profile → Declaration → ℕ → Token → Result Declaration FileFault
 at_bound_named Word profile d column t =
-    if is_word t.text (codes "free") then Ok (at_place BoundStart (with_column column freed d)) else bound_word profile d t
+    if is_word t.text (codes "free") then Ok (at_place BoundStart (with_column column (changed Freed) d)) else bound_word profile d t
 at_bound_named kind profile d column t = at_bound_compared kind profile d column t
 
 -- ---- the number on the right
 
-abbrev pub with_right : Declaration → ℕ → Relation → Limit → Token → Result Declaration FileFault
-with_right d column relation limit t =
-    if is_possible relation limit then Ok (at_place BoundStart (with_column column (bounded relation limit) d)) else misplaced t
+abbrev pub with_right_bound : Declaration → ℕ → Relation → Limit → Token → Result Declaration FileFault
+with_right_bound d column relation limit t =
+    if is_possible relation limit then Ok (at_place BoundStart (with_column column (changed (Bounded relation limit)) d)) else misplaced t
 
 -- where the number on the right is about to come, or has signs alone
 abbrev pub at_bound_right : TokenKind → Declaration → ℕ → Relation → Sign → Token → Result Declaration FileFault
 at_bound_right Plus d column relation s t = Ok (at_place (BoundRight column relation (after_plus s)) d)
 at_bound_right Minus d column relation s t = Ok (at_place (BoundRight column relation (after_minus s)) d)
-at_bound_right Literal d column relation s t = then_do (λ v. with_right d column relation (Finite (signed s v)) t) (number_of t)
-at_bound_right Word d column relation s t = if is_infinity t.text then with_right d column relation (infinite s) t else misplaced t
+at_bound_right Literal d column relation s t = then_do (λ v. with_right_bound d column relation (Finite (signed s v)) t) (number_of t)
+at_bound_right Word d column relation s t = if is_infinity t.text then with_right_bound d column relation (infinite s) t else misplaced t
 at_bound_right kind d column relation s t = misplaced t
 
 -- ---- general and binary columns
 
-abbrev pub made_integer : Column → Column
-made_integer c = record c { integer = true }
-
-abbrev pub made_binary : Column → Column
-made_binary c = record c { lower = Some zero_ℚ; upper = Some one_ℚ; integer = true }
-
 abbrev pub at_general : TokenKind → Profile → Declaration → Token → Result Declaration FileFault
-at_general Word profile d t = with_mentioned profile d t Generals made_integer
+at_general Word profile d t = with_mentioned profile d t Generals MadeInteger
 at_general kind profile d t = misplaced t
 
 abbrev pub at_binary : TokenKind → Profile → Declaration → Token → Result Declaration FileFault
-at_binary Word profile d t = with_mentioned profile d t Binaries made_binary
+at_binary Word profile d t = with_mentioned profile d t Binaries MadeBinary
 at_binary kind profile d t = misplaced t

@@ -1,6 +1,6 @@
 -- Constraints: `[name ":"] [number relation] term { term } relation number`, where each term has a name
 -- (GLPK Reference Manual, appendix on the CPLEX LP format: constraints section).
-use Rattle.std.specs.Prelude.{ℕ, ◌+◌, nat_lt, nat_le, Bool, true, false, List, [], ◌∷◌, ◌++◌, length, codes, Some, None, Result, Ok, if◌then◌else◌}
+use Rattle.std.specs.Prelude.{ℕ, ◌+◌, ◌-◌, nat_lt, nat_le, Bool, true, false, List, [], ◌∷◌, ◌++◌, length, codes, Some, None, Result, Ok, if◌then◌else◌}
 use Rattle.std.specs.declared.option.Option.{Option}
 use Rattle.std.specs.List.{list_any}
 use Rattle.std.specs.Str.{bytes_eq}
@@ -22,7 +22,7 @@ use Rattle.cplex_lp_reader.specs.declared.place.Place.{Place}
 use Rattle.cplex_lp_reader.specs.declared.place.Place.TheVariants.{RowStart, RowColon, RowFirst, RowNumber, RowTerms, RowRight}
 use Rattle.cplex_lp_reader.specs.Tokens.{Token}
 use Rattle.cplex_lp_reader.specs.Steps.{fault_at, misplaced, then_do, number_of}
-use Rattle.cplex_lp_reader.specs.Declaration.{OpenRow, new_row, Declaration, at_place, added, entries_of, place_in, mentioned}
+use Rattle.cplex_lp_reader.specs.Declaration.{OpenRow, new_row, Declaration, at_place, added, entries_of, place_in, mentioned, with_changed}
 use Rattle.cplex_lp_reader.specs.Grammar.{after_plus, after_minus, signed, is_colon, is_before_colon}
 
 -- ---- a row begins
@@ -30,20 +30,28 @@ use Rattle.cplex_lp_reader.specs.Grammar.{after_plus, after_minus, signed, is_co
 abbrev pub is_row : List ℕ → List Row → Bool
 is_row name rows = list_any (λ (r : Row). bytes_eq r.name name) rows
 
--- the row of this name begins with the token t; a name is used once
-abbrev pub row_opened : Profile → List ℕ → Token → Declaration → Result Declaration FileFault
-row_opened profile name t d =
-    if is_row name d.rows then fault_at t.line Twice
-    else if nat_le profile.rows (length d.rows) then fault_at t.line TooMany
-    else Ok (record d { open_row = new_row name t.line })
+-- a row of which the name alone is read
+abbrev pub blank_row : List ℕ → Row
+blank_row name = record { name = name; lower = None; upper = None; entries = [] }
+
+-- the row of this name begins at a line; a name is used once
+abbrev pub row_opened : Profile → ℕ → List ℕ → Declaration → Result Declaration FileFault
+row_opened profile line name d =
+    if is_row name d.rows then fault_at line Twice
+    else if nat_le profile.rows (length d.rows) then fault_at line TooMany
+    else Ok (record d { rows = d.rows ++ blank_row name ∷ []; open_row = new_row line })
 
 -- row i without a name is `r.i`
 abbrev pub default_name : List Row → List ℕ
 default_name rows = codes "r." ++ decimal (length rows + 1)
 
--- a row without a name begins, and another token comes
-abbrev pub unnamed_row : Profile → Declaration → Token → Place → Result Declaration FileFault
-unnamed_row profile d t place = then_do (λ opened. Ok (at_place place opened)) (row_opened profile (default_name d.rows) t d)
+-- a row without a name begins at a line
+abbrev pub unnamed_row : Profile → ℕ → Declaration → Result Declaration FileFault
+unnamed_row profile line d = row_opened profile line (default_name d.rows) d
+
+-- the same, and another token comes
+abbrev pub unnamed_row_at : Place → Profile → ℕ → Declaration → Result Declaration FileFault
+unnamed_row_at place profile line d = then_do (λ opened. Ok (at_place place opened)) (unnamed_row profile line d)
 
 -- ---- terms
 
@@ -87,17 +95,17 @@ in_row_terms Done profile d t = row_done t.kind d t
 
 -- ---- the first tokens
 
--- a name before a colon is the row's
-abbrev pub row_name : Profile → Declaration → Token → List Token → Result Declaration FileFault
-row_name profile d t rest =
-    if is_before_colon rest then then_do (λ opened. Ok (at_place RowColon opened)) (row_opened profile t.text t d)
-    else then_do (row_term profile one_ℚ t) (row_opened profile (default_name d.rows) t d)
+-- a name before a colon is the row's, and another is that of its first term
+abbrev pub at_row_name : Profile → Declaration → Token → List Token → Result Declaration FileFault
+at_row_name profile d t rest =
+    if is_before_colon rest then then_do (λ opened. Ok (at_place RowColon opened)) (row_opened profile t.line t.text d)
+    else then_do (row_term profile one_ℚ t) (unnamed_row profile t.line d)
 
 abbrev pub at_row_start : TokenKind → Profile → Declaration → Token → List Token → Result Declaration FileFault
-at_row_start Word profile d t rest = row_name profile d t rest
-at_row_start Plus profile d t rest = unnamed_row profile d t (RowFirst (after_plus Unsigned))
-at_row_start Minus profile d t rest = unnamed_row profile d t (RowFirst (after_minus Unsigned))
-at_row_start Literal profile d t rest = then_do (λ v. unnamed_row profile d t (RowNumber v)) (number_of t)
+at_row_start Word profile d t rest = at_row_name profile d t rest
+at_row_start Plus profile d t rest = unnamed_row_at (RowFirst (after_plus Unsigned)) profile t.line d
+at_row_start Minus profile d t rest = unnamed_row_at (RowFirst (after_minus Unsigned)) profile t.line d
+at_row_start Literal profile d t rest = then_do (λ v. unnamed_row_at (RowNumber v) profile t.line d) (number_of t)
 at_row_start kind profile d t rest = misplaced t
 
 abbrev pub at_row_colon : Declaration → Token → Result Declaration FileFault
@@ -135,23 +143,27 @@ right_set AtMost v row = record row { upper = Some v }
 right_set AtLeast v row = record row { lower = Some v }
 right_set Exactly v row = record row { lower = Some v; upper = Some v }
 
-abbrev pub finished_row : OpenRow → Row
-finished_row row = record { name = row.name; lower = row.lower; upper = row.upper; entries = entries_of row.form }
+abbrev pub with_right : Declaration → Rational → Relation → Declaration
+with_right d v relation = record d { open_row = right_set relation v d.open_row }
+
+-- a row with what is read of it
+abbrev pub filled : OpenRow → Row → Row
+filled row r = record r { lower = row.lower; upper = row.upper; entries = entries_of row.form }
 
 abbrev pub entry_count : List Row → ℕ
 entry_count [] = 0
 entry_count (r ∷ rs) = length r.entries + entry_count rs
 
--- entries past their limit are a fault of the row's first line
-abbrev pub row_closed : Profile → Row → Declaration → Result Declaration FileFault
-row_closed profile row d =
-    if nat_lt profile.entries (entry_count d.rows + length row.entries) then fault_at d.open_row.line TooMany
-    else Ok (record d { rows = d.rows ++ row ∷ []; place = RowStart })
+-- the last row is read to its end; entries past their limit are a fault of its first line
+abbrev pub row_closed : Profile → Declaration → Result Declaration FileFault
+row_closed profile d =
+    if nat_lt profile.entries (entry_count d.rows + length (entries_of d.open_row.form)) then fault_at d.open_row.line TooMany
+    else Ok (record d { rows = with_changed (length d.rows - 1) (filled d.open_row) d.rows; place = RowStart })
 
 -- where the number on the right is about to come, or has signs alone
 abbrev pub at_row_right : TokenKind → Profile → Declaration → Relation → Sign → Token → Result Declaration FileFault
 at_row_right Plus profile d relation sign t = Ok (at_place (RowRight relation (after_plus sign)) d)
 at_row_right Minus profile d relation sign t = Ok (at_place (RowRight relation (after_minus sign)) d)
 at_row_right Literal profile d relation sign t =
-    then_do (λ v. row_closed profile (finished_row (right_set relation (signed sign v) d.open_row)) d) (number_of t)
+    then_do (λ v. row_closed profile (with_right d (signed sign v) relation)) (number_of t)
 at_row_right kind profile d relation sign t = misplaced t

@@ -1,5 +1,5 @@
 -- What a CPLEX LP text has declared so far.
-use Rattle.std.specs.Prelude.{ℕ, ◌+◌, ◌==◌, nat_lt, nat_le, Bool, false, zero, suc, List, [], ◌∷◌, ◌++◌, length, unsigned_abs, not, filter, codes, Some, None, Result, Ok, if◌then◌else◌, take, drop}
+use Rattle.std.specs.Prelude.{ℕ, ◌==◌, nat_lt, nat_le, Bool, false, zero, suc, List, [], ◌∷◌, ◌++◌, length, unsigned_abs, not, filter, codes, Some, None, Result, Ok, if◌then◌else◌, take, drop}
 use Rattle.std.specs.declared.option.Option.{Option}
 use Rattle.std.specs.List.{position_or_len}
 use Rattle.std.specs.Str.{bytes_eq}
@@ -20,9 +20,8 @@ use Rattle.cplex_lp_reader.specs.Steps.{fault_at, then_do, fitting_at}
 
 -- ---- the whole
 
--- the row that is being read
+-- what is read so far of a row that has begun
 pub record OpenRow : Type 0 where
-  pub name : List ℕ
   -- the line of its first token
   pub line : ℕ
   -- the relation after the number on its left
@@ -32,8 +31,8 @@ pub record OpenRow : Type 0 where
   -- the sum of the terms of each name, zeros too, in order of column
   pub form : List Entry
 
-abbrev pub new_row : List ℕ → ℕ → OpenRow
-new_row name line = record { name = name; line = line; left = None; lower = None; upper = None; form = [] }
+abbrev pub new_row : ℕ → OpenRow
+new_row line = record { line = line; left = None; lower = None; upper = None; form = [] }
 
 pub record Declaration : Type 0 where
   pub place : Place
@@ -42,8 +41,9 @@ pub record Declaration : Type 0 where
   -- the sum of the terms of each name, zeros too, in order of column
   pub objective : List Entry
   pub constant : Rational
-  -- the rows that are read to their end
+  -- the rows that have begun; until it is read to its end, the last one has its name alone
   pub rows : List Row
+  -- the last row, as far as it is read
   pub open_row : OpenRow
   pub columns : List Column
 
@@ -56,7 +56,7 @@ nothing_declared = record {
   objective = [];
   constant = zero_ℚ;
   rows = [];
-  open_row = new_row [] 0;
+  open_row = new_row 0;
   columns = [];
 }
 
@@ -121,11 +121,11 @@ mentioned profile t d =
     else if nat_le profile.columns (length d.columns) then fault_at t.line TooMany
     else Ok (record d { columns = d.columns ++ new_column t.text ∷ [] })
 
--- the column at a place changed by f
-abbrev pub with_changed : ℕ → (Column → Column) → List Column → List Column
+-- the element at a place changed by f
+abbrev pub with_changed : {X : Type 0} → ℕ → (X → X) → List X → List X
 with_changed place f [] = []
-with_changed zero f (c ∷ cs) = f c ∷ cs
-with_changed (suc place) f (c ∷ cs) = c ∷ with_changed place f cs
+with_changed zero f (x ∷ xs) = f x ∷ xs
+with_changed (suc place) f (x ∷ xs) = x ∷ with_changed place f xs
 
 abbrev pub with_column : ℕ → (Column → Column) → Declaration → Declaration
 with_column place f d = record d { columns = with_changed place f d.columns }

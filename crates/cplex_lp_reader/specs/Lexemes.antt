@@ -1,6 +1,5 @@
 -- The words and marks of a CPLEX LP text (GLPK Reference Manual, appendix on the CPLEX LP format: names, numbers, relations).
 use Rattle.std.specs.Prelude.{ℕ, ◌+◌, ◌==◌, nat_lt, ◌&&◌, ◌||◌, not, Bool, false, List, [], ◌∷◌, drop, Some, None, if◌then◌else◌, true}
-use Rattle.std.specs.declared.option.Option.{Option}
 use Rattle.std.specs.List.{position_or_len}
 use Rattle.std.specs.Char.{is_ascii_digit, is_ascii_alphanumeric}
 use Rattle.cplex_lp_reader.specs.declared.lexeme.Lexeme.{Lexeme}

@@ -5,6 +5,7 @@ pub mod Steps
 pub mod Names
 pub mod Follows
 pub mod Declaration
+pub mod Consistent
 pub mod Grammar
 pub mod Objective
 pub mod Constraints

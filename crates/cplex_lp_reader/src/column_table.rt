@@ -1,8 +1,11 @@
 // The columns of a declaration.
-ghost use Rattle.std.specs.Prelude.{◌≡◌, ◌<◌, ◌≤◌, ◌++◌, [], ◌∷◌, length, OnOk, OnErr};
-ghost use Rattle.cplex_lp_reader.specs.Declaration.{place_in};
+ghost use Rattle.std.specs.Prelude.{◌≡◌, ◌<◌, ◌≤◌, ◌++◌, [], ◌∷◌, length, map, OnOk, OnErr};
+ghost use Rattle.milp.specs.Problem.{Column};
+ghost use Rattle.cplex_lp_reader.specs.Names.{AreNew};
+ghost use Rattle.cplex_lp_reader.specs.Declaration.{place_in, with_changed};
+ghost use Rattle.cplex_lp_reader.specs.Bounds.{changed};
 
-use crate::declared_column::DeclaredColumn;
+use crate::declared_column::{ColumnChange, DeclaredColumn};
 use crate::names::Names;
 use std::alloc::{AllocError, Global};
 use std::marker::Model;
@@ -43,9 +46,19 @@ impl<'a> ColumnTable<'a> {
         self.columns.len()
     }
 
+    // The columns, for reading. Their names differ.
+    pub(crate) fn as_slice(&self) -> &[DeclaredColumn<'a>]
+        ensures value { result.now ≡ self.now }
+        ensures new { AreNew (map (λ (c : Column). c.name) self.now) }
+        ensures few { length self.now ≤ 100_000 }
+    {
+        &self.columns
+    }
+
     // The place of the column of a name, or the one that it would take.
     pub(crate) fn place(&self, name: &str) -> usize
         ensures value { result ≡ place_in name.now self.now }
+        ensures within { result ≤ length self.now }
         ensures few { result ≤ 100_000 }
     {
         match self.names.place(name) {
@@ -65,5 +78,15 @@ impl<'a> ColumnTable<'a> {
         self.names.push(column.name())?;
         self.columns.push(column).unwrap();
         Ok(())
+    }
+
+    // The column at a place changed, where there is one.
+    pub(crate) fn change(&mut self, place: usize, change: ColumnChange)
+        ensures { self.new ≡ with_changed place (changed change) self.old }
+    {
+        if place < self.columns.len() {
+            let column = &mut self.columns[place];
+            column.change(change);
+        }
     }
 }

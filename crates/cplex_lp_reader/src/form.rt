@@ -1,16 +1,17 @@
 // Linear forms in the making.
-ghost use Rattle.std.specs.Prelude.{◌≡◌, ℕ, ◌<◌, ◌≤◌, get_or, set, [], true, false, length, take, drop};
+ghost use Rattle.std.specs.Prelude.{◌≡◌, ℕ, ◌<◌, ◌≤◌, get_or, set, [], true, false, length, take, drop, IsTrue, IfOk, OnErr};
 ghost use Rattle.std.specs.List.{position};
 ghost use Rattle.fraction.specs.Answers.{add_answer};
 ghost use Rattle.cplex_lp_reader.specs.Follows.{Follows, as_read};
 ghost use Rattle.cplex_lp_reader.specs.Steps.{fitting_at};
-ghost use Rattle.cplex_lp_reader.specs.Declaration.{no_entry, is_from, place_of, begins_with, joined, added};
+ghost use Rattle.cplex_lp_reader.specs.Declaration.{no_entry, is_from, place_of, begins_with, joined, added, is_zero as is_zero_number, is_entry as is_nonzero_entry, entries_of};
+ghost use Rattle.cplex_lp_reader.specs.Consistent.{are_terms};
 
 use crate::error::LpError;
 use file_fault::{FaultKind, FileFault};
 use fraction::Frac;
 use instance::Entry;
-use std::alloc::Global;
+use std::alloc::{AllocError, Global};
 use std::marker::Model;
 
 // The sum of the terms of each column, zeros too, in order of column.
@@ -41,6 +42,18 @@ pub(crate) fn sum_at(line: usize, a: Frac, b: Frac) -> Result<Frac, LpError>
     }
 }
 
+fn is_zero(value: Frac) -> bool
+    ensures { result ≡ is_zero_number value }
+{
+    value.parts().0 == 0
+}
+
+fn is_entry(entry: &Entry) -> bool
+    ensures { result ≡ is_nonzero_entry entry.now }
+{
+    !is_zero(entry.coefficient)
+}
+
 impl Form {
     pub(crate) fn new(alloc: Global) -> Self
         ensures { result ≡ [] }
@@ -57,11 +70,34 @@ impl Form {
         self.entries.iter().position(|e| column <= e.column)
     }
 
+    // All entries are of earlier columns, as where terms come in order of column.
+    fn ends_before(&self, column: u32) -> bool
+        requires { (count : ℕ) × IsTrue (are_terms count self.now) }
+        ensures { IsTrue result → place_of column self.now ≡ length self.now }
+    {
+        let count = self.entries.len();
+        if count == 0 {
+            return true;
+        }
+        self.column_at(count - 1) < column
+    }
+
+    fn column_at(&self, place: usize) -> u32
+        requires { place < length self.now }
+        ensures { result ≡ (get_or self.now place no_entry).column }
+    {
+        self.entries[place].column
+    }
+
     // Where the entry of a column stands, or would stand.
     fn place(&self, column: u32) -> usize
+        requires { (count : ℕ) × IsTrue (are_terms count self.now) }
         ensures value { result ≡ place_of column self.now }
         ensures within { result ≤ length self.now }
     {
+        if self.ends_before(column) {
+            return self.entries.len();
+        }
         match self.first_from(column) {
             Some(place) => place,
             None => self.entries.len(),
@@ -70,7 +106,9 @@ impl Form {
 
     // A term added to those of its column, from the left; the fault is at its line.
     pub(crate) fn add(&mut self, line: usize, column: u32, value: Frac) -> Result<(), LpError>
-        ensures { Follows result self.new (added line column value self.old) }
+        requires { (count : ℕ) × IsTrue (are_terms count self.old) }
+        ensures follows { Follows result self.new (added line column value self.old) }
+        ensures terms { (count : ℕ) → column < count → IsTrue (are_terms count self.old) → IsTrue (are_terms count self.new) }
     {
         let place = self.place(column);
         if self.has_at(place, column) {
@@ -104,7 +142,8 @@ impl Form {
     // The term is added to the entry of its column.
     fn join(&mut self, line: usize, place: usize, column: u32, value: Frac) -> Result<(), LpError>
         requires { begins_with column (drop place self.old) ≡ true }
-        ensures { Follows result self.new (joined line column value (take place self.old) (drop place self.old)) }
+        ensures follows { Follows result self.new (joined line column value (take place self.old) (drop place self.old)) }
+        ensures kept { OnErr result (self.new ≡ self.old) }
     {
         let coefficient = sum_at(line, self.coefficient(place), value)?;
         self.set(
@@ -120,7 +159,8 @@ impl Form {
     fn insert(&mut self, place: usize, column: u32, value: Frac) -> Result<(), LpError>
         requires other { begins_with column (drop place self.old) ≡ false }
         requires within { place ≤ length self.old }
-        ensures { (line : ℕ) → Follows result self.new (joined line column value (take place self.old) (drop place self.old)) }
+        ensures follows { (line : ℕ) → Follows result self.new (joined line column value (take place self.old) (drop place self.old)) }
+        ensures kept { OnErr result (self.new ≡ self.old) }
     {
         let entry = Entry {
             column,
@@ -130,5 +170,15 @@ impl Form {
             Ok(_) => Ok(()),
             Err(_) => Err(LpError::NoMemory),
         }
+    }
+
+    // The entries but for zeros.
+    pub(crate) fn entries(&self, alloc: Global) -> Result<Vec<Entry>, AllocError>
+        ensures { IfOk result (λ entries. entries.items ≡ entries_of self.now) }
+    {
+        let mut entries = Vec::new(alloc);
+        entries.extend_from_slice(&self.entries)?;
+        entries.retain(|e| is_entry(e));
+        Ok(entries)
     }
 }

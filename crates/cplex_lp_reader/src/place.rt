@@ -1,4 +1,8 @@
 // Where in the grammar a text stands.
+ghost use Rattle.std.specs.Prelude.{◌≡◌};
+ghost use Rattle.cplex_lp_reader.specs.Grammar.{after_plus as sign_after_plus, after_minus as sign_after_minus, signed as signed_number};
+ghost use Rattle.cplex_lp_reader.specs.CplexLp.{ends_objective as objective_may_end, ends_section as section_may_end, is_start as is_at_start, is_ended as is_past_end};
+
 use crate::token::Relation;
 use fraction::Frac;
 
@@ -8,6 +12,41 @@ pub(crate) enum Sign {
     Unsigned,
     Plus,
     Minus,
+}
+
+impl Sign {
+    // With a plus more.
+    pub(crate) fn after_plus(self) -> Sign
+        ensures { result ≡ sign_after_plus self }
+    {
+        match self {
+            Sign::Unsigned => Sign::Plus,
+            Sign::Plus => Sign::Plus,
+            Sign::Minus => Sign::Minus,
+        }
+    }
+
+    // With a minus more, which turns it.
+    pub(crate) fn after_minus(self) -> Sign
+        ensures { result ≡ sign_after_minus self }
+    {
+        match self {
+            Sign::Unsigned => Sign::Minus,
+            Sign::Plus => Sign::Minus,
+            Sign::Minus => Sign::Plus,
+        }
+    }
+
+    // A number with this sign.
+    pub(crate) fn signed(self, value: Frac) -> Frac
+        ensures { result ≡ signed_number self value }
+    {
+        match self {
+            Sign::Unsigned => value,
+            Sign::Plus => value,
+            Sign::Minus => value.neg(),
+        }
+    }
 }
 
 // A number of a bound.
@@ -61,15 +100,62 @@ pub(crate) enum Place {
     // the name after the number on a bound's left comes
     BoundName(Limit, Relation),
     // after the name of a column, where it stands first
-    BoundNamed(usize),
+    BoundNamed(u32),
     // after the name of a column that has a number on its left
-    BoundCompared(usize),
+    BoundCompared(u32),
     // the number on a bound's right comes
-    BoundRight(usize, Relation, Sign),
+    BoundRight(u32, Relation, Sign),
     // among the names of general columns
     Generals,
     // among the names of binary columns
     Binaries,
     // after the end
     Ended,
+}
+
+impl Place {
+    // The objective is read to its end, if no more of it comes.
+    pub(crate) fn ends_objective(self) -> bool
+        ensures { result ≡ objective_may_end self }
+    {
+        match self {
+            Place::ObjectiveStart => true,
+            Place::Objective(TermPlace::Begun(Sign::Unsigned)) => true,
+            Place::Objective(TermPlace::Done) => true,
+            _ => false,
+        }
+    }
+
+    // A section after the objective is read to its end, if no more of it comes.
+    pub(crate) fn ends_section(self) -> bool
+        ensures { result ≡ section_may_end self }
+    {
+        match self {
+            Place::RowStart => true,
+            Place::BoundStart => true,
+            Place::BoundNamed(_) => true,
+            Place::BoundCompared(_) => true,
+            Place::Generals => true,
+            Place::Binaries => true,
+            _ => false,
+        }
+    }
+
+    pub(crate) fn is_start(self) -> bool
+        ensures { result ≡ is_at_start self }
+    {
+        match self {
+            Place::Start => true,
+            _ => false,
+        }
+    }
+
+    pub(crate) fn is_ended(self) -> bool
+        ensures { result ≡ is_past_end self }
+    {
+        match self {
+            Place::Ended => true,
+            _ => false,
+        }
+    }
 }

@@ -1,6 +1,7 @@
 // The tokens of a text.
 ghost use Rattle.std.specs.Prelude.{◌≡◌};
 ghost use Rattle.cplex_lp_reader.specs.Tokens.{as_section as as_section_words, is_name as is_name_kind};
+ghost use Rattle.cplex_lp_reader.specs.Grammar.{is_colon as is_colon_kind, is_before_colon as colon_is_next, is_before_name as name_is_next};
 
 use std::marker::Model;
 
@@ -44,6 +45,15 @@ impl TokenKind {
     {
         match self {
             TokenKind::Word => true,
+            _ => false,
+        }
+    }
+
+    pub(crate) fn is_colon(self) -> bool
+        ensures { result ≡ is_colon_kind self }
+    {
+        match self {
+            TokenKind::Colon => true,
             _ => false,
         }
     }
@@ -95,5 +105,25 @@ impl<'a> Token<'a> {
         ensures { self.new ≡ as_section_words section self.old }
     {
         self.kind = TokenKind::SectionWords(section);
+    }
+}
+
+// A colon comes next.
+pub(crate) fn is_before_colon(rest: &[Token]) -> bool
+    ensures { result ≡ colon_is_next rest.now }
+{
+    match rest {
+        [] => false,
+        [next, ..] => next.kind().is_colon(),
+    }
+}
+
+// A name comes next.
+pub(crate) fn is_before_name(rest: &[Token]) -> bool
+    ensures { result ≡ name_is_next rest.now }
+{
+    match rest {
+        [] => false,
+        [next, ..] => next.kind().is_name(),
     }
 }

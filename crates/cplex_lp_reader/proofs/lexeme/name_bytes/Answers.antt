@@ -1,5 +1,4 @@
 -- Where no byte is another, all are counted.
-use Rattle.std.proofs.Common.{◌∙◌, sym}
 use Rattle.cplex_lp_reader.specs.Lexemes.{is_no_name_byte}
 use Rattle.cplex_lp_reader.proofs.Places.{place-past}
 use Rattle.cplex_lp_reader.proofs.lexeme.name_bytes.Goals as goal

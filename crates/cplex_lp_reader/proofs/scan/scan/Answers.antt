@@ -1,5 +1,5 @@
 -- One more lexeme is read.
-use Rattle.std.proofs.Common.{◌<◌, length, rules, arith}
+use Rattle.std.proofs.Common.{◌<◌, length, rules}
 use Rattle.cplex_lp_reader.proofs.Scanned.{scanned}
 use Rattle.cplex_lp_reader.proofs.scan.scan.Goals as goal
 

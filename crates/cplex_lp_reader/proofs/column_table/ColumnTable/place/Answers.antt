@@ -1,7 +1,6 @@
 -- The place of a name among the names.
-use Rattle.std.proofs.Common.{◌∙◌, ap, rules, arith}
+use Rattle.std.proofs.Common.{rules, arith}
 use Rattle.milp.specs.Problem.{Column}
-use Rattle.cplex_lp_reader.specs.Declaration.{place_in}
 use Rattle.cplex_lp_reader.proofs.Keyed.{found, not-found}
 use Rattle.cplex_lp_reader.proofs.column_table.ColumnTable.place.Goals as goal
 
@@ -13,3 +12,6 @@ returns-in-Some-clause-few c = let f = found (λ (x : Column). x.name) c.args.na
 
 pub returns-in-None-clause-value : goal.returns-in-None-clause-value
 returns-in-None-clause-value c = let f = not-found (λ (x : Column). x.name) c.args.name.now c.self.inside.names c.self.inside.columns.items c.self.invariant.0 c.in-None.ensures in rw (← c.self.view_is) (search (rules, f))
+
+pub returns-in-Some-clause-within : goal.returns-in-Some-clause-within
+returns-in-Some-clause-within c = let f = found (λ (x : Column). x.name) c.args.name.now c.self.inside.names c.self.inside.columns.items c.self.invariant.0 _ c.in-Some.ensures in rw (← c.self.view_is) (omega (arith, f.1))

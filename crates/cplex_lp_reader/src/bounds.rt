@@ -1,0 +1,389 @@
+// The tokens of bounds, and of general and binary columns.
+ghost use Rattle.std.specs.Prelude.{◌≡◌, Ok, true};
+ghost use Rattle.cplex_lp_reader.specs.Profile.{IsWithinInstance};
+ghost use Rattle.cplex_lp_reader.specs.Follows.{Follows};
+ghost use Rattle.cplex_lp_reader.specs.Steps.{then_do, number_of};
+ghost use Rattle.cplex_lp_reader.specs.Grammar.{signed};
+ghost use Rattle.cplex_lp_reader.specs.declared.place.Place.TheVariants as place;
+ghost use Rattle.cplex_lp_reader.specs.declared.place.Limit.TheVariants.{Finite};
+ghost use Rattle.cplex_lp_reader.specs.Declaration.{at_place};
+ghost use Rattle.cplex_lp_reader.specs.Bounds.{is_infinity as is_infinity_word, infinite as infinite_limit, is_possible as is_possible_bound, turned as turned_relation, bound_word as word_of_bound, with_right_bound as with_bound_on_right, at_bound_start as start_of_bound, at_bound_left as left_of_bound, at_bound_relation as relation_of_bound, at_bound_name as name_of_bound, at_bound_compared as compared_bound, at_bound_named as named_bound, at_bound_right as right_of_bound, at_general as general_column, at_binary as binary_column};
+
+use crate::columns::mention_changed;
+use crate::declared_column::ColumnChange;
+use crate::draft::Draft;
+use crate::error::LpError;
+use crate::faults::{misplaced, number_of_token};
+use crate::place::{Limit, Place, Sign};
+use crate::profile::Profile;
+use crate::section_words::is_word;
+use crate::token::{Relation, Token, TokenKind};
+
+// ---- limits
+
+// `inf` and `infinity`, in any case of letters.
+fn is_infinity(text: &str) -> bool
+    ensures { result ≡ is_infinity_word text.now }
+{
+    is_word(text, "inf") || is_word(text, "infinity")
+}
+
+fn infinite(sign: Sign) -> Limit
+    ensures { result ≡ infinite_limit sign }
+{
+    match sign {
+        Sign::Unsigned => Limit::PlusInfinity,
+        Sign::Plus => Limit::PlusInfinity,
+        Sign::Minus => Limit::MinusInfinity,
+    }
+}
+
+// No lower bound is +inf and no upper bound -inf.
+fn is_possible(relation: Relation, limit: &Limit) -> bool
+    ensures { result ≡ is_possible_bound relation limit.now }
+{
+    match limit {
+        Limit::Finite(_) => true,
+        Limit::MinusInfinity => match relation {
+            Relation::AtLeast => true,
+            Relation::AtMost | Relation::Exactly => false,
+        },
+        Limit::PlusInfinity => match relation {
+            Relation::AtMost => true,
+            Relation::AtLeast | Relation::Exactly => false,
+        },
+    }
+}
+
+// The relation read from its other side.
+fn turned(relation: Relation) -> Relation
+    ensures { result ≡ turned_relation relation }
+{
+    match relation {
+        Relation::AtMost => Relation::AtLeast,
+        Relation::AtLeast => Relation::AtMost,
+        Relation::Exactly => Relation::Exactly,
+    }
+}
+
+// ---- the number on the left
+
+// `inf` begins a bound as a number, and another word as a name.
+fn bound_word<'a>(
+    profile: &Profile,
+    draft: &mut Draft<'a>,
+    token: &Token<'a>,
+) -> Result<(), LpError>
+    requires { IsWithinInstance profile.now }
+    ensures { Follows result draft.new (word_of_bound profile.now draft.old token.now) }
+{
+    if is_infinity(token.text()) {
+        draft.set_place(Place::BoundRelation(Limit::PlusInfinity));
+        Ok(())
+    } else {
+        let place = Place::BoundNamed(draft.place_of(token.text()));
+        mention_changed(profile, draft, token, place, ColumnChange::Kept)
+    }
+}
+
+fn left_literal(draft: &mut Draft, sign: Sign, token: &Token) -> Result<(), LpError>
+    ensures { Follows result draft.new (then_do (λ v. Ok (at_place (place.BoundRelation (Finite (signed sign v))) draft.old)) (number_of token.now)) }
+{
+    let value = number_of_token(token)?;
+    draft.set_place(Place::BoundRelation(Limit::Finite(sign.signed(value))));
+    Ok(())
+}
+
+pub(crate) fn at_bound_start<'a>(
+    profile: &Profile,
+    draft: &mut Draft<'a>,
+    token: &Token<'a>,
+) -> Result<(), LpError>
+    requires { IsWithinInstance profile.now }
+    ensures { Follows result draft.new (start_of_bound token.now.kind profile.now draft.old token.now) }
+{
+    match token.kind() {
+        TokenKind::Word => bound_word(profile, draft, token),
+        TokenKind::Plus => {
+            draft.set_place(Place::BoundLeft(Sign::Plus));
+            Ok(())
+        }
+        TokenKind::Minus => {
+            draft.set_place(Place::BoundLeft(Sign::Minus));
+            Ok(())
+        }
+        TokenKind::Literal => left_literal(draft, Sign::Unsigned, token),
+        _ => Err(misplaced(token)),
+    }
+}
+
+// `inf` after signs.
+fn left_infinity(draft: &mut Draft, sign: Sign, token: &Token) -> Result<(), LpError>
+    ensures { Follows result draft.new (left_of_bound TokenKind.Word draft.old sign token.now) }
+{
+    if is_infinity(token.text()) {
+        draft.set_place(Place::BoundRelation(infinite(sign)));
+        Ok(())
+    } else {
+        Err(misplaced(token))
+    }
+}
+
+// The number on the left has signs alone.
+pub(crate) fn at_bound_left(draft: &mut Draft, sign: Sign, token: &Token) -> Result<(), LpError>
+    ensures { Follows result draft.new (left_of_bound token.now.kind draft.old sign token.now) }
+{
+    match token.kind() {
+        TokenKind::Plus => {
+            draft.set_place(Place::BoundLeft(sign.after_plus()));
+            Ok(())
+        }
+        TokenKind::Minus => {
+            draft.set_place(Place::BoundLeft(sign.after_minus()));
+            Ok(())
+        }
+        TokenKind::Literal => left_literal(draft, sign, token),
+        TokenKind::Word => left_infinity(draft, sign, token),
+        _ => Err(misplaced(token)),
+    }
+}
+
+// A relation in which the number on the left can't stand is misplaced.
+fn left_relation(
+    draft: &mut Draft,
+    limit: Limit,
+    relation: Relation,
+    token: &Token,
+) -> Result<(), LpError>
+    ensures { Follows result draft.new (relation_of_bound (TokenKind.Compared relation) draft.old limit token.now) }
+{
+    if is_possible(turned(relation), &limit) {
+        draft.set_place(Place::BoundName(limit, relation));
+        Ok(())
+    } else {
+        Err(misplaced(token))
+    }
+}
+
+pub(crate) fn at_bound_relation(
+    draft: &mut Draft,
+    limit: Limit,
+    token: &Token,
+) -> Result<(), LpError>
+    ensures { Follows result draft.new (relation_of_bound token.now.kind draft.old limit token.now) }
+{
+    match token.kind() {
+        TokenKind::Compared(relation) => left_relation(draft, limit, relation, token),
+        _ => Err(misplaced(token)),
+    }
+}
+
+// ---- the name
+
+// `inf` is no name here.
+fn name_word<'a>(
+    profile: &Profile,
+    draft: &mut Draft<'a>,
+    limit: Limit,
+    relation: Relation,
+    token: &Token<'a>,
+) -> Result<(), LpError>
+    requires { IsWithinInstance profile.now }
+    ensures { Follows result draft.new (name_of_bound TokenKind.Word profile.now draft.old limit relation token.now) }
+{
+    if is_infinity(token.text()) {
+        Err(misplaced(token))
+    } else {
+        let place = Place::BoundCompared(draft.place_of(token.text()));
+        let change = ColumnChange::Bounded(turned(relation), limit);
+        mention_changed(profile, draft, token, place, change)
+    }
+}
+
+pub(crate) fn at_bound_name<'a>(
+    profile: &Profile,
+    draft: &mut Draft<'a>,
+    limit: Limit,
+    relation: Relation,
+    token: &Token<'a>,
+) -> Result<(), LpError>
+    requires { IsWithinInstance profile.now }
+    ensures { Follows result draft.new (name_of_bound token.now.kind profile.now draft.old limit relation token.now) }
+{
+    match token.kind() {
+        TokenKind::Word => name_word(profile, draft, limit, relation, token),
+        _ => Err(misplaced(token)),
+    }
+}
+
+// After a name the number on its right may come; else another bound begins.
+pub(crate) fn at_bound_compared<'a>(
+    profile: &Profile,
+    draft: &mut Draft<'a>,
+    column: u32,
+    token: &Token<'a>,
+) -> Result<(), LpError>
+    requires { IsWithinInstance profile.now }
+    ensures { Follows result draft.new (compared_bound token.now.kind profile.now draft.old column token.now) }
+{
+    match token.kind() {
+        TokenKind::Compared(relation) => {
+            draft.set_place(Place::BoundRight(column, relation, Sign::Unsigned));
+            Ok(())
+        }
+        _ => at_bound_start(profile, draft, token),
+    }
+}
+
+// `free`, or another bound's first word.
+fn named_word<'a>(
+    profile: &Profile,
+    draft: &mut Draft<'a>,
+    column: u32,
+    token: &Token<'a>,
+) -> Result<(), LpError>
+    requires { IsWithinInstance profile.now }
+    ensures { Follows result draft.new (named_bound TokenKind.Word profile.now draft.old column token.now) }
+{
+    if is_word(token.text(), "free") {
+        draft.change_column(column, ColumnChange::Freed);
+        draft.set_place(Place::BoundStart);
+        Ok(())
+    } else {
+        bound_word(profile, draft, token)
+    }
+}
+
+// After a name that stands first.
+pub(crate) fn at_bound_named<'a>(
+    profile: &Profile,
+    draft: &mut Draft<'a>,
+    column: u32,
+    token: &Token<'a>,
+) -> Result<(), LpError>
+    requires { IsWithinInstance profile.now }
+    ensures { Follows result draft.new (named_bound token.now.kind profile.now draft.old column token.now) }
+{
+    match token.kind() {
+        TokenKind::Word => named_word(profile, draft, column, token),
+        _ => at_bound_compared(profile, draft, column, token),
+    }
+}
+
+// ---- the number on the right
+
+fn with_right_bound(
+    draft: &mut Draft,
+    column: u32,
+    relation: Relation,
+    limit: Limit,
+    token: &Token,
+) -> Result<(), LpError>
+    ensures { Follows result draft.new (with_bound_on_right draft.old column relation limit token.now) }
+{
+    if is_possible(relation, &limit) {
+        draft.change_column(column, ColumnChange::Bounded(relation, limit));
+        draft.set_place(Place::BoundStart);
+        Ok(())
+    } else {
+        Err(misplaced(token))
+    }
+}
+
+fn right_literal(
+    draft: &mut Draft,
+    column: u32,
+    relation: Relation,
+    sign: Sign,
+    token: &Token,
+) -> Result<(), LpError>
+    ensures { Follows result draft.new (then_do (λ v. with_bound_on_right draft.old column relation (Finite (signed sign v)) token.now) (number_of token.now)) }
+{
+    let value = number_of_token(token)?;
+    let limit = Limit::Finite(sign.signed(value));
+    with_right_bound(draft, column, relation, limit, token)
+}
+
+// `inf` after signs.
+fn right_infinity(
+    draft: &mut Draft,
+    column: u32,
+    relation: Relation,
+    sign: Sign,
+    token: &Token,
+) -> Result<(), LpError>
+    ensures { Follows result draft.new (right_of_bound TokenKind.Word draft.old column relation sign token.now) }
+{
+    if is_infinity(token.text()) {
+        with_right_bound(draft, column, relation, infinite(sign), token)
+    } else {
+        Err(misplaced(token))
+    }
+}
+
+// The number on the right is about to come, or has signs alone.
+pub(crate) fn at_bound_right(
+    draft: &mut Draft,
+    column: u32,
+    relation: Relation,
+    sign: Sign,
+    token: &Token,
+) -> Result<(), LpError>
+    ensures { Follows result draft.new (right_of_bound token.now.kind draft.old column relation sign token.now) }
+{
+    match token.kind() {
+        TokenKind::Plus => {
+            draft.set_place(Place::BoundRight(column, relation, sign.after_plus()));
+            Ok(())
+        }
+        TokenKind::Minus => {
+            draft.set_place(Place::BoundRight(column, relation, sign.after_minus()));
+            Ok(())
+        }
+        TokenKind::Literal => right_literal(draft, column, relation, sign, token),
+        TokenKind::Word => right_infinity(draft, column, relation, sign, token),
+        _ => Err(misplaced(token)),
+    }
+}
+
+// ---- general and binary columns
+
+pub(crate) fn at_general<'a>(
+    profile: &Profile,
+    draft: &mut Draft<'a>,
+    token: &Token<'a>,
+) -> Result<(), LpError>
+    requires { IsWithinInstance profile.now }
+    ensures { Follows result draft.new (general_column token.now.kind profile.now draft.old token.now) }
+{
+    match token.kind() {
+        TokenKind::Word => mention_changed(
+            profile,
+            draft,
+            token,
+            Place::Generals,
+            ColumnChange::MadeInteger,
+        ),
+        _ => Err(misplaced(token)),
+    }
+}
+
+pub(crate) fn at_binary<'a>(
+    profile: &Profile,
+    draft: &mut Draft<'a>,
+    token: &Token<'a>,
+) -> Result<(), LpError>
+    requires { IsWithinInstance profile.now }
+    ensures { Follows result draft.new (binary_column token.now.kind profile.now draft.old token.now) }
+{
+    match token.kind() {
+        TokenKind::Word => mention_changed(
+            profile,
+            draft,
+            token,
+            Place::Binaries,
+            ColumnChange::MadeBinary,
+        ),
+        _ => Err(misplaced(token)),
+    }
+}

@@ -1,0 +1,454 @@
+// The tokens of constraints.
+ghost use Rattle.std.specs.Prelude.{◌≡◌, ◌≤◌, ◌+◌, ◌++◌, codes, string_bytes, Ok, IfOk};
+ghost use Rattle.std.specs.Fmt.{decimal};
+ghost use Rattle.rational.specs.Rational.{one_ℚ};
+ghost use Rattle.cplex_lp_reader.specs.Profile.{IsWithinInstance};
+ghost use Rattle.cplex_lp_reader.specs.Follows.{Follows};
+ghost use Rattle.cplex_lp_reader.specs.Steps.{then_do, number_of};
+ghost use Rattle.cplex_lp_reader.specs.Grammar.{signed};
+ghost use Rattle.cplex_lp_reader.specs.declared.place.Place.TheVariants as place;
+ghost use Rattle.cplex_lp_reader.specs.declared.place.TermPlace.TheVariants.{Factor};
+ghost use Rattle.cplex_lp_reader.specs.Declaration.{at_place};
+ghost use Rattle.cplex_lp_reader.specs.Constraints.{row_opened, unnamed_row as row_without_name, unnamed_row_at as row_without_name_at, row_term as term_of_row, row_begun as begun_of_row, row_factor as factor_of_row, row_done as done_of_row, in_row_terms as in_form_of_row, may_follow as may_follow_left, at_row_name as name_of_row, at_row_start as start_of_row, at_row_colon as colon_of_row, at_row_first as first_of_row, at_row_number as number_of_row, at_row_right as right_of_row, row_closed, with_right};
+
+use crate::columns::mention;
+use crate::draft::Draft;
+use crate::error::LpError;
+use crate::faults::{fault_at, misplaced, number_of_token};
+use crate::place::{Place, Sign, TermPlace};
+use crate::profile::Profile;
+use crate::token::{Relation, Token, TokenKind, is_before_colon};
+use file_fault::FaultKind;
+use fraction::Frac;
+use std::alloc::{AllocError, Global};
+
+// ---- a row begins
+
+// The row of this name begins at a line; a name is used once.
+fn open_row(
+    alloc: Global,
+    profile: &Profile,
+    draft: &mut Draft,
+    line: usize,
+    name: String,
+) -> Result<(), LpError>
+    requires { IsWithinInstance profile.now }
+    ensures { Follows result draft.new (row_opened profile.now line (string_bytes name) draft.old) }
+{
+    if draft.has_row(name.as_str()) {
+        return Err(fault_at(line, FaultKind::Twice));
+    }
+    if draft.row_count() >= profile.rows {
+        return Err(fault_at(line, FaultKind::TooMany));
+    }
+    draft.push_row(alloc, line, name)?;
+    Ok(())
+}
+
+fn named_row(
+    alloc: Global,
+    profile: &Profile,
+    draft: &mut Draft,
+    token: &Token,
+) -> Result<(), LpError>
+    requires { IsWithinInstance profile.now }
+    ensures { Follows result draft.new (row_opened profile.now token.now.line token.now.text draft.old) }
+{
+    let name = token.text().to_string(alloc)?;
+    open_row(alloc, profile, draft, token.line(), name)
+}
+
+// The row after so many, without a name.
+fn default_name(alloc: Global, rows: usize) -> Result<String, AllocError>
+    requires { rows ≤ 100_000 }
+    ensures { IfOk result (λ name. string_bytes name ≡ codes "r." ++ decimal (rows + 1)) }
+{
+    let number = rows + 1;
+    format!(in alloc; "r.{number}")
+}
+
+// A row without a name begins at a line.
+fn unnamed_row(
+    alloc: Global,
+    profile: &Profile,
+    draft: &mut Draft,
+    line: usize,
+) -> Result<(), LpError>
+    requires { IsWithinInstance profile.now }
+    ensures { Follows result draft.new (row_without_name profile.now line draft.old) }
+{
+    let name = default_name(alloc, draft.row_count())?;
+    open_row(alloc, profile, draft, line, name)
+}
+
+// The same, and another token comes.
+fn unnamed_row_at(
+    alloc: Global,
+    profile: &Profile,
+    draft: &mut Draft,
+    place: Place,
+    line: usize,
+) -> Result<(), LpError>
+    requires { IsWithinInstance profile.now }
+    ensures { Follows result draft.new (row_without_name_at place profile.now line draft.old) }
+{
+    unnamed_row(alloc, profile, draft, line)?;
+    draft.set_place(place);
+    Ok(())
+}
+
+// ---- terms
+
+// A number times the column of a name.
+fn row_term<'a>(
+    profile: &Profile,
+    draft: &mut Draft<'a>,
+    value: Frac,
+    token: &Token<'a>,
+) -> Result<(), LpError>
+    requires { IsWithinInstance profile.now }
+    ensures { Follows result draft.new (term_of_row profile.now value token.now draft.old) }
+{
+    let column = draft.place_of(token.text());
+    mention(profile, draft, token)?;
+    draft.add_to_row(token.line(), column, value)
+}
+
+fn row_literal(draft: &mut Draft, sign: Sign, token: &Token) -> Result<(), LpError>
+    ensures { Follows result draft.new (then_do (λ v. Ok (at_place (place.RowTerms (Factor (signed sign v))) draft.old)) (number_of token.now)) }
+{
+    let value = number_of_token(token)?;
+    draft.set_place(Place::RowTerms(TermPlace::Factor(sign.signed(value))));
+    Ok(())
+}
+
+// A term is about to begin, or has signs alone.
+fn row_begun<'a>(
+    profile: &Profile,
+    draft: &mut Draft<'a>,
+    sign: Sign,
+    token: &Token<'a>,
+) -> Result<(), LpError>
+    requires { IsWithinInstance profile.now }
+    ensures { Follows result draft.new (begun_of_row token.now.kind profile.now draft.old sign token.now) }
+{
+    match token.kind() {
+        TokenKind::Plus => {
+            draft.set_place(Place::RowTerms(TermPlace::Begun(sign.after_plus())));
+            Ok(())
+        }
+        TokenKind::Minus => {
+            draft.set_place(Place::RowTerms(TermPlace::Begun(sign.after_minus())));
+            Ok(())
+        }
+        TokenKind::Literal => row_literal(draft, sign, token),
+        TokenKind::Word => row_term(profile, draft, sign.signed(Frac::whole(1)), token),
+        _ => Err(misplaced(token)),
+    }
+}
+
+// After the number before a name.
+fn row_factor<'a>(
+    profile: &Profile,
+    draft: &mut Draft<'a>,
+    value: Frac,
+    token: &Token<'a>,
+) -> Result<(), LpError>
+    requires { IsWithinInstance profile.now }
+    ensures { Follows result draft.new (factor_of_row token.now.kind profile.now draft.old value token.now) }
+{
+    match token.kind() {
+        TokenKind::Word => row_term(profile, draft, value, token),
+        _ => Err(misplaced(token)),
+    }
+}
+
+// Two relations have the same direction, and neither is `=`.
+fn may_follow(left: Option<Relation>, relation: Relation) -> bool
+    ensures { result ≡ may_follow_left left relation }
+{
+    match left {
+        None => true,
+        Some(Relation::AtMost) => match relation {
+            Relation::AtMost => true,
+            Relation::AtLeast | Relation::Exactly => false,
+        },
+        Some(Relation::AtLeast) => match relation {
+            Relation::AtLeast => true,
+            Relation::AtMost | Relation::Exactly => false,
+        },
+        Some(Relation::Exactly) => false,
+    }
+}
+
+// The relation before the number on the row's right.
+fn row_relation(draft: &mut Draft, relation: Relation, token: &Token) -> Result<(), LpError>
+    ensures { Follows result draft.new (done_of_row (TokenKind.Compared relation) draft.old token.now) }
+{
+    if may_follow(draft.row_left(), relation) {
+        draft.set_place(Place::RowRight(relation, Sign::Unsigned));
+        Ok(())
+    } else {
+        Err(misplaced(token))
+    }
+}
+
+// After a term.
+fn row_done(draft: &mut Draft, token: &Token) -> Result<(), LpError>
+    ensures { Follows result draft.new (done_of_row token.now.kind draft.old token.now) }
+{
+    match token.kind() {
+        TokenKind::Plus => {
+            draft.set_place(Place::RowTerms(TermPlace::Begun(Sign::Plus)));
+            Ok(())
+        }
+        TokenKind::Minus => {
+            draft.set_place(Place::RowTerms(TermPlace::Begun(Sign::Minus)));
+            Ok(())
+        }
+        TokenKind::Compared(relation) => row_relation(draft, relation, token),
+        _ => Err(misplaced(token)),
+    }
+}
+
+pub(crate) fn in_row_terms<'a>(
+    profile: &Profile,
+    draft: &mut Draft<'a>,
+    place: TermPlace,
+    token: &Token<'a>,
+) -> Result<(), LpError>
+    requires { IsWithinInstance profile.now }
+    ensures { Follows result draft.new (in_form_of_row place profile.now draft.old token.now) }
+{
+    match place {
+        TermPlace::Begun(sign) => row_begun(profile, draft, sign, token),
+        TermPlace::Factor(value) => row_factor(profile, draft, value, token),
+        TermPlace::Done => row_done(draft, token),
+    }
+}
+
+// ---- the first tokens
+
+// The name of a row.
+fn row_name(
+    alloc: Global,
+    profile: &Profile,
+    draft: &mut Draft,
+    token: &Token,
+) -> Result<(), LpError>
+    requires { IsWithinInstance profile.now }
+    ensures { Follows result draft.new (then_do (λ opened. Ok (at_place place.RowColon opened)) (row_opened profile.now token.now.line token.now.text draft.old)) }
+{
+    named_row(alloc, profile, draft, token)?;
+    draft.set_place(Place::RowColon);
+    Ok(())
+}
+
+// The name of an unnamed row's first term.
+fn unnamed_term<'a>(
+    alloc: Global,
+    profile: &Profile,
+    draft: &mut Draft<'a>,
+    token: &Token<'a>,
+) -> Result<(), LpError>
+    requires { IsWithinInstance profile.now }
+    ensures { Follows result draft.new (then_do (term_of_row profile.now one_ℚ token.now) (row_without_name profile.now token.now.line draft.old)) }
+{
+    unnamed_row(alloc, profile, draft, token.line())?;
+    row_term(profile, draft, Frac::whole(1), token)
+}
+
+// A name before a colon is the row's, and another is that of its first term.
+fn at_row_name<'a>(
+    alloc: Global,
+    profile: &Profile,
+    draft: &mut Draft<'a>,
+    token: &Token<'a>,
+    rest: &[Token],
+) -> Result<(), LpError>
+    requires { IsWithinInstance profile.now }
+    ensures { Follows result draft.new (name_of_row profile.now draft.old token.now rest.now) }
+{
+    if is_before_colon(rest) {
+        row_name(alloc, profile, draft, token)
+    } else {
+        unnamed_term(alloc, profile, draft, token)
+    }
+}
+
+// The first number of an unnamed row.
+fn unnamed_literal(
+    alloc: Global,
+    profile: &Profile,
+    draft: &mut Draft,
+    token: &Token,
+) -> Result<(), LpError>
+    requires { IsWithinInstance profile.now }
+    ensures { Follows result draft.new (then_do (λ v. row_without_name_at (place.RowNumber v) profile.now token.now.line draft.old) (number_of token.now)) }
+{
+    let value = number_of_token(token)?;
+    unnamed_row_at(alloc, profile, draft, Place::RowNumber(value), token.line())
+}
+
+pub(crate) fn at_row_start<'a>(
+    alloc: Global,
+    profile: &Profile,
+    draft: &mut Draft<'a>,
+    token: &Token<'a>,
+    rest: &[Token],
+) -> Result<(), LpError>
+    requires { IsWithinInstance profile.now }
+    ensures { Follows result draft.new (start_of_row token.now.kind profile.now draft.old token.now rest.now) }
+{
+    match token.kind() {
+        TokenKind::Word => at_row_name(alloc, profile, draft, token, rest),
+        TokenKind::Plus => {
+            let place = Place::RowFirst(Sign::Plus);
+            unnamed_row_at(alloc, profile, draft, place, token.line())
+        }
+        TokenKind::Minus => {
+            let place = Place::RowFirst(Sign::Minus);
+            unnamed_row_at(alloc, profile, draft, place, token.line())
+        }
+        TokenKind::Literal => unnamed_literal(alloc, profile, draft, token),
+        _ => Err(misplaced(token)),
+    }
+}
+
+pub(crate) fn at_row_colon(draft: &mut Draft, token: &Token) -> Result<(), LpError>
+    ensures { Follows result draft.new (colon_of_row draft.old token.now) }
+{
+    if token.kind().is_colon() {
+        draft.set_place(Place::RowFirst(Sign::Unsigned));
+        Ok(())
+    } else {
+        Err(misplaced(token))
+    }
+}
+
+fn first_literal(draft: &mut Draft, sign: Sign, token: &Token) -> Result<(), LpError>
+    ensures { Follows result draft.new (then_do (λ v. Ok (at_place (place.RowNumber (signed sign v)) draft.old)) (number_of token.now)) }
+{
+    let value = number_of_token(token)?;
+    draft.set_place(Place::RowNumber(sign.signed(value)));
+    Ok(())
+}
+
+// The first term or the number on the left is about to begin, or has signs alone.
+pub(crate) fn at_row_first<'a>(
+    profile: &Profile,
+    draft: &mut Draft<'a>,
+    sign: Sign,
+    token: &Token<'a>,
+) -> Result<(), LpError>
+    requires { IsWithinInstance profile.now }
+    ensures { Follows result draft.new (first_of_row token.now.kind profile.now draft.old sign token.now) }
+{
+    match token.kind() {
+        TokenKind::Plus => {
+            draft.set_place(Place::RowFirst(sign.after_plus()));
+            Ok(())
+        }
+        TokenKind::Minus => {
+            draft.set_place(Place::RowFirst(sign.after_minus()));
+            Ok(())
+        }
+        TokenKind::Literal => first_literal(draft, sign, token),
+        TokenKind::Word => row_term(profile, draft, sign.signed(Frac::whole(1)), token),
+        _ => Err(misplaced(token)),
+    }
+}
+
+// After a row's first number a name or a relation comes, which isn't `=`.
+pub(crate) fn at_row_number<'a>(
+    profile: &Profile,
+    draft: &mut Draft<'a>,
+    value: Frac,
+    token: &Token<'a>,
+) -> Result<(), LpError>
+    requires { IsWithinInstance profile.now }
+    ensures { Follows result draft.new (number_of_row token.now.kind profile.now draft.old value token.now) }
+{
+    match token.kind() {
+        TokenKind::Word => row_term(profile, draft, value, token),
+        TokenKind::Compared(Relation::AtMost) => {
+            draft.set_left(Relation::AtMost, value);
+            Ok(())
+        }
+        TokenKind::Compared(Relation::AtLeast) => {
+            draft.set_left(Relation::AtLeast, value);
+            Ok(())
+        }
+        _ => Err(misplaced(token)),
+    }
+}
+
+// ---- a row ends
+
+// The last row is read to its end; entries past their limit are a fault of its first line.
+fn close_row(alloc: Global, profile: &Profile, draft: &mut Draft) -> Result<(), LpError>
+    requires { IsWithinInstance profile.now }
+    ensures { Follows result draft.new (row_closed profile.now draft.old) }
+{
+    let entries = draft.row_entries(alloc)?;
+    if draft.entry_count() + entries.len() > profile.entries {
+        return Err(fault_at(draft.row_line(), FaultKind::TooMany));
+    }
+    draft.close_row(entries);
+    Ok(())
+}
+
+fn close_at(
+    alloc: Global,
+    profile: &Profile,
+    draft: &mut Draft,
+    relation: Relation,
+    value: Frac,
+) -> Result<(), LpError>
+    requires { IsWithinInstance profile.now }
+    ensures { Follows result draft.new (row_closed profile.now (with_right draft.old value relation)) }
+{
+    draft.set_right(relation, value);
+    close_row(alloc, profile, draft)
+}
+
+fn right_literal(
+    alloc: Global,
+    profile: &Profile,
+    draft: &mut Draft,
+    relation: Relation,
+    sign: Sign,
+    token: &Token,
+) -> Result<(), LpError>
+    requires { IsWithinInstance profile.now }
+    ensures { Follows result draft.new (then_do (λ v. row_closed profile.now (with_right draft.old (signed sign v) relation)) (number_of token.now)) }
+{
+    let value = number_of_token(token)?;
+    close_at(alloc, profile, draft, relation, sign.signed(value))
+}
+
+// The number on the right is about to come, or has signs alone.
+pub(crate) fn at_row_right(
+    alloc: Global,
+    profile: &Profile,
+    draft: &mut Draft,
+    relation: Relation,
+    sign: Sign,
+    token: &Token,
+) -> Result<(), LpError>
+    requires { IsWithinInstance profile.now }
+    ensures { Follows result draft.new (right_of_row token.now.kind profile.now draft.old relation sign token.now) }
+{
+    match token.kind() {
+        TokenKind::Plus => {
+            draft.set_place(Place::RowRight(relation, sign.after_plus()));
+            Ok(())
+        }
+        TokenKind::Minus => {
+            draft.set_place(Place::RowRight(relation, sign.after_minus()));
+            Ok(())
+        }
+        TokenKind::Literal => right_literal(alloc, profile, draft, relation, sign, token),
+        _ => Err(misplaced(token)),
+    }
+}

@@ -1,0 +1,299 @@
+// A declaration in the making.
+ghost use Rattle.std.specs.Prelude.{◌≡◌, ◌+◌, ◌-◌, ◌<◌, ◌≤◌, ◌++◌, [], ◌∷◌, Some, Ok, false, length, map, string_bytes, IsTrue, IfOk, OnOk, OnErr};
+ghost use Rattle.std.specs.List.{All};
+ghost use Rattle.milp.specs.Problem.{Row, Column};
+ghost use Rattle.cplex_lp_reader.specs.Names.{AreNew};
+ghost use Rattle.cplex_lp_reader.specs.Follows.{Follows};
+ghost use Rattle.cplex_lp_reader.specs.Steps.{then_do};
+ghost use Rattle.cplex_lp_reader.specs.Consistent.{HasForm, are_terms};
+ghost use Rattle.cplex_lp_reader.specs.declared.place.Place.TheVariants as place;
+ghost use Rattle.cplex_lp_reader.specs.declared.place.TermPlace.TheVariants.{Done};
+ghost use Rattle.cplex_lp_reader.specs.Declaration.{nothing_declared, at_place, added, entries_of, place_in, new_row, new_column, with_column, with_changed};
+ghost use Rattle.cplex_lp_reader.specs.Constraints.{is_row, blank_row, entry_count as entries_of_rows, with_left, with_right, filled};
+ghost use Rattle.cplex_lp_reader.specs.Bounds.{changed};
+
+use crate::column_table::ColumnTable;
+use crate::declared_column::{ColumnChange, DeclaredColumn};
+use crate::error::LpError;
+use crate::form::Form;
+use crate::open_row::OpenRow;
+use crate::place::{Place, Sign, TermPlace};
+use crate::row::DeclaredRow;
+use crate::row_table::RowTable;
+use crate::token::Relation;
+use fraction::Frac;
+use instance::Entry;
+use milp::Direction;
+use std::alloc::{AllocError, Global};
+use std::marker::Model;
+
+// What the text has declared so far.
+#[derive(Drop)]
+pub(crate) struct Draft<'a> {
+    place: Place,
+    direction: Direction,
+    objective_name: &'a str,
+    objective: Form,
+    constant: Frac,
+    rows: RowTable,
+    // the last row, as far as it is read
+    open_row: OpenRow,
+    columns: ColumnTable<'a>,
+}
+
+impl<'a> Model for Draft<'a> {
+    ghost use Rattle.cplex_lp_reader.specs.Declaration.{Declaration};
+    ghost use Rattle.cplex_lp_reader.specs.Consistent.{IsConsistent};
+
+    ghost Value = { Declaration };
+
+    ghost view = { λ d. record { place = d.place; direction = d.direction; objective_name = d.objective_name.now; objective = d.objective; constant = d.constant; rows = d.rows; open_row = d.open_row; columns = d.columns } };
+
+    ghost invariant = { λ d. IsConsistent d.objective d.open_row.form d.rows d.columns };
+}
+
+impl<'a> Draft<'a> {
+    pub(crate) fn new(alloc: Global) -> Self
+        ensures { result ≡ nothing_declared }
+    {
+        Draft {
+            place: Place::Start,
+            direction: Direction::Min,
+            objective_name: "obj",
+            objective: Form::new(alloc),
+            constant: Frac::whole(0),
+            rows: RowTable::new(alloc),
+            open_row: OpenRow::new(alloc, 0),
+            columns: ColumnTable::new(alloc),
+        }
+    }
+
+    pub(crate) fn place(&self) -> Place
+        ensures { result ≡ self.now.place }
+    {
+        self.place
+    }
+
+    // Another token comes.
+    pub(crate) fn set_place(&mut self, place: Place)
+        ensures { self.new ≡ at_place place self.old }
+    {
+        self.place = place;
+    }
+
+    // ---- the objective
+
+    pub(crate) fn direction(&self) -> Direction
+        ensures { result ≡ self.now.direction }
+    {
+        self.direction
+    }
+
+    pub(crate) fn objective_name(&self) -> &'a str
+        ensures { result.now ≡ self.now.objective_name }
+    {
+        self.objective_name
+    }
+
+    pub(crate) fn constant(&self) -> Frac
+        ensures { result ≡ self.now.constant }
+    {
+        self.constant
+    }
+
+    // The objective's entries, but for zeros.
+    pub(crate) fn objective_entries(&self, alloc: Global) -> Result<Vec<Entry>, AllocError>
+        ensures entries { IfOk result (λ entries. entries.items ≡ entries_of self.now.objective) }
+        ensures terms { IsTrue (are_terms (length self.now.columns) self.now.objective) }
+    {
+        self.objective.entries(alloc)
+    }
+
+    pub(crate) fn begin_objective(&mut self, direction: Direction)
+        ensures { self.new ≡ record self.old { direction = direction; place = place.ObjectiveStart } }
+    {
+        self.direction = direction;
+        self.place = Place::ObjectiveStart;
+    }
+
+    pub(crate) fn name_objective(&mut self, name: &'a str)
+        ensures { self.new ≡ record self.old { objective_name = name.now; place = place.ObjectiveColon } }
+    {
+        self.objective_name = name;
+        self.place = Place::ObjectiveColon;
+    }
+
+    // A term more; the fault is at its line.
+    pub(crate) fn add_to_objective(
+        &mut self,
+        line: usize,
+        column: u32,
+        value: Frac,
+    ) -> Result<(), LpError>
+        requires { column < length self.old.columns }
+        ensures { Follows result self.new (then_do (λ form. Ok (record self.old { objective = form; place = place.Objective Done })) (added line column value self.old.objective)) }
+    {
+        self.objective.add(line, column, value)?;
+        self.place = Place::Objective(TermPlace::Done);
+        Ok(())
+    }
+
+    pub(crate) fn set_constant(&mut self, constant: Frac)
+        ensures { self.new ≡ record self.old { constant = constant; place = place.Objective Done } }
+    {
+        self.constant = constant;
+        self.place = Place::Objective(TermPlace::Done);
+    }
+
+    // ---- rows
+
+    pub(crate) fn row_count(&self) -> usize
+        ensures len { result ≡ length self.now.rows }
+        ensures few { result ≤ 100_000 }
+    {
+        self.rows.len()
+    }
+
+    pub(crate) fn entry_count(&self) -> usize
+        ensures value { result ≡ entries_of_rows self.now.rows }
+        ensures few { result ≤ 2_000_000 }
+    {
+        self.rows.entry_count()
+    }
+
+    pub(crate) fn has_row(&self, name: &str) -> bool
+        ensures { result ≡ is_row name.now self.now.rows }
+    {
+        self.rows.has(name)
+    }
+
+    pub(crate) fn rows(&self) -> &[DeclaredRow]
+        ensures value { result.now ≡ self.now.rows }
+        ensures new { AreNew (map (λ (r : Row). r.name) self.now.rows) }
+        ensures few { length self.now.rows ≤ 100_000 }
+        ensures entries { entries_of_rows self.now.rows ≤ 2_000_000 }
+        ensures forms { All (HasForm (length self.now.columns)) self.now.rows }
+    {
+        self.rows.as_slice()
+    }
+
+    // The row of a name begins at a line.
+    pub(crate) fn push_row(
+        &mut self,
+        alloc: Global,
+        line: usize,
+        name: String,
+    ) -> Result<(), AllocError>
+        requires new { is_row (string_bytes name) self.old.rows ≡ false }
+        requires room { length self.old.rows < 100_000 }
+        ensures { OnOk result (self.new ≡ record self.old { rows = self.old.rows ++ blank_row (string_bytes name) ∷ []; open_row = new_row line }) }
+    {
+        self.rows.push(alloc, name)?;
+        self.open_row = OpenRow::new(alloc, line);
+        Ok(())
+    }
+
+    // The line of the last row's first token.
+    pub(crate) fn row_line(&self) -> usize
+        ensures { result ≡ self.now.open_row.line }
+    {
+        self.open_row.line()
+    }
+
+    // The relation after the number on its left.
+    pub(crate) fn row_left(&self) -> Option<Relation>
+        ensures { result ≡ self.now.open_row.left }
+    {
+        self.open_row.left()
+    }
+
+    // Its entries, but for zeros.
+    pub(crate) fn row_entries(&self, alloc: Global) -> Result<Vec<Entry>, AllocError>
+        ensures { IfOk result (λ entries. entries.items ≡ entries_of self.now.open_row.form) }
+    {
+        self.open_row.entries(alloc)
+    }
+
+    // It has a term more; the fault is at the term's line.
+    pub(crate) fn add_to_row(
+        &mut self,
+        line: usize,
+        column: u32,
+        value: Frac,
+    ) -> Result<(), LpError>
+        requires { column < length self.old.columns }
+        ensures { Follows result self.new (then_do (λ form. Ok (record self.old { open_row = record self.old.open_row { form = form }; place = place.RowTerms Done })) (added line column value self.old.open_row.form)) }
+    {
+        self.open_row.add(line, column, value)?;
+        self.place = Place::RowTerms(TermPlace::Done);
+        Ok(())
+    }
+
+    // A number is on its left, before a relation.
+    pub(crate) fn set_left(&mut self, relation: Relation, value: Frac)
+        ensures { self.new ≡ with_left self.old value relation }
+    {
+        self.open_row.set_left(relation, value);
+        self.place = Place::RowTerms(TermPlace::Begun(Sign::Unsigned));
+    }
+
+    // A number is on its right, after a relation.
+    pub(crate) fn set_right(&mut self, relation: Relation, value: Frac)
+        ensures { self.new ≡ with_right self.old value relation }
+    {
+        self.open_row.set_right(relation, value);
+    }
+
+    // It is read to its end, and has these entries.
+    pub(crate) fn close_row(&mut self, entries: Vec<Entry>)
+        requires entries { entries.items ≡ entries_of self.old.open_row.form }
+        requires room { entries_of_rows self.old.rows + length entries.items ≤ 2_000_000 }
+        ensures { self.new ≡ record self.old { rows = with_changed (length self.old.rows - 1) (filled self.old.open_row) self.old.rows; place = place.RowStart } }
+    {
+        self.rows
+            .fill_last(self.open_row.lower(), self.open_row.upper(), entries);
+        self.place = Place::RowStart;
+    }
+
+    // ---- columns
+
+    pub(crate) fn column_count(&self) -> usize
+        ensures { result ≡ length self.now.columns }
+    {
+        self.columns.len()
+    }
+
+    pub(crate) fn columns(&self) -> &[DeclaredColumn<'a>]
+        ensures value { result.now ≡ self.now.columns }
+        ensures new { AreNew (map (λ (c : Column). c.name) self.now.columns) }
+        ensures few { length self.now.columns ≤ 100_000 }
+    {
+        self.columns.as_slice()
+    }
+
+    // The place of the column of a name, or the one that it would take.
+    pub(crate) fn place_of(&self, name: &str) -> u32
+        ensures value { result ≡ place_in name.now self.now.columns }
+        ensures within { result ≤ length self.now.columns }
+    {
+        self.columns.place(name) as u32
+    }
+
+    // A column of this name.
+    pub(crate) fn push_column(&mut self, name: &'a str) -> Result<(), AllocError>
+        requires new { length self.old.columns ≤ place_in name.now self.old.columns }
+        requires room { length self.old.columns < 100_000 }
+        ensures added { OnOk result (self.new ≡ record self.old { columns = self.old.columns ++ new_column name.now ∷ [] }) }
+        ensures more { OnOk result (length self.new.columns ≡ length self.old.columns + 1) }
+    {
+        self.columns.push(DeclaredColumn::new(name))?;
+        Ok(())
+    }
+
+    // The column at a place changed, where there is one.
+    pub(crate) fn change_column(&mut self, column: u32, change: ColumnChange)
+        ensures { self.new ≡ with_column column (changed change) self.old }
+    {
+        self.columns.change(column as usize, change);
+    }
+}

@@ -1,0 +1,127 @@
+// The problem of a finished declaration.
+ghost use Rattle.std.specs.Prelude.{◌≡◌, ◌≢◌, ◌+◌, ◌<◌, ◌≤◌, ◌++◌, [], ◌∷◌, false, length, map, IsTrue, IfOk};
+ghost use Rattle.std.specs.List.{All};
+ghost use Rattle.milp.specs.Problem.{Column as ColumnOf, Row as RowOf};
+ghost use Rattle.instance.specs.WellFormed.{are_entries, has_column, has_row, entry_count as entries_of_rows};
+ghost use Rattle.cplex_lp_reader.specs.Names.{AreNew};
+ghost use Rattle.cplex_lp_reader.specs.Consistent.{HasForm};
+ghost use Rattle.cplex_lp_reader.specs.Constraints.{entry_count};
+ghost use Rattle.cplex_lp_reader.specs.Declaration.{entries_of, problem_of};
+
+use crate::declared_column::DeclaredColumn;
+use crate::draft::Draft;
+use crate::row::DeclaredRow;
+use instance::{
+    BuildFault, Builder, Column, Entries, Entry, Instance, MAX_COLUMNS, MAX_ENTRIES, MAX_ROWS,
+    Name, Row,
+};
+use std::alloc::{AllocError, Global};
+
+pub(crate) fn finish(alloc: Global, draft: &Draft) -> Result<Instance, AllocError>
+    ensures { IfOk result (λ problem. problem ≡ problem_of draft.now) }
+{
+    let mut builder = Builder::new(alloc)?;
+    add_columns(alloc, &mut builder, draft.columns())?;
+    add_rows(alloc, &mut builder, draft.rows())?;
+    set_objective(alloc, &mut builder, draft)?;
+    Ok(builder.done())
+}
+
+// ---- columns
+
+fn add_columns(
+    alloc: Global,
+    builder: &mut Builder,
+    columns: &[DeclaredColumn],
+) -> Result<(), AllocError>
+    requires empty { builder.old.columns ≡ [] }
+    requires new { AreNew (map (λ (c : ColumnOf). c.name) columns.now) }
+    requires few { length columns.now ≤ 100_000 }
+    ensures { IfOk result (λ _. builder.new ≡ record builder.old { columns = columns.now }) }
+{
+    for column in columns {
+        add_column(alloc, builder, column)?;
+    }
+    Ok(())
+}
+
+fn add_column(
+    alloc: Global,
+    builder: &mut Builder,
+    column: &DeclaredColumn,
+) -> Result<(), AllocError>
+    requires new { has_column column.now.name builder.old.columns ≡ false }
+    requires room { length builder.old.columns < MAX_COLUMNS }
+    ensures { IfOk result (λ _. builder.new ≡ record builder.old { columns = builder.old.columns ++ column.now ∷ [] }) }
+{
+    let finished = finished_column(alloc, column)?;
+    match builder.column(finished) {
+        Ok(_) => Ok(()),
+        Err((_, fault)) => Err(no_memory(fault)),
+    }
+}
+
+fn finished_column(alloc: Global, column: &DeclaredColumn) -> Result<Column, AllocError>
+    ensures { IfOk result (λ finished. finished ≡ column.now) }
+{
+    let name = Name::new(alloc, column.name())?;
+    Ok(Column::new(name, column.lower(), column.upper(), column.integer()))
+}
+
+// There is room for one more.
+fn no_memory(_fault: BuildFault) -> AllocError
+    requires { _fault ≢ BuildFault.TooMany }
+{
+    AllocError
+}
+
+// ---- rows
+
+fn add_rows(alloc: Global, builder: &mut Builder, rows: &[DeclaredRow]) -> Result<(), AllocError>
+    requires empty { builder.old.rows ≡ [] }
+    requires new { AreNew (map (λ (r : RowOf). r.name) rows.now) }
+    requires few { length rows.now ≤ 100_000 }
+    requires forms { All (HasForm (length builder.old.columns)) rows.now }
+    requires entries { entry_count rows.now ≤ 2_000_000 }
+    ensures { IfOk result (λ _. builder.new ≡ record builder.old { rows = rows.now }) }
+{
+    for row in rows {
+        add_row(alloc, builder, row)?;
+    }
+    Ok(())
+}
+
+fn add_row(alloc: Global, builder: &mut Builder, row: &DeclaredRow) -> Result<(), AllocError>
+    requires new { has_row row.now.name builder.old.rows ≡ false }
+    requires form { HasForm (length builder.old.columns) row.now }
+    requires room { length builder.old.rows < MAX_ROWS }
+    requires entry_room { entries_of_rows builder.old.rows + length row.now.entries ≤ MAX_ENTRIES }
+    ensures { IfOk result (λ _. builder.new ≡ record builder.old { rows = builder.old.rows ++ row.now ∷ [] }) }
+{
+    let name = Name::new(alloc, row.name())?;
+    let entries = form(alloc, row.entries())?;
+    match builder.row(Row::new(name, row.lower(), row.upper(), entries)) {
+        Ok(_) => Ok(()),
+        Err((_, fault)) => Err(no_memory(fault)),
+    }
+}
+
+fn form(alloc: Global, entries: &[Entry]) -> Result<Entries, AllocError>
+    ensures { IfOk result (λ form. form ≡ entries.now) }
+{
+    let mut copied = Vec::new(alloc);
+    copied.extend_from_slice(entries)?;
+    Ok(Entries::from_vec(copied))
+}
+
+// ---- the objective
+
+fn set_objective(alloc: Global, builder: &mut Builder, draft: &Draft) -> Result<(), AllocError>
+    requires { length builder.old.columns ≡ length draft.now.columns }
+    ensures { IfOk result (λ _. builder.new ≡ record builder.old { direction = draft.now.direction; objective_name = draft.now.objective_name; objective = entries_of draft.now.objective; constant = draft.now.constant }) }
+{
+    let name = Name::new(alloc, draft.objective_name())?;
+    let entries = Entries::from_vec(draft.objective_entries(alloc)?);
+    builder.objective(draft.direction(), name, entries, draft.constant());
+    Ok(())
+}

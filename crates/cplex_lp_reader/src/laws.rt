@@ -1,0 +1,14 @@
+// What a reader that doesn't take integer columns yet has none of.
+ghost use Rattle.std.specs.Prelude.{◌≡◌, ℕ, List, false, slice_get, IfSome, Ok};
+ghost use Rattle.milp.specs.Problem.{Problem};
+ghost use Rattle.cplex_lp_reader.specs.declared.profile.Profile.{Profile};
+ghost use Rattle.cplex_lp_reader.specs.CplexLp.{declared_within, declared};
+
+/// A text that is read has no integer columns while integer columns aren't read.
+#[tactic(auto, using(crate::proofs::Continuous::columns_are_continuous, crate::proofs::Continuous::declared_columns_are_continuous))]
+pub fn declared_problems_are_continuous()
+    ensures continuous { (profile : Profile) (text : List ℕ) (p : Problem) → profile.takes_integers ≡ false
+        → declared_within profile text ≡ Ok p → (j : ℕ) → IfSome (slice_get p.columns j) (λ c. c.integer ≡ false) }
+    ensures continuous_today { (text : List ℕ) (p : Problem) → declared text ≡ Ok p
+        → (j : ℕ) → IfSome (slice_get p.columns j) (λ c. c.integer ≡ false) }
+{}

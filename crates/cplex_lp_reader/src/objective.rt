@@ -1,0 +1,179 @@
+// The tokens of the objective.
+ghost use Rattle.std.specs.Prelude.{◌≡◌};
+ghost use Rattle.fraction.specs.Answers.{add_answer};
+ghost use Rattle.cplex_lp_reader.specs.Profile.{IsWithinInstance};
+ghost use Rattle.cplex_lp_reader.specs.Follows.{Follows};
+ghost use Rattle.cplex_lp_reader.specs.Steps.{then_do, number_of};
+ghost use Rattle.cplex_lp_reader.specs.Grammar.{signed};
+ghost use Rattle.cplex_lp_reader.specs.Objective.{objective_term as term_of_objective, with_constant as with_one_more_constant, objective_number as number_of_objective, objective_begun as begun_of_objective, objective_factor as factor_of_objective, objective_done as done_of_objective, in_objective as in_form_of_objective, at_objective_start as start_of_objective, at_objective_colon as colon_of_objective};
+
+use crate::columns::mention;
+use crate::draft::Draft;
+use crate::error::LpError;
+use crate::faults::{misplaced, number_of_token};
+use crate::form::sum_at;
+use crate::place::{Place, Sign, TermPlace};
+use crate::profile::Profile;
+use crate::token::{Token, TokenKind, is_before_colon, is_before_name};
+use fraction::Frac;
+
+// ---- terms
+
+// A number times the column of a name.
+fn objective_term<'a>(
+    profile: &Profile,
+    draft: &mut Draft<'a>,
+    value: Frac,
+    token: &Token<'a>,
+) -> Result<(), LpError>
+    requires { IsWithinInstance profile.now }
+    ensures { Follows result draft.new (term_of_objective profile.now draft.old value token.now) }
+{
+    let column = draft.place_of(token.text());
+    mention(profile, draft, token)?;
+    draft.add_to_objective(token.line(), column, value)
+}
+
+fn with_constant(draft: &mut Draft, value: Frac, token: &Token) -> Result<(), LpError>
+    ensures { Follows result draft.new (with_one_more_constant draft.old value token.now) }
+{
+    let sum = sum_at(token.line(), draft.constant(), value)?;
+    draft.set_constant(sum);
+    Ok(())
+}
+
+// The number before a name, or a term without a name.
+fn objective_number(
+    draft: &mut Draft,
+    token: &Token,
+    rest: &[Token],
+    value: Frac,
+) -> Result<(), LpError>
+    ensures { Follows result draft.new (number_of_objective draft.old token.now rest.now value) }
+{
+    if is_before_name(rest) {
+        draft.set_place(Place::Objective(TermPlace::Factor(value)));
+        Ok(())
+    } else {
+        with_constant(draft, value, token)
+    }
+}
+
+fn objective_literal(
+    draft: &mut Draft,
+    sign: Sign,
+    token: &Token,
+    rest: &[Token],
+) -> Result<(), LpError>
+    ensures { Follows result draft.new (then_do (λ v. number_of_objective draft.old token.now rest.now (signed sign v)) (number_of token.now)) }
+{
+    let value = number_of_token(token)?;
+    objective_number(draft, token, rest, sign.signed(value))
+}
+
+// A term is about to begin, or has signs alone.
+fn objective_begun<'a>(
+    profile: &Profile,
+    draft: &mut Draft<'a>,
+    sign: Sign,
+    token: &Token<'a>,
+    rest: &[Token],
+) -> Result<(), LpError>
+    requires { IsWithinInstance profile.now }
+    ensures { Follows result draft.new (begun_of_objective token.now.kind profile.now draft.old sign token.now rest.now) }
+{
+    match token.kind() {
+        TokenKind::Plus => {
+            draft.set_place(Place::Objective(TermPlace::Begun(sign.after_plus())));
+            Ok(())
+        }
+        TokenKind::Minus => {
+            draft.set_place(Place::Objective(TermPlace::Begun(sign.after_minus())));
+            Ok(())
+        }
+        TokenKind::Literal => objective_literal(draft, sign, token, rest),
+        TokenKind::Word => objective_term(profile, draft, sign.signed(Frac::whole(1)), token),
+        _ => Err(misplaced(token)),
+    }
+}
+
+// After the number before a name.
+fn objective_factor<'a>(
+    profile: &Profile,
+    draft: &mut Draft<'a>,
+    value: Frac,
+    token: &Token<'a>,
+) -> Result<(), LpError>
+    requires { IsWithinInstance profile.now }
+    ensures { Follows result draft.new (factor_of_objective token.now.kind profile.now draft.old value token.now) }
+{
+    match token.kind() {
+        TokenKind::Word => objective_term(profile, draft, value, token),
+        _ => Err(misplaced(token)),
+    }
+}
+
+// After a term.
+fn objective_done(draft: &mut Draft, token: &Token) -> Result<(), LpError>
+    ensures { Follows result draft.new (done_of_objective token.now.kind draft.old token.now) }
+{
+    match token.kind() {
+        TokenKind::Plus => {
+            draft.set_place(Place::Objective(TermPlace::Begun(Sign::Plus)));
+            Ok(())
+        }
+        TokenKind::Minus => {
+            draft.set_place(Place::Objective(TermPlace::Begun(Sign::Minus)));
+            Ok(())
+        }
+        _ => Err(misplaced(token)),
+    }
+}
+
+pub(crate) fn in_objective<'a>(
+    profile: &Profile,
+    draft: &mut Draft<'a>,
+    place: TermPlace,
+    token: &Token<'a>,
+    rest: &[Token],
+) -> Result<(), LpError>
+    requires { IsWithinInstance profile.now }
+    ensures { Follows result draft.new (in_form_of_objective place profile.now draft.old token.now rest.now) }
+{
+    match place {
+        TermPlace::Begun(sign) => objective_begun(profile, draft, sign, token, rest),
+        TermPlace::Factor(value) => objective_factor(profile, draft, value, token),
+        TermPlace::Done => objective_done(draft, token),
+    }
+}
+
+// ---- the first tokens
+
+// A name before a colon is the objective's.
+pub(crate) fn at_objective_start<'a>(
+    profile: &Profile,
+    draft: &mut Draft<'a>,
+    token: &Token<'a>,
+    rest: &[Token],
+) -> Result<(), LpError>
+    requires { IsWithinInstance profile.now }
+    ensures { Follows result draft.new (start_of_objective profile.now draft.old token.now rest.now) }
+{
+    if token.kind().is_name() && is_before_colon(rest) {
+        draft.name_objective(token.text());
+        Ok(())
+    } else {
+        objective_begun(profile, draft, Sign::Unsigned, token, rest)
+    }
+}
+
+pub(crate) fn at_objective_colon(draft: &mut Draft, token: &Token) -> Result<(), LpError>
+    ensures { Follows result draft.new (colon_of_objective draft.old token.now) }
+{
+    if token.kind().is_colon() {
+        draft.set_place(Place::Objective(TermPlace::Begun(Sign::Unsigned)));
+        Ok(())
+    } else {
+        Err(misplaced(token))
+    }
+}

@@ -1,0 +1,185 @@
+// Tokens, by where they stand.
+ghost use Rattle.std.specs.Prelude.{◌≡◌};
+ghost use Rattle.cplex_lp_reader.specs.Profile.{IsWithinInstance};
+ghost use Rattle.cplex_lp_reader.specs.Follows.{Follows};
+ghost use Rattle.cplex_lp_reader.specs.CplexLp.{entered as entered_section, entered_integers as entered_integer_section, directed as directed_objective, at_section as at_section_words, in_section as in_section_at, by_kind, with_token, at_end as at_end_of_text};
+
+use crate::bounds::{
+    at_binary, at_bound_compared, at_bound_left, at_bound_name, at_bound_named, at_bound_relation,
+    at_bound_right, at_bound_start, at_general,
+};
+use crate::constraints::{
+    at_row_colon, at_row_first, at_row_number, at_row_right, at_row_start, in_row_terms,
+};
+use crate::draft::Draft;
+use crate::error::LpError;
+use crate::faults::{fault_at, misplaced};
+use crate::objective::{at_objective_colon, at_objective_start, in_objective};
+use crate::place::Place;
+use crate::profile::Profile;
+use crate::token::{Section, Token, TokenKind};
+use file_fault::FaultKind;
+use milp::Direction;
+use std::alloc::Global;
+
+// ---- sections
+
+// Another section begins, if it may.
+fn enter(draft: &mut Draft, may: bool, next: Place, token: &Token) -> Result<(), LpError>
+    ensures { Follows result draft.new (entered_section may next draft.old token.now) }
+{
+    if may {
+        draft.set_place(next);
+        Ok(())
+    } else {
+        Err(misplaced(token))
+    }
+}
+
+// The same of integer columns, where they are taken.
+fn enter_integers(
+    profile: &Profile,
+    draft: &mut Draft,
+    next: Place,
+    token: &Token,
+) -> Result<(), LpError>
+    ensures { Follows result draft.new (entered_integer_section profile.now next draft.old token.now) }
+{
+    if !draft.place().ends_section() {
+        return Err(misplaced(token));
+    }
+    if !profile.takes_integers {
+        return Err(fault_at(token.line(), FaultKind::IntegersNotYet));
+    }
+    draft.set_place(next);
+    Ok(())
+}
+
+// The objective comes first.
+fn direct(draft: &mut Draft, direction: Direction, token: &Token) -> Result<(), LpError>
+    ensures { Follows result draft.new (directed_objective direction draft.old token.now) }
+{
+    if draft.place().is_start() {
+        draft.begin_objective(direction);
+        Ok(())
+    } else {
+        Err(misplaced(token))
+    }
+}
+
+fn at_section(
+    profile: &Profile,
+    draft: &mut Draft,
+    section: Section,
+    token: &Token,
+) -> Result<(), LpError>
+    ensures { Follows result draft.new (at_section_words section profile.now draft.old token.now) }
+{
+    match section {
+        Section::Minimize => direct(draft, Direction::Min, token),
+        Section::Maximize => direct(draft, Direction::Max, token),
+        Section::Constraints => {
+            let may = draft.place().ends_objective();
+            enter(draft, may, Place::RowStart, token)
+        }
+        Section::Bounds => {
+            let may = draft.place().ends_section();
+            enter(draft, may, Place::BoundStart, token)
+        }
+        Section::General => enter_integers(profile, draft, Place::Generals, token),
+        Section::Binary => enter_integers(profile, draft, Place::Binaries, token),
+        Section::End => {
+            let may = draft.place().ends_section();
+            enter(draft, may, Place::Ended, token)
+        }
+    }
+}
+
+// ---- tokens
+
+// A token inside a section, and those that follow it.
+fn in_section<'a>(
+    alloc: Global,
+    profile: &Profile,
+    draft: &mut Draft<'a>,
+    token: &Token<'a>,
+    rest: &[Token],
+) -> Result<(), LpError>
+    requires { IsWithinInstance profile.now }
+    ensures { Follows result draft.new (in_section_at draft.old.place profile.now draft.old token.now rest.now) }
+{
+    match draft.place() {
+        Place::Start => Err(misplaced(token)),
+        Place::ObjectiveStart => at_objective_start(profile, draft, token, rest),
+        Place::ObjectiveColon => at_objective_colon(draft, token),
+        Place::Objective(place) => in_objective(profile, draft, place, token, rest),
+        Place::RowStart => at_row_start(alloc, profile, draft, token, rest),
+        Place::RowColon => at_row_colon(draft, token),
+        Place::RowFirst(sign) => at_row_first(profile, draft, sign, token),
+        Place::RowNumber(value) => at_row_number(profile, draft, value, token),
+        Place::RowTerms(place) => in_row_terms(profile, draft, place, token),
+        Place::RowRight(relation, sign) => {
+            at_row_right(alloc, profile, draft, relation, sign, token)
+        }
+        Place::BoundStart => at_bound_start(profile, draft, token),
+        Place::BoundLeft(sign) => at_bound_left(draft, sign, token),
+        Place::BoundRelation(limit) => at_bound_relation(draft, limit, token),
+        Place::BoundName(limit, relation) => {
+            at_bound_name(profile, draft, limit, relation, token)
+        }
+        Place::BoundNamed(column) => at_bound_named(profile, draft, column, token),
+        Place::BoundCompared(column) => at_bound_compared(profile, draft, column, token),
+        Place::BoundRight(column, relation, sign) => {
+            at_bound_right(draft, column, relation, sign, token)
+        }
+        Place::Generals => at_general(profile, draft, token),
+        Place::Binaries => at_binary(profile, draft, token),
+        Place::Ended => Ok(()),
+    }
+}
+
+fn of_kind<'a>(
+    alloc: Global,
+    profile: &Profile,
+    draft: &mut Draft<'a>,
+    token: &Token<'a>,
+    rest: &[Token],
+) -> Result<(), LpError>
+    requires { IsWithinInstance profile.now }
+    ensures { Follows result draft.new (by_kind token.now.kind profile.now draft.old token.now rest.now) }
+{
+    match token.kind() {
+        TokenKind::SectionWords(section) => at_section(profile, draft, section, token),
+        _ => in_section(alloc, profile, draft, token, rest),
+    }
+}
+
+// Adds what a token declares. Nothing after the end is read.
+pub(crate) fn read_token<'a>(
+    alloc: Global,
+    profile: &Profile,
+    draft: &mut Draft<'a>,
+    token: &Token<'a>,
+    rest: &[Token],
+) -> Result<(), LpError>
+    requires { IsWithinInstance profile.now }
+    ensures { Follows result draft.new (with_token profile.now draft.old token.now rest.now) }
+{
+    if draft.place().is_ended() {
+        return Ok(());
+    }
+    of_kind(alloc, profile, draft, token, rest)
+}
+
+// A missing `end` is accepted; another fault at the text's end is at the line after the last.
+pub(crate) fn at_end(draft: &mut Draft, line: usize) -> Result<(), LpError>
+    ensures { Follows result draft.new (at_end_of_text line draft.old) }
+{
+    if draft.place().is_ended() {
+        return Ok(());
+    }
+    if draft.place().ends_section() {
+        return Ok(());
+    }
+    Err(fault_at(line, FaultKind::BadLine))
+}
