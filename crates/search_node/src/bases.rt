@@ -1,5 +1,6 @@
 // Bases as the program holds them.
-ghost use Rattle.std.specs.Prelude.{◌≡◌, [], ◌∷◌, ◌++◌, OnOk, OnErr};
+ghost use Rattle.std.specs.Prelude.{◌≡◌, [], ◌∷◌, OnOk, OnErr};
+ghost use Rattle.search_node.specs.Bases.{next_bases};
 
 use basis::Place;
 use std::alloc::{AllocError, Global};
@@ -43,44 +44,49 @@ impl Basis {
     }
 }
 
-/// The bases of a run, the first of them first.
+/// What one step of a run exchanges: one variable becomes basic, and another one, or the same, rests at a place.
+#[derive(Clone, Copy, Debug, PartialEq, Eq)]
+pub struct Exchange {
+    pub enters: usize,
+    pub leaves: usize,
+    pub place: Place,
+}
+
+/// The bases of a run, kept as the first of them and what each step exchanged. Their value is the list of them, the
+/// latest first.
 #[derive(Drop)]
 pub struct Bases {
-    bases: Vec<Basis>,
+    start: Vec<Place>,
+    exchanges: Vec<Exchange>,
 }
 
 impl Model for Bases {
     ghost use Rattle.std.specs.Prelude.{List};
     ghost use Rattle.basis.specs.declared.Place.{Place as PlaceOf};
+    ghost use Rattle.search_node.specs.Bases.{bases_of};
 
     ghost Value = { List (List PlaceOf) };
 
-    ghost view = { λ b. b.bases.items };
+    ghost view = { λ b. bases_of b.start.items b.exchanges.items };
 }
 
 impl Bases {
-    /// No basis.
-    pub fn new(alloc: Global) -> Self
-        ensures { result ≡ [] }
+    /// The one basis with these places. It takes no memory.
+    pub fn start(alloc: Global, places: Vec<Place>) -> Self
+        ensures { result ≡ places.items ∷ [] }
     {
         Bases {
-            bases: Vec::new(alloc),
+            start: places,
+            exchanges: Vec::new(alloc),
         }
     }
 
-    /// One more basis, at the end. After an error nothing has changed.
-    pub fn push(&mut self, basis: Basis) -> Result<(), AllocError>
-        ensures ok { OnOk result (self.new ≡ self.old ++ basis ∷ []) }
+    /// One more basis: the latest one, exchanged. After an error nothing has changed.
+    pub fn exchange(&mut self, exchange: Exchange) -> Result<(), AllocError>
+        ensures ok { OnOk result (self.new ≡ next_bases self.old exchange) }
         ensures kept { OnErr result (self.new ≡ self.old) }
     {
-        self.bases.push(basis)?;
+        self.exchanges.push(exchange)?;
         Ok(())
-    }
-
-    /// The bases, for reading.
-    pub fn as_slice(&self) -> &[Basis]
-        ensures { result.now ≡ self.now }
-    {
-        &self.bases
     }
 }

@@ -5,6 +5,6 @@ mod bases;
 mod fault;
 mod node;
 
-pub use bases::{Bases, Basis};
+pub use bases::{Bases, Basis, Exchange};
 pub use fault::{Site, Stuck, Unfit};
 pub use node::{Node, Side, SplitTaken, SplitsTaken};

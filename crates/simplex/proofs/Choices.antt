@@ -17,10 +17,10 @@ use Rattle.simplex.specs.Table.{is_basic}
 use Rattle.simplex.specs.Values.{passed_bound, can_rise, can_fall, can_raise, can_mend}
 use Rattle.simplex.proofs.TableForms.{basic_test}
 
-lower_at : (s : System) (v : ℕ) (b : Bounds) → slice_get s.bounds v ≡ Some b → lower_of s v ≡ b.lower
+pub lower_at : (s : System) (v : ℕ) (b : Bounds) → slice_get s.bounds v ≡ Some b → lower_of s v ≡ b.lower
 lower_at s v b e = ap (option_and_then (λ (c : Bounds). c.lower)) e
 
-upper_at : (s : System) (v : ℕ) (b : Bounds) → slice_get s.bounds v ≡ Some b → upper_of s v ≡ b.upper
+pub upper_at : (s : System) (v : ℕ) (b : Bounds) → slice_get s.bounds v ≡ Some b → upper_of s v ≡ b.upper
 upper_at s v b e = ap (option_and_then (λ (c : Bounds). c.upper)) e
 
 below_lower : (o : Option Rational) (a : Rational) → lies_above o a ≡ false → (l : Rational) × (o ≡ Some l) × (a <ℚ l)

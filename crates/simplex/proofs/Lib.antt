@@ -12,3 +12,14 @@ pub mod StartTable
 pub mod TableFlip
 pub mod SumLemmas
 pub mod StartPoint
+pub mod RatioLemmas
+pub mod DecisionLemmas
+pub mod StateLemmas
+pub mod Crossing
+pub mod WeightItems
+pub mod PointNumbers
+pub mod Shares
+pub mod RayNumbers
+pub mod Narrowing
+pub mod NodeEnds
+pub mod OverColumns

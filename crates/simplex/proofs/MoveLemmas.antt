@@ -15,10 +15,10 @@ use Rattle.simplex.specs.Table.{Table, is_basic, dictionary_of}
 use Rattle.simplex.specs.Values.{direction_of, IsVariableFault, IsMoveFault}
 use Rattle.simplex.proofs.TableForms.{resting_test}
 
-direction-self : (t : Table) (q v : ℕ) → (v == q) ≡ true → direction_of t q v ≡ one_ℚ
+pub direction-self : (t : Table) (q v : ℕ) → (v == q) ≡ true → direction_of t q v ≡ one_ℚ
 direction-self t q v e = rw e refl
 
-direction-basic : (t : Table) (q v : ℕ) → (v == q) ≡ false → is_basic (place_of t.places v) ≡ true → direction_of t q v ≡ rate_of (dictionary_of t) q v
+pub direction-basic : (t : Table) (q v : ℕ) → (v == q) ≡ false → is_basic (place_of t.places v) ≡ true → direction_of t q v ≡ rate_of (dictionary_of t) q v
 direction-basic t q v e f = rw (e, f) refl
 
 direction-resting : (t : Table) (q v : ℕ) → (v == q) ≡ false → is_basic (place_of t.places v) ≡ false → direction_of t q v ≡ zero_ℚ

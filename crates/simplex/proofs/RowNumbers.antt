@@ -12,7 +12,7 @@ use Rattle.milp.specs.Form.{number_at}
 use Rattle.verdicts.proofs.Numbers.{minus_one-mul}
 use Rattle.basis.proofs.Order.{zero_numerator}
 use Rattle.instance.specs.WellFormed.{is_zero}
-use Rattle.fraction.specs.Fits.{fits, sum_fits}
+use Rattle.fraction.specs.Fits.{fits}
 use Rattle.fraction.specs.Answers.{mul_add_answer, result_fits}
 use Rattle.fraction.specs.declared.frac.Op.TheVariants.{Add, Mul}
 use Rattle.fraction.specs.declared.frac.NoFit.{NoFit}

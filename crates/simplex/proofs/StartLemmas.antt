@@ -1,5 +1,5 @@
 -- The table at the start of a run.
-use Rattle.std.proofs.Common.{◌≡◌, ◌∙◌, ℕ, zero, suc, ◌+◌, ◌-◌, ◌<◌, ◌≤◌, ◌≢◌, List, [], ◌∷◌, ◌++◌, length, get_or, set, drop, replicate, refl, sym, ap, subst, arith, Bool, true, false, cond, ◌==◌, Option, Some, None, IfSome, slice_get}
+use Rattle.std.proofs.Common.{◌≡◌, ◌∙◌, ℕ, zero, suc, ◌+◌, ◌<◌, ◌≤◌, ◌≢◌, List, [], ◌∷◌, ◌++◌, length, get_or, set, drop, replicate, refl, sym, ap, subst, arith, true, false, ◌==◌, Option, Some, IfSome, slice_get}
 use mathlib.Core.Path.{ap₂}
 use Rattle.std.proofs.lemmas.List.{drop_more, length-set, get_or-set_same, get_or-set_other, length-append, get_or_append_left, get_or-append-add}
 use Rattle.std.proofs.lemmas.Bool.Decides.{nat_tests}
@@ -9,7 +9,7 @@ use Rattle.rational.proofs.Field as Q
 use Rattle.milp.specs.Form.{Entry, number_at}
 use Rattle.verdicts.specs.WeightedSums.{AllBelow, coefficient_of}
 use Rattle.simplex.specs.Ascending.{IsAscending}
-use Rattle.simplex.specs.Start.{IsDense, AreDense, AreCounted}
+use Rattle.simplex.specs.Start.{IsDense, AreCounted}
 
 -- ---- one row
 

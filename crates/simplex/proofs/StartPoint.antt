@@ -1,18 +1,17 @@
 -- The numbers of the variables at the start of a run.
-use Rattle.std.proofs.Common.{◌≡◌, ◌∙◌, ℕ, zero, suc, ◌+◌, ◌-◌, ◌<◌, ◌≤◌, ◌≢◌, List, [], ◌∷◌, ◌++◌, length, map, get_or, set, refl, sym, ap, subst, arith, Bool, Option, Some, None, IfSome, slice_get, inl, inr}
-use Rattle.std.specs.Prelude.{option_and_then, option_map}
+use Rattle.std.proofs.Common.{◌≡◌, ◌∙◌, ℕ, zero, suc, ◌+◌, ◌<◌, ◌≤◌, List, [], ◌∷◌, ◌++◌, length, get_or, set, refl, sym, ap, subst, arith, Option, Some, IfSome, slice_get}
+use Rattle.std.specs.Prelude.{option_and_then}
 use mathlib.Core.Path.{ap₂}
 use Rattle.std.proofs.lemmas.List.{length-set, get_or-set_same, get_or-set_other, length-append, get_or_append_left, get_or-append-add}
-use Rattle.std.proofs.lemmas.Option.{slice_get-map, slice_get-get_or, slice_get_within}
-use Rattle.std.proofs.lemmas.Bool.Decides.{nat_tests}
-use Rattle.std.proofs.Math.Decide.{ℕ_discrete, dec_lt}
-use Rattle.rational.specs.Rational.{Rational, zero_ℚ, ◌+ℚ◌, ◌*ℚ◌}
+use Rattle.std.proofs.lemmas.Option.{slice_get-get_or}
+use Rattle.std.proofs.Math.Decide.{ℕ_discrete}
+use Rattle.rational.specs.Rational.{Rational, zero_ℚ, ◌*ℚ◌}
 use Rattle.milp.specs.Form.{Entry, value_at, number_at}
 use Rattle.verdicts.specs.WeightedSums.{AllBelow}
-use Rattle.basis.specs.System.{Bounds, System, IsSystem, size, lower_of, upper_of, Satisfies}
+use Rattle.basis.specs.System.{Bounds, System, IsSystem, size, lower_of, upper_of}
 use Rattle.basis.specs.Bland.{first_number, start_point}
 use Rattle.basis.specs.Numbers.{products_of, prefix_sum}
-use Rattle.basis.proofs.Start.{same_below, extended-column, extended_satisfies}
+use Rattle.basis.proofs.Start.{same_below, extended_satisfies}
 use Rattle.fraction.specs.declared.frac.NoFit.{NoFit}
 use Rattle.simplex.specs.Sums.{IsTermFault, IsSumFault, IsStartFault, AreLonger, AreFirstNumbers, AreStartNumbers}
 use Rattle.simplex.proofs.SumLemmas.{entry_below}

@@ -1,7 +1,7 @@
 -- Sums from the left.
-use Rattle.std.proofs.Common.{◌≡◌, ◌∙◌, ℕ, zero, suc, ◌+◌, ◌<◌, ◌≤◌, List, [], ◌∷◌, length, map, take, drop, get_or, refl, sym, ap, subst, arith, Option, Some, None, slice_get}
+use Rattle.std.proofs.Common.{◌≡◌, ◌∙◌, ℕ, zero, suc, ◌+◌, ◌<◌, ◌≤◌, List, [], ◌∷◌, length, take, get_or, refl, sym, ap, subst, arith, Some, None, slice_get}
 use mathlib.Core.Path.{ap₂}
-use Rattle.std.proofs.lemmas.List.{drop_more, take_all, length-map}
+use Rattle.std.proofs.lemmas.List.{take_all, length-map}
 use Rattle.std.proofs.lemmas.Option.{slice_get_read}
 use Rattle.rational.specs.Rational.{Rational, zero_ℚ, ◌+ℚ◌, ◌*ℚ◌}
 use Rattle.rational.proofs.Field as Q
@@ -10,7 +10,6 @@ use Rattle.verdicts.specs.WeightedSums.{AllBelow}
 use Rattle.basis.specs.Numbers.{sum_onto, prefix_sum, products_of}
 use Rattle.fraction.specs.declared.frac.NoFit.{NoFit}
 use Rattle.simplex.specs.Sums.{IsTermFault, IsSumFault}
-use Rattle.simplex.proofs.StartLemmas.{next_of}
 use Rattle.simplex.proofs.RowNumbers.{read_number}
 
 sum_of_products : (a : Rational) (form : List Entry) (x : ℕ → Rational) → sum_onto a (products_of form x) ≡ a +ℚ value_at x form

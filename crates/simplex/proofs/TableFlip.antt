@@ -1,9 +1,8 @@
 -- A table where a resting variable goes to another place.
-use Rattle.std.proofs.Common.{◌≡◌, ◌∙◌, ℕ, ◌<◌, ◌≢◌, List, length, sym, subst, refl}
+use Rattle.std.proofs.Common.{◌≡◌, ◌∙◌, ℕ, ◌≢◌, List, sym, subst}
 use Rattle.std.proofs.Math.Decide.{ℕ_discrete}
-use Rattle.rational.specs.Rational.{Rational}
 use Rattle.basis.specs.System.{System}
-use Rattle.basis.specs.Dictionary.{IsBasic, IsResting, IsDictionary, rate_of, gain_of}
+use Rattle.basis.specs.Dictionary.{IsBasic, IsResting, IsDictionary}
 use Rattle.basis.specs.Bland.{exchanged}
 use Rattle.basis.specs.declared.Place.{Place}
 use Rattle.basis.specs.declared.Place.TheVariants.{Basic}

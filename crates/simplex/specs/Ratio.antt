@@ -3,13 +3,17 @@ use Rattle.std.specs.Prelude.{ℕ, ◌<◌, ◌≡◌, Bool, true, false, List, 
 use Rattle.rational.specs.Rational.{Rational, zero_ℚ, neg_ℚ, ◌-ℚ◌}
 use Rattle.milp.specs.Form.{number_at}
 use Rattle.verdicts.specs.Compare.{is_less}
-use Rattle.basis.specs.System.{Bounds, System}
-use Rattle.basis.specs.Bland.{Reaches}
+use Rattle.basis.specs.System.{Bounds, System, size}
+use Rattle.basis.specs.Dictionary.{IsBasic, rate_of}
+use Rattle.basis.specs.Bland.{Reaches, IsFirst, ReachesNone}
 use Rattle.basis.specs.Pivots.{IsLengthOperation}
+use Rattle.fraction.specs.Fits.{sum_fits}
+use Rattle.fraction.specs.declared.frac.Op.TheVariants.{Sub}
 use Rattle.fraction.specs.declared.frac.NoFit.{NoFit}
-use Rattle.simplex.specs.Rows.{result_fits}
+use Rattle.simplex.specs.Rows.{IsQuotient, result_fits}
 use Rattle.simplex.specs.Table.{Table, dictionary_of}
 use Rattle.simplex.specs.Values.{direction_of}
+use Rattle.simplex.specs.declared.ratio.Reach.{Reach}
 use Rattle.basis.specs.declared.Place.{Place}
 use Rattle.basis.specs.declared.Place.TheVariants.{AtLower, AtUpper}
 
@@ -35,3 +39,28 @@ pub record IsReach (s : System) (x r : ℕ → Rational) (v : ℕ) (t : Rational
 pub record IsLengthFault (s : System) (x : List Rational) (t : Table) (q : ℕ) (e : NoFit) : Type 0 where
   pub operation : IsLengthOperation s t.places (number_at x) (dictionary_of t) q e.a e.b
   pub not_fit : result_fits e.op e.a e.b ≡ false
+
+-- e is the way from x to the bound, or the quotient of this way by the rate of the basic variable v, and does not fit
+pub data IsStepFault (t : Table) (q v : ℕ) (x bound : Rational) (e : NoFit) : Type 0 where
+  way : e ≡ record { a = bound; op = Sub; b = x } → sum_fits bound (neg_ℚ x) ≡ false → IsStepFault t q v x bound e
+  length : IsBasic t.places v → IsQuotient (bound -ℚ x) (rate_of (dictionary_of t) q v) e → IsStepFault t q v x bound e
+
+-- where v reaches a bound, if it ever does
+abbrev pub IsReachOf : System → (ℕ → Rational) → (ℕ → Rational) → ℕ → Option Reach → Type 0
+IsReachOf s x r v None = (u : Rational) → (p : Place) → ¬ (Reaches s x r u v p)
+IsReachOf s x r v (Some reach) = (reach.variable ≡ v) × IsReach s x r v reach.step reach.place
+
+-- which variable reaches a bound first, and the least of those, if any ever does
+abbrev pub IsFirstReach : System → (ℕ → Rational) → (ℕ → Rational) → Option Reach → Type 0
+IsFirstReach s x r None = ReachesNone s x r
+IsFirstReach s x r (Some reach) = (reach.variable < size s) × Reaches s x r reach.step reach.variable reach.place × IsFirst s x r reach.step reach.variable
+
+-- the sooner of two reaches, and the first of them where they come at once
+abbrev pub sooner_reach : Option Reach → Reach → Reach
+sooner_reach None reach = reach
+sooner_reach (Some best) reach = if is_less reach.step best.step then reach else best
+
+-- the sooner of two, where there are any
+abbrev pub sooner_of : Option Reach → Option Reach → Option Reach
+sooner_of first None = first
+sooner_of first (Some reach) = Some (sooner_reach first reach)

@@ -20,7 +20,7 @@ use std::mem;
 
 /// A basis and its dictionary, as a table: a row for each basic variable, a column for each resting one.
 #[derive(Drop)]
-pub(crate) struct Dictionary {
+pub struct Dictionary {
     places: Vec<Place>,
     positions: Vec<usize>,
     rows: Vec<Row>,
@@ -58,12 +58,26 @@ impl Dictionary {
         })
     }
 
+    /// The basis: the place of each variable.
+    pub fn places(&self) -> &[Place]
+        ensures { result.now ≡ self.now.places }
+    {
+        &self.places
+    }
+
     /// The place of a variable.
     pub(crate) fn place(&self, v: usize) -> Place
         requires { v < length self.now.places }
         ensures { result ≡ get_or self.now.places v Basic }
     {
         self.places[v]
+    }
+
+    /// The places of all variables, copied.
+    pub(crate) fn copied_places(&self) -> Result<Vec<Place>, AllocError>
+        ensures { IfOk result (λ places. places.items ≡ self.now.places) }
+    {
+        self.places.clone()
     }
 
     /// A variable is basic.

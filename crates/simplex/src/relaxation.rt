@@ -1,31 +1,161 @@
-// The system of an instance whose columns need not be whole.
-ghost use Rattle.std.specs.Prelude.{[], ◌≡◌, ◌++◌, map, IfOk, OnOk};
-ghost use Rattle.rational.specs.Rational.{◌*ℚ◌};
+// The system of a node.
+ghost use Rattle.std.specs.Prelude.{length, set, Some, ◌≡◌, ◌<◌, ◌++◌, map, IfOk, IfErr, OnOk};
+ghost use Rattle.rational.specs.Rational.{one_ℚ, ◌+ℚ◌, ◌*ℚ◌};
 ghost use Rattle.milp.specs.Problem.{Row as RowOf};
 ghost use Rattle.milp.specs.Points.{sign_of};
+ghost use Rattle.verdicts.specs.Certificate.{Derived as DerivedOf};
 ghost use Rattle.verdicts.specs.WeightedSums.{scaled};
-ghost use Rattle.basis.specs.Node.{system_of, row_bounds};
+ghost use Rattle.verdicts.specs.Proves.{lesser as lesser_bound, greater as greater_bound};
+ghost use Rattle.search_node.specs.Sides.{side_of, sides_of};
+ghost use Rattle.basis.specs.Node.{system_of, row_bounds, derived_bounds, column_bounds as column_bounds_under, IsOverColumns};
 ghost use Rattle.simplex.specs.Bounds.{column_bounds};
+ghost use Rattle.simplex.specs.Narrowed.{narrowed_by, bounds_at, IsNextFault, IsSplitFault, AreSplitFaults, AreOnColumns};
+ghost use Rattle.simplex.specs.Rays.{IsFault};
 
+use crate::fault::Fault;
 use crate::system::{Bounds, System};
-use fraction::Frac;
+use certificate::{Derived, DerivedRows, Split};
+use fraction::{Frac, NoFit};
 use instance::{Column, Direction, Entries, Entry, Instance, Row};
+use search_node::{Node, Side, SplitTaken};
 use std::alloc::{AllocError, Global};
 
-impl System {
-    /// The columns and rows of an instance, and its objective, turned where the greatest value is wanted.
-    pub fn of_instance(alloc: Global, instance: &Instance) -> Result<System, AllocError>
-        ensures { IfOk result (λ s. s ≡ system_of instance.now [] []) }
-    {
-        basis::node_systems();
-        let columns = instance.columns();
-        let rows = instance.rows();
-        let objective = turned(alloc, instance.direction(), instance.objective().as_slice())?;
-        let forms = forms_of(alloc, rows)?;
-        let mut bounds = bounds_of(alloc, columns)?;
-        add_bounds(&mut bounds, rows)?;
-        Ok(System::new(columns.len(), forms, bounds, objective))
+/// The columns, rows and derived rows of a node, with the bounds of the columns under its splits, and the objective,
+/// turned where the greatest value is wanted.
+pub(crate) fn node_system(
+    alloc: Global,
+    instance: &Instance,
+    node: &Node,
+    derived: &DerivedRows,
+) -> Result<System, Fault>
+    requires { IsOverColumns instance.now derived.now (sides_of node.now.splits) }
+    ensures ok { IfOk result (λ s. s ≡ system_of instance.now derived.now (sides_of node.now.splits)) }
+    ensures err { IfErr result (IsFault (AreSplitFaults (sides_of node.now.splits))) }
+{
+    basis::node_systems();
+    let objective = turned(alloc, instance.direction(), instance.objective().as_slice())?;
+    let forms = node_forms(alloc, instance.rows(), derived.as_slice())?;
+    let bounds = node_bounds(alloc, instance, node, derived)?;
+    Ok(System::new(instance.columns().len(), forms, bounds, objective))
+}
+
+// The forms of the rows, and then of the derived rows.
+fn node_forms(alloc: Global, rows: &[Row], derived: &[Derived]) -> Result<Vec<Entries>, AllocError>
+    ensures { IfOk result (λ forms. forms.items ≡ map (λ (r : RowOf). r.entries) rows.now ++ map (λ (d : DerivedOf). d.form) derived.now) }
+{
+    let mut forms = forms_of(alloc, rows)?;
+    add_forms(alloc, &mut forms, derived)?;
+    Ok(forms)
+}
+
+// The bounds of the columns under the splits, then of the rows, then of the derived rows.
+fn node_bounds(
+    alloc: Global,
+    instance: &Instance,
+    node: &Node,
+    derived: &DerivedRows,
+) -> Result<Vec<Bounds>, Fault>
+    requires { AreOnColumns (length instance.now.columns) node.now.splits }
+    ensures ok { IfOk result (λ bounds. bounds.items ≡ column_bounds_under instance.now (sides_of node.now.splits) 0 (length instance.now.columns) ++ (map row_bounds instance.now.rows ++ map derived_bounds derived.now)) }
+    ensures err { IfErr result (IsFault (AreSplitFaults (sides_of node.now.splits))) }
+{
+    let mut bounds = narrowed_bounds(alloc, instance, node.splits.as_slice())?;
+    add_bounds(&mut bounds, instance.rows())?;
+    add_derived_bounds(&mut bounds, derived.as_slice())?;
+    Ok(bounds)
+}
+
+// The bounds of the columns under the splits.
+fn narrowed_bounds(
+    alloc: Global,
+    instance: &Instance,
+    splits: &[SplitTaken],
+) -> Result<Vec<Bounds>, Fault>
+    requires { AreOnColumns (length instance.now.columns) splits.now }
+    ensures ok { IfOk result (λ bounds. bounds.items ≡ column_bounds_under instance.now (sides_of splits.now) 0 (length instance.now.columns)) }
+    ensures err { IfErr result (IsFault (AreSplitFaults (sides_of splits.now))) }
+{
+    let mut bounds = bounds_of(alloc, instance.columns())?;
+    for taken in splits {
+        bounds = narrow(bounds, taken)?;
     }
+    Ok(bounds)
+}
+
+// One more split.
+fn narrow(mut bounds: Vec<Bounds>, taken: &SplitTaken) -> Result<Vec<Bounds>, NoFit>
+    requires { taken.now.split.column < length bounds.items }
+    ensures ok { IfOk result (λ b. b.items ≡ set bounds.items taken.now.split.column (narrowed_by (side_of taken.now.split taken.now.side) (bounds_at bounds.items taken.now.split.column))) }
+    ensures err { IfErr result (IsSplitFault (side_of taken.now.split taken.now.side)) }
+{
+    let column = taken.split.column() as usize;
+    bounds[column] = narrowed(bounds[column], taken.split, taken.side)?;
+    Ok(bounds)
+}
+
+fn narrowed(bounds: Bounds, split: Split, side: Side) -> Result<Bounds, NoFit>
+    ensures ok { IfOk result (λ b. b ≡ narrowed_by (side_of split side) bounds) }
+    ensures err { IfErr result (IsSplitFault (side_of split side)) }
+{
+    let at = split.at().to_frac();
+    match side {
+        Side::Low => Ok(Bounds {
+            lower: bounds.lower,
+            upper: Some(lesser(bounds.upper, at)),
+        }),
+        Side::High => at_least(bounds, at),
+    }
+}
+
+// At least the next whole number.
+fn at_least(bounds: Bounds, at: Frac) -> Result<Bounds, NoFit>
+    ensures ok { IfOk result (λ b. b ≡ record { lower = Some (greater_bound bounds.lower (at +ℚ one_ℚ)); upper = bounds.upper }) }
+    ensures err { IfErr result (IsNextFault at) }
+{
+    let next = at.add(Frac::whole(1))?;
+    Ok(Bounds {
+        lower: Some(greater(bounds.lower, next)),
+        upper: bounds.upper,
+    })
+}
+
+fn lesser(bound: Option<Frac>, b: Frac) -> Frac
+    ensures { result ≡ lesser_bound bound b }
+{
+    match bound {
+        None => b,
+        Some(a) => if a <= b { a } else { b },
+    }
+}
+
+fn greater(bound: Option<Frac>, b: Frac) -> Frac
+    ensures { result ≡ greater_bound bound b }
+{
+    match bound {
+        None => b,
+        Some(a) => if a <= b { b } else { a },
+    }
+}
+
+fn add_forms(alloc: Global, forms: &mut Vec<Entries>, derived: &[Derived]) -> Result<(), AllocError>
+    ensures { OnOk result (forms.new.items ≡ forms.old.items ++ map (λ (d : DerivedOf). d.form) derived.now) }
+{
+    for row in derived {
+        forms.push(copy(alloc, row.form())?)?;
+    }
+    Ok(())
+}
+
+fn add_derived_bounds(bounds: &mut Vec<Bounds>, derived: &[Derived]) -> Result<(), AllocError>
+    ensures { OnOk result (bounds.new.items ≡ bounds.old.items ++ map derived_bounds derived.now) }
+{
+    for row in derived {
+        bounds.push(Bounds {
+            lower: Some(row.bound()),
+            upper: None,
+        })?;
+    }
+    Ok(())
 }
 
 // The form, turned so that less is better.

@@ -1,5 +1,6 @@
 // The point at the start of a run.
 ghost use Rattle.std.specs.Prelude.{length, ◌≡◌, IfOk, OnOk, IfErr};
+ghost use Rattle.basis.specs.System.{IsSystem};
 ghost use Rattle.basis.specs.Bland.{first_number};
 ghost use Rattle.simplex.specs.Sums.{IsStartFault, AreLonger, AreFirstNumbers, AreStartNumbers};
 
@@ -45,6 +46,7 @@ fn lengthen(values: &mut Vec<Frac>, count: usize) -> Result<(), AllocError>
 /// Gives the variable of each form its value, from the columns.
 pub(crate) fn set_forms(values: &mut [Frac], system: &System) -> Result<(), NoFit>
     requires { AreFirstNumbers system.now values.old }
+    ensures system { IsSystem system.now }
     ensures ok { OnOk result (AreStartNumbers system.now values.new) }
     ensures err { IfErr result (IsStartFault system.now) }
 {

@@ -76,6 +76,14 @@ impl System {
         self.columns
     }
 
+    /// The number of variables: the columns, and one for each form.
+    pub(crate) fn variables(&self) -> usize
+        ensures count { result ≡ size self.now }
+        ensures system { IsSystem self.now }
+    {
+        self.bounds.len()
+    }
+
     /// The forms, of which each has a variable after those of the columns.
     pub fn forms(&self) -> &[Entries]
         ensures { result.now ≡ self.now.forms }

@@ -1,4 +1,4 @@
-use Rattle.std.proofs.Common.{◌+◌, List, ◌∷◌, drop}
+use Rattle.std.proofs.Common.{◌+◌, List, drop}
 use Rattle.milp.specs.Form.{Entry}
 use Rattle.simplex.proofs.StartLemmas.{more_dense, next_of}
 use Rattle.simplex.proofs.start.dense.Goals as goal

@@ -1,4 +1,4 @@
-use Rattle.std.proofs.Common.{◌+◌, List, refl, slice_get, ◌≡◌, Some, length, ◌<◌}
+use Rattle.std.proofs.Common.{refl, length}
 use Rattle.milp.specs.Form.{Entry}
 use Rattle.simplex.proofs.RowNumbers.{err_from}
 use Rattle.simplex.proofs.SumLemmas.{entry_at, entry_below, sum_more, sum_all, sum_fault}

@@ -1,4 +1,3 @@
-use Rattle.simplex.specs.Start.{IsStartTable}
 use Rattle.simplex.specs.Table.{Table}
 use Rattle.simplex.proofs.StartTable.{made_start, start_table, start_is_dictionary}
 use Rattle.simplex.proofs.dictionary.Dictionary.start.Goals as goal

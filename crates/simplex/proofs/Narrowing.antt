@@ -1,0 +1,142 @@
+-- The bounds of columns under splits, one split after the other.
+use Rattle.std.proofs.Common.{◌≡◌, ◌∙◌, ℕ, zero, suc, ◌+◌, ◌<◌, ◌≤◌, ◌≢◌, ◌==◌, List, [], ◌∷◌, ◌++◌, length, take, get_or, set, refl, sym, ap, subst, arith, true, false, Option, Some, None, IfSome, slice_get}
+use Rattle.std.specs.Prelude.{pos, Result, Ok, Err, IfOk}
+use mathlib.Core.Path.{ap₂}
+use Rattle.std.proofs.Math.Decide.{dec_lt}
+use Rattle.std.proofs.lemmas.Bool.Decides.{nat_tests}
+use Rattle.std.proofs.lemmas.Option.{slice_get_past, slice_get_within, slice_get_read}
+use Rattle.std.proofs.lemmas.List.{take_all}
+use Rattle.rational.specs.Rational.{Rational, one_ℚ, whole, ◌+ℚ◌}
+use Rattle.verdicts.proofs.Numbers.{whole-add}
+use Rattle.milp.specs.Problem.{Problem}
+use Rattle.verdicts.specs.Certificate.{Split, Side as SideOf, Low as LowOf, High as HighOf}
+use Rattle.verdicts.specs.Proves.{lower_under, upper_under, greater}
+use Rattle.search_node.specs.Sides.{side_of, sides_of}
+use Rattle.search_node.specs.declared.node.Side.{Side}
+use Rattle.search_node.specs.declared.node.Side.TheVariants.{Low, High}
+use Rattle.search_node.specs.declared.node.SplitTaken.{SplitTaken}
+use Rattle.basis.specs.System.{Bounds}
+use Rattle.basis.specs.Node.{column_bounds, column_of}
+use Rattle.basis.proofs.NodeSystems.{length-columns}
+use Rattle.basis.proofs.Lists.{slice_get_left, slice_get_right}
+use Rattle.fraction.specs.declared.frac.NoFit.{NoFit}
+use Rattle.simplex.specs.Narrowed.{narrowed_by, bounds_at, AreOnColumns, IsSplitFault, AreSplitFaults}
+
+-- ---- sides
+
+column_is : (split : Split) (side : Side) → column_of (side_of split side) ≡ split.column
+column_is split Low = refl
+column_is split High = refl
+
+sides_more : (taken : List SplitTaken) (t : SplitTaken) → sides_of (taken ++ t ∷ []) ≡ side_of t.split t.side ∷ sides_of taken
+sides_more [] t = refl
+sides_more (x ∷ taken) t = ap (λ (l : List SideOf). l ++ side_of x.split x.side ∷ []) (sides_more taken t)
+
+take_more : (taken : List SplitTaken) (i : ℕ) (t : SplitTaken) → slice_get taken i ≡ Some t → take (suc i) taken ≡ take i taken ++ t ∷ []
+take_more [] i t e = absurd (none_some e)
+  where
+    none_some : ¬ (None ≡ Some t)
+    none_some k = cc
+take_more (x ∷ taken) zero t e = ap (λ (y : SplitTaken). y ∷ []) (same_some x t e)
+  where
+    same_some : (a b : SplitTaken) → Some a ≡ Some b → a ≡ b
+    same_some a b k = cc
+take_more (x ∷ taken) (suc i) t e = ap (λ (l : List SplitTaken). x ∷ l) (take_more taken i t e)
+
+pub on_columns : (n : ℕ) (taken : List SplitTaken) → ((k : ℕ) → IfSome (slice_get (sides_of taken) k) (λ side. column_of side < n)) → AreOnColumns n taken
+on_columns n [] h k = tt
+on_columns n (t ∷ taken) h zero =
+    let P : Option SideOf → Type 0 = λ o. IfSome o (λ side. column_of side < n) in
+    let last : column_of (side_of t.split t.side) < n = subst P (slice_get_right (sides_of taken) (side_of t.split t.side ∷ []) (length (sides_of taken)) 0 refl) (h (length (sides_of taken) + 0)) in
+    subst (λ m. m < n) (column_is t.split t.side) last
+on_columns n (t ∷ taken) h (suc k) = on_columns n taken front k
+  where
+    front : (m : ℕ) → IfSome (slice_get (sides_of taken) m) (λ side. column_of side < n)
+    front m = let P : Option SideOf → Type 0 = λ o. IfSome o (λ side. column_of side < n) in elim (dec_lt m (length (sides_of taken))) [
+      | yes low ↦ subst P (slice_get_left (sides_of taken) (side_of t.split t.side ∷ []) m low) (h m)
+      | no past ↦ subst P (sym (slice_get_past (sides_of taken) m (omega arith))) tt
+    ]
+
+side_place : (taken : List SplitTaken) (i : ℕ) (t : SplitTaken) → slice_get taken i ≡ Some t → (m : ℕ) × (slice_get (sides_of taken) m ≡ Some (side_of t.split t.side))
+side_place [] i t e = absurd (none_some e)
+  where
+    none_some : ¬ (None ≡ Some t)
+    none_some k = cc
+side_place (x ∷ taken) zero t e = (length (sides_of taken) + 0, slice_get_right (sides_of taken) (side_of x.split x.side ∷ []) (length (sides_of taken)) 0 refl ∙ ap (λ (y : SplitTaken). Some (side_of y.split y.side)) (same_some x t e))
+  where
+    same_some : (a b : SplitTaken) → Some a ≡ Some b → a ≡ b
+    same_some a b k = cc
+side_place (x ∷ taken) (suc i) t e =
+    let place = side_place taken i t e in
+    (place.0, slice_get_left (sides_of taken) (side_of x.split x.side ∷ []) place.0 (slice_get_within (sides_of taken) place.0 (side_of t.split t.side) place.1) ∙ place.1)
+
+pub split_fault : (taken : List SplitTaken) (i : ℕ) (t : SplitTaken) (f : NoFit) → slice_get taken i ≡ Some t → IsSplitFault (side_of t.split t.side) f → AreSplitFaults (sides_of taken) f
+split_fault taken i t f e h = let place = side_place taken i t e in record { index = place.0; side = side_of t.split t.side; is_side = place.1; fault = h }
+
+-- ---- bounds under one more side
+
+abbrev under : Problem → List SideOf → ℕ → Bounds
+under p sides j = record { lower = lower_under p sides j; upper = upper_under p sides j }
+
+under_other : (p : Problem) (sides : List SideOf) (side : SideOf) (j : ℕ) → column_of side ≢ j → under p sides j ≡ under p (side ∷ sides) j
+under_other p sides (LowOf s) j h = let test : (s.column == j) ≡ false = grind (arith, nat_tests) in rw test refl
+under_other p sides (HighOf s) j h = let test : (s.column == j) ≡ false = grind (arith, nat_tests) in rw test refl
+
+under_same : (p : Problem) (sides : List SideOf) (side : SideOf) (j : ℕ) → column_of side ≡ j → narrowed_by side (under p sides j) ≡ under p (side ∷ sides) j
+under_same p sides (LowOf s) j h = let test : (s.column == j) ≡ true = grind (arith, nat_tests) in rw test refl
+under_same p sides (HighOf s) j h = let test : (s.column == j) ≡ true = grind (arith, nat_tests) in rw test refl
+
+later : (p : Problem) (sides : List SideOf) (side : SideOf) (n i : ℕ) → column_of side < i → column_bounds p sides i n ≡ column_bounds p (side ∷ sides) i n
+later p sides side zero i h = refl
+later p sides side (suc n) i h = ap₂ (λ (b : Bounds) (rest : List Bounds). b ∷ rest) (under_other p sides side i (λ e. absurd (omega arith))) (later p sides side n (suc i) (omega arith))
+
+narrowed_columns : (p : Problem) (sides : List SideOf) (side : SideOf) (n i j : ℕ) → column_of side ≡ i + j → j < n → set (column_bounds p sides i n) j (narrowed_by side (under p sides (i + j))) ≡ column_bounds p (side ∷ sides) i n
+narrowed_columns p sides side zero i j e h = absurd (omega arith)
+narrowed_columns p sides side (suc n) i zero e h =
+    let at : i + 0 ≡ i = omega arith in
+    ap₂ (λ (b : Bounds) (rest : List Bounds). b ∷ rest) (ap (λ m. narrowed_by side (under p sides m)) at ∙ under_same p sides side i (e ∙ at)) (later p sides side n (suc i) (omega arith))
+narrowed_columns p sides side (suc n) i (suc j) e h =
+    let at : i + suc j ≡ suc i + j = omega arith in
+    ap₂ (λ (b : Bounds) (rest : List Bounds). b ∷ rest) (under_other p sides side i (λ k. absurd (omega arith)))
+    (ap (λ m. set (column_bounds p sides (suc i) n) j (narrowed_by side (under p sides m))) at ∙ narrowed_columns p sides side n (suc i) j (e ∙ at) (omega arith))
+
+bounds_there : (p : Problem) (sides : List SideOf) (n i j : ℕ) → j < n → bounds_at (column_bounds p sides i n) j ≡ under p sides (i + j)
+bounds_there p sides zero i j h = absurd (omega arith)
+bounds_there p sides (suc n) i zero h = let at : i ≡ i + 0 = omega arith in ap (under p sides) at
+bounds_there p sides (suc n) i (suc j) h = let at : suc i + j ≡ i + suc j = omega arith in bounds_there p sides n (suc i) j (omega arith) ∙ ap (under p sides) at
+
+one_more_side : (p : Problem) (sides : List SideOf) (side : SideOf) (n j : ℕ) → column_of side ≡ j → j < n → set (column_bounds p sides 0 n) j (narrowed_by side (bounds_at (column_bounds p sides 0 n) j)) ≡ column_bounds p (side ∷ sides) 0 n
+one_more_side p sides side n j e h =
+    let at : j ≡ 0 + j = omega arith in
+    ap (λ b. set (column_bounds p sides 0 n) j (narrowed_by side b)) (bounds_there p sides n 0 j h) ∙ narrowed_columns p sides side n 0 j (e ∙ at) h
+
+pub split_on : (n : ℕ) (taken : List SplitTaken) (i : ℕ) (t : SplitTaken) → AreOnColumns n taken → slice_get taken i ≡ Some t → t.split.column < n
+split_on n taken i t h e = let P : Option SplitTaken → Type 0 = λ o. IfSome o (λ s. s.split.column < n) in subst P e (h i)
+
+pub one_more_split : (p : Problem) (taken : List SplitTaken) (i : ℕ) (t : SplitTaken) (old new : List Bounds) → AreOnColumns (length p.columns) taken → slice_get taken i ≡ Some t → old ≡ column_bounds p (sides_of (take i taken)) 0 (length p.columns)
+    → new ≡ set old t.split.column (narrowed_by (side_of t.split t.side) (bounds_at old t.split.column)) → new ≡ column_bounds p (sides_of (take (i + 1) taken)) 0 (length p.columns)
+one_more_split p taken i t old new on e f g =
+    let n = length p.columns in
+    let one : suc i ≡ i + 1 = omega arith in
+    g ∙ ap (λ l. set l t.split.column (narrowed_by (side_of t.split t.side) (bounds_at l t.split.column))) f
+    ∙ one_more_side p (sides_of (take i taken)) (side_of t.split t.side) n t.split.column (column_is t.split t.side) (split_on n taken i t on e)
+    ∙ ap (λ sides. column_bounds p sides 0 n) (sym (sides_more (take i taken) t)) ∙ ap (λ l. column_bounds p (sides_of l) 0 n) (sym (take_more taken i t e)) ∙ ap (λ m. column_bounds p (sides_of (take m taken)) 0 n) one
+
+pub all_splits : (p : Problem) (taken : List SplitTaken) (i : ℕ) (bounds : List Bounds) → length taken ≤ i → bounds ≡ column_bounds p (sides_of (take i taken)) 0 (length p.columns) → bounds ≡ column_bounds p (sides_of taken) 0 (length p.columns)
+all_splits p taken i bounds h e = e ∙ ap (λ l. column_bounds p (sides_of l) 0 (length p.columns)) (take_all i taken h)
+
+pub split_read : (taken : List SplitTaken) (i : ℕ) (t : SplitTaken) → i < length taken → t ≡ get_or taken i t → slice_get taken i ≡ Some t
+split_read taken i t h e = slice_get_read taken (length taken) i t refl h e
+
+-- ---- the next whole number
+
+next_bounds : (split : Split) (at : Rational) (old new : Bounds) → at ≡ whole split.at → new ≡ record { lower = Some (greater old.lower (at +ℚ one_ℚ)); upper = old.upper } → new ≡ narrowed_by (side_of split High) old
+next_bounds split at old new e f = f ∙ ap (λ a. record { lower = Some (greater old.lower a); upper = old.upper }) (ap (λ a. a +ℚ one_ℚ) e ∙ whole-add split.at (pos 1))
+
+pub narrowed_high : (split : Split) (side : Side) (at : Rational) (old : Bounds) (r : Result Bounds NoFit) → side ≡ High → at ≡ whole split.at → IfOk r (λ b. b ≡ record { lower = Some (greater old.lower (at +ℚ one_ℚ)); upper = old.upper })
+    → IfOk r (λ b. b ≡ narrowed_by (side_of split side) old)
+narrowed_high split side at old (Ok b) e f h = next_bounds split at old b f h ∙ ap (λ (s : Side). narrowed_by (side_of split s) old) (sym e)
+narrowed_high split side at old (Err g) e f h = tt
+
+pub length_under : (p : Problem) (sides : List SideOf) (bounds : List Bounds) → bounds ≡ column_bounds p sides 0 (length p.columns) → length bounds ≡ length p.columns
+length_under p sides bounds e = ap (λ (l : List Bounds). length l) e ∙ length-columns p sides 0 (length p.columns)
