@@ -22,11 +22,14 @@ option_rule name = record (new_rule name) { long = Some name }
 abbrev pub rules : List Rule
 rules = file_rule
     ∷ flag_rule (codes "freemps")
+    ∷ flag_rule (codes "lp")
     ∷ flag_rule (codes "check")
     ∷ flag_rule (codes "min")
     ∷ flag_rule (codes "max")
     ∷ flag_rule (codes "exact")
     ∷ option_rule (codes "cert")
+    ∷ option_rule (codes "checkcert")
+    ∷ option_rule (codes "pivlim")
     ∷ []
 
 -- the command: the words are those after the program's name, and there is no `--help`

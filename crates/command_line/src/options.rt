@@ -30,11 +30,14 @@ fn command<'a>(alloc: Global) -> Result<Command<'a>, AllocError>
         .disable_help_flag(true)
         .arg(Arg::new(alloc, "FILE"))?
         .arg(flag(alloc, "freemps"))?
+        .arg(flag(alloc, "lp"))?
         .arg(flag(alloc, "check"))?
         .arg(flag(alloc, "min"))?
         .arg(flag(alloc, "max"))?
         .arg(flag(alloc, "exact"))?
-        .arg(option(alloc, "cert"))
+        .arg(option(alloc, "cert"))?
+        .arg(option(alloc, "checkcert"))?
+        .arg(option(alloc, "pivlim"))
 }
 
 /// `--name`.

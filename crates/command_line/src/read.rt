@@ -1,7 +1,10 @@
 // From words to settings.
-ghost use Rattle.std.specs.Prelude.{◌≡◌, IfOk, IfErr, Some, None, map, string_bytes, option_map, codes, ℕ, List};
+ghost use Rattle.std.specs.Char.{is_ascii_digit};
+ghost use Rattle.std.specs.List.{list_all};
+ghost use Rattle.std.specs.Str.Parse.{digits_value};
+ghost use Rattle.std.specs.Prelude.{◌≡◌, true, IfOk, IfErr, Some, None, map, string_bytes, option_map, codes, ℕ, List};
 ghost use Rattle.command_line.specs.Options.{given_in};
-ghost use Rattle.command_line.specs.Meaning.{settings_of, settings_in, language_in, direction_in, task_in, outputs_in, stands};
+ghost use Rattle.command_line.specs.Meaning.{settings_of, settings_in, language_in, direction_in, pivot_limit_in, limit_of, limit_within, task_in, task_by, alone, outputs_in, stands};
 ghost use Rattle.clap.specs.Words.{first_of};
 ghost use Rattle.command_line.specs.declared.settings.WordsFault.TheVariants.{Usage};
 
@@ -33,11 +36,13 @@ fn settings_in(alloc: Global, matches: &ArgMatches<'_>) -> Result<Settings, Word
     let language = language_in(matches).ok_or(WordsFault::Usage)?;
     let model = name_in(alloc, matches, "FILE")?.ok_or(WordsFault::Usage)?;
     let direction = direction_in(matches).ok_or(WordsFault::Usage)?;
+    let pivot_limit = pivot_limit_in(matches).ok_or(WordsFault::Usage)?;
     let task = task_in(alloc, matches)?;
     Ok(Settings {
         language,
         model,
         direction,
+        pivot_limit,
         task,
     })
 }
@@ -45,10 +50,11 @@ fn settings_in(alloc: Global, matches: &ArgMatches<'_>) -> Result<Settings, Word
 fn language_in(matches: &ArgMatches<'_>) -> Option<Language>
     ensures { result ≡ language_in (given_in matches.now) }
 {
-    if stands(matches, "freemps") {
-        Some(Language::FreeMps)
-    } else {
-        None
+    match (stands(matches, "freemps"), stands(matches, "lp")) {
+        (true, true) => None,
+        (true, false) => Some(Language::FreeMps),
+        (false, true) => Some(Language::CplexLp),
+        (false, false) => None,
     }
 }
 
@@ -68,12 +74,76 @@ fn task_in(alloc: Global, matches: &ArgMatches<'_>) -> Result<Task, WordsFault>
     ensures none { IfErr result (λ fault. fault ≡ Usage → task_in (given_in matches.now) ≡ None) }
 {
     let outputs = outputs_in(alloc, matches)?;
-    if !stands(matches, "check") {
-        Ok(Task::Solve(outputs))
-    } else if outputs.certificate.is_none() {
-        Ok(Task::Translate)
+    let certificate = name_in(alloc, matches, "checkcert")?;
+    let task = task_by(stands(matches, "check"), certificate, outputs).ok_or(WordsFault::Usage)?;
+    Ok(task)
+}
+
+fn task_by(translates: bool, certificate: Option<Name>, outputs: Outputs) -> Option<Task>
+    ensures { result ≡ task_by translates certificate outputs }
+{
+    match (translates, certificate) {
+        (false, None) => Some(Task::Solve(outputs)),
+        (false, Some(file)) => alone(outputs, Task::CheckCertificate(file)),
+        (true, None) => alone(outputs, Task::Translate),
+        (true, Some(_)) => None,
+    }
+}
+
+// The task, where no file is to be written.
+fn alone(outputs: Outputs, task: Task) -> Option<Task>
+    ensures { result ≡ alone outputs task }
+{
+    match outputs.certificate {
+        None => Some(task),
+        Some(_) => None,
+    }
+}
+
+fn pivot_limit_in(matches: &ArgMatches<'_>) -> Option<u32>
+    ensures { result ≡ pivot_limit_in (given_in matches.now) }
+{
+    match value_in(matches, "pivlim") {
+        Some(word) => limit_of(word),
+        None => Some(100_000),
+    }
+}
+
+// A limit in decimal digits, without sign.
+fn limit_of(word: &str) -> Option<u32>
+    ensures { result ≡ limit_of word.now }
+{
+    if are_digits(word.as_bytes()) {
+        limit_in_digits(word)
     } else {
-        Err(WordsFault::Usage)
+        None
+    }
+}
+
+fn are_digits(word: &[u8]) -> bool
+    ensures { result ≡ list_all is_ascii_digit word.now }
+{
+    word.iter().all(|byte| byte.is_ascii_digit())
+}
+
+// The number of the digits, where it is a limit.
+fn limit_in_digits(word: &str) -> Option<u32>
+    requires { list_all is_ascii_digit word.now ≡ true }
+    ensures { result ≡ limit_within (digits_value 10 word.now) }
+{
+    match word.parse::<u32>() {
+        Ok(number) => limit_within(number),
+        Err(_) => None,
+    }
+}
+
+fn limit_within(number: u32) -> Option<u32>
+    ensures { result ≡ limit_within number }
+{
+    if 1 <= number && number <= 1_000_000 {
+        Some(number)
+    } else {
+        None
     }
 }
 

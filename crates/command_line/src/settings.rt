@@ -15,6 +15,8 @@ pub struct Settings {
     pub model: Name,
     /// The direction of the objective, where it takes the place of the model's own.
     pub direction: Option<Direction>,
+    /// The most steps of the simplex method at a node, from 1 to 1,000,000.
+    pub pivot_limit: u32,
     /// What is to be done with the model.
     pub task: Task,
 }
@@ -24,6 +26,8 @@ pub struct Settings {
 pub enum Language {
     /// Free MPS.
     FreeMps,
+    /// CPLEX LP.
+    CplexLp,
 }
 
 /// What is to be done with a model.
@@ -33,6 +37,8 @@ pub enum Task {
     Solve(Outputs),
     /// It is read, and its size reported.
     Translate,
+    /// The certificate in this file is checked against it.
+    CheckCertificate(Name),
 }
 
 /// The files that are written when a model is solved.

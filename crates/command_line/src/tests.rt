@@ -5,8 +5,9 @@ use std::alloc::{AllocError, Global};
 use std::test::Fail;
 
 /// Words, parted by `|`, and what they ask for: the language, the model's file, the direction, the task and its file.
-const COMMANDS: [(&str, &str); 14] = [
+const COMMANDS: [(&str, &str); 20] = [
     ("--freemps|f", "mps f, own direction, solve, no cert"),
+    ("--lp|f", "lp f, own direction, solve, no cert"),
     ("f|--freemps", "mps f, own direction, solve, no cert"),
     ("--freemps|f|--min", "mps f, min, solve, no cert"),
     ("--max|--freemps|f", "mps f, max, solve, no cert"),
@@ -29,13 +30,29 @@ const COMMANDS: [(&str, &str); 14] = [
     ),
     ("--freemps|f|--cert=", "mps f, own direction, solve, cert "),
     ("--freemps|f|--check|--min", "mps f, min, translate"),
+    ("--freemps|f|--checkcert|c", "mps f, own direction, check c"),
+    ("--checkcert=c|--freemps|f|--max", "mps f, max, check c"),
+    (
+        "--freemps|f|--pivlim|1",
+        "mps f, own direction, at most 1 steps, solve, no cert",
+    ),
+    (
+        "--freemps|f|--pivlim=007",
+        "mps f, own direction, at most 7 steps, solve, no cert",
+    ),
+    (
+        "--pivlim|1000000|--freemps|f",
+        "mps f, own direction, at most 1000000 steps, solve, no cert",
+    ),
 ];
 
 /// Words, parted by `|`, that are no command.
-const NO_COMMANDS: [&str; 24] = [
+const NO_COMMANDS: [&str; 37] = [
     "--freemps",
     "f",
     "--freemps|f|g",
+    "--freemps|--lp|f",
+    "--lp=f",
     "--freemps=f",
     "--free|f",
     "--FREEMPS|f",
@@ -57,6 +74,17 @@ const NO_COMMANDS: [&str; 24] = [
     "--freemps|f|--version",
     "--|--freemps|f",
     "help",
+    "--freemps|f|--check|--checkcert|c",
+    "--freemps|f|--checkcert|c|--cert|d",
+    "--freemps|f|--checkcert",
+    "--freemps|f|--checkcert|c|--checkcert|c",
+    "--freemps|f|--pivlim|0",
+    "--freemps|f|--pivlim|1000001",
+    "--freemps|f|--pivlim|99999999999",
+    "--freemps|f|--pivlim|+1",
+    "--freemps|f|--pivlim=",
+    "--freemps|f|--pivlim|1e3",
+    "--freemps|f|--pivlim",
 ];
 
 #[test]
@@ -97,6 +125,7 @@ fn words_of(alloc: Global, row: &str) -> Result<Vec<String>, AllocError> {
 fn shown(alloc: Global, settings: &Settings) -> Result<String, AllocError> {
     let language = match settings.language {
         Language::FreeMps => "mps",
+        Language::CplexLp => "lp",
     };
     let direction = match settings.direction {
         None => "own direction",
@@ -104,12 +133,27 @@ fn shown(alloc: Global, settings: &Settings) -> Result<String, AllocError> {
         Some(Direction::Max) => "max",
     };
     let model = settings.model.as_str();
-    match &settings.task {
+    let steps = steps_shown(alloc, settings.pivot_limit)?;
+    let task = task_shown(alloc, &settings.task)?;
+    format!(in alloc; "{language} {model}, {direction}, {steps}{task}")
+}
+
+fn steps_shown(alloc: Global, limit: u32) -> Result<String, AllocError> {
+    if limit == 100_000 {
+        Ok(String::new(alloc))
+    } else {
+        format!(in alloc; "at most {limit} steps, ")
+    }
+}
+
+fn task_shown(alloc: Global, task: &Task) -> Result<String, AllocError> {
+    match task {
         Task::Solve(outputs) => {
             let certificate = file_shown(alloc, "cert", &outputs.certificate)?;
-            format!(in alloc; "{language} {model}, {direction}, solve, {certificate}")
+            format!(in alloc; "solve, {certificate}")
         }
-        Task::Translate => format!(in alloc; "{language} {model}, {direction}, translate"),
+        Task::Translate => "translate".to_string(alloc),
+        Task::CheckCertificate(file) => format!(in alloc; "check {}", file.as_str()),
     }
 }
 

@@ -1,1 +1,4 @@
+pub mod Texts
+pub mod Finds
+pub mod Reports
 pub mod Ends

@@ -8,8 +8,8 @@ use Rattle.command_line.specs.Meaning.{settings_of}
 use Rattle.command_line.specs.declared.settings.Settings.{Settings}
 use Rattle.glpsol_cli.specs.Asked.{ToldNames, Solves}
 use Rattle.glpsol_cli.specs.declared.answer.Answer.{Answer}
-use Rattle.glpsol_cli.specs.declared.answer.Answer.TheVariants.{Optimal, Infeasible, Unbounded, Translated, Usage, Missing, OpenFault, ReadFault, WriteFault, TooLong, BadFile, Overflow, NoMemory}
-use Rattle.glpsol_cli.specs.declared.answer.Target.TheVariants.{Out, File}
+use Rattle.glpsol_cli.specs.declared.answer.Answer.TheVariants.{Optimal, Infeasible, Unbounded, WriteFault, NoMemory}
+use Rattle.glpsol_cli.specs.declared.answer.Target.TheVariants.{File}
 
 -- all names but this one are told as before
 abbrev pub KeepsBut : Option (List ℕ) → ToldNames → ToldNames → Type 0

@@ -1,10 +1,12 @@
 // How a run ends.
 ghost use Rattle.std.specs.Prelude.{◌≡◌};
 
-use certificate::Certificate;
+use cert_check::Part;
+use certificate::{CertFault, Certificate};
 use file_fault::FileFault;
 use fraction::NoFit;
 use instance::Name;
+use search_node::{Bases, Node};
 
 /// Where a run writes.
 #[derive(Drop)]
@@ -13,6 +15,15 @@ pub enum Target {
     Out,
     /// The file of this name.
     File(Name),
+}
+
+/// Where an operation's result does not fit.
+#[derive(Drop)]
+pub enum OverflowSite {
+    /// In the work at this node of the tree of splits.
+    AtNode(Node),
+    /// In the check of this part of a certificate.
+    InPart(Part),
 }
 
 /// What a run comes to, with the values that show it.
@@ -26,6 +37,8 @@ pub enum Answer {
     Unbounded(Certificate),
     /// The problem was read, and its size written.
     Translated,
+    /// The certificate that was to be checked proves its verdict, and this was written.
+    Accepted,
     /// The words are no command.
     Usage,
     /// There is no file of this name.
@@ -34,7 +47,8 @@ pub enum Answer {
     OpenFault(Name),
     /// The file of this name can't be read.
     ReadFault(Name),
-    /// The target can't be written. What was found is in the certificate; there is none where only the size was asked for.
+    /// The target can't be written. What was found is in the certificate; there is none where only the size or a check
+    /// was asked for.
     WriteFault {
         target: Target,
         found: Option<Certificate>,
@@ -43,8 +57,17 @@ pub enum Answer {
     TooLong(Name),
     /// The model's text has this fault, and none before it.
     BadFile(FileFault),
+    /// The text of the certificate that was to be checked has this fault, and none before it.
+    BadCertificate(CertFault),
     /// The result of this operation does not fit.
-    Overflow(NoFit),
+    Overflow {
+        at: OverflowSite,
+        fault: NoFit,
+    },
+    /// The simplex method went through these bases, as many steps as are allowed, and has not ended.
+    Undecided(Bases),
+    /// This part of the certificate that was to be checked is the first that does not hold.
+    Refused(Part),
     /// The memory is not there. What was found before is in the certificate.
     NoMemory {
         found: Option<Certificate>,
@@ -62,15 +85,18 @@ impl Answer {
             Answer::Optimal(_)
             | Answer::Infeasible(_)
             | Answer::Unbounded(_)
-            | Answer::Translated => 0,
+            | Answer::Translated
+            | Answer::Accepted => 0,
             Answer::Usage
             | Answer::Missing(_)
             | Answer::OpenFault(_)
             | Answer::ReadFault(_)
             | Answer::WriteFault { .. } => 1,
-            Answer::TooLong(_) | Answer::BadFile(_) => 2,
-            Answer::Overflow(_) => 3,
+            Answer::TooLong(_) | Answer::BadFile(_) | Answer::BadCertificate(_) => 2,
+            Answer::Overflow { .. } => 3,
+            Answer::Undecided(_) => 4,
             Answer::NoMemory { .. } => 5,
+            Answer::Refused(_) => 6,
         }
     }
 }

@@ -3,12 +3,12 @@ ghost use Rattle.std.specs.Prelude.{◌≡◌, IfOk, string_bytes};
 ghost use Rattle.outside.specs.Causes.{Rose};
 ghost use Rattle.outside.specs.Told.{AppendsPrefix};
 ghost use Rattle.glpsol_cli.specs.Printed.{line_of, target_line_of};
-ghost use Rattle.glpsol_cli.specs.Endings.{IsSized};
+ghost use Rattle.glpsol_cli.specs.Endings.{IsSized, IsAcceptance};
 
 use crate::{Answer, Target};
 use instance::Instance;
 use outside::{Sink, Trouble, write_all};
-use solution_writer::{Fault, fault_line, translated_report};
+use solution_writer::{Fault, accepted_report, fault_line, translated_report};
 use std::alloc::{AllocError, Global};
 
 /// Writes the line of a fault. Where that fails, the fault stays.
@@ -27,8 +27,11 @@ fn line(alloc: Global, answer: &Answer) -> Result<String, AllocError>
     ensures { IfOk result (λ text. string_bytes text ≡ line_of answer.now) }
 {
     match answer {
-        Answer::Optimal(_) | Answer::Infeasible(_) | Answer::Unbounded(_) | Answer::Translated =>
-            Ok(String::new(alloc)),
+        Answer::Optimal(_)
+        | Answer::Infeasible(_)
+        | Answer::Unbounded(_)
+        | Answer::Translated
+        | Answer::Accepted => Ok(String::new(alloc)),
         Answer::Usage => fault_line(alloc, &Fault::Usage),
         Answer::Missing(name) => fault_line(alloc, &Fault::Missing(name)),
         Answer::OpenFault(name) => fault_line(alloc, &Fault::OpenFault(name)),
@@ -36,7 +39,10 @@ fn line(alloc: Global, answer: &Answer) -> Result<String, AllocError>
         Answer::WriteFault { target, .. } => target_line(alloc, target),
         Answer::TooLong(name) => fault_line(alloc, &Fault::TooLong(name)),
         Answer::BadFile(fault) => fault_line(alloc, &Fault::File(*fault)),
-        Answer::Overflow(fault) => fault_line(alloc, &Fault::Overflow(*fault)),
+        Answer::BadCertificate(fault) => fault_line(alloc, &Fault::Certificate(*fault)),
+        Answer::Overflow { fault, .. } => fault_line(alloc, &Fault::Overflow(*fault)),
+        Answer::Undecided(_) => fault_line(alloc, &Fault::UndecidedPivots),
+        Answer::Refused(part) => fault_line(alloc, &Fault::Refused(*part)),
         Answer::NoMemory { .. } => fault_line(alloc, &Fault::NoMemory),
     }
 }
@@ -59,6 +65,23 @@ pub fn publish_size<O: Sink>(alloc: Global, out: &mut O, problem: &Instance) -> 
     };
     match write_all(out, text.as_bytes()) {
         Ok(()) => Answer::Translated,
+        Err(Trouble::Failed) => Answer::WriteFault {
+            target: Target::Out,
+            found: None,
+        },
+        Err(Trouble::NoMemory) => Answer::NoMemory { found: None },
+    }
+}
+
+/// Writes that a certificate is accepted, or what it comes to.
+pub fn publish_acceptance<O: Sink>(alloc: Global, out: &mut O) -> Answer
+    ensures { IsAcceptance (Rose (O.faults out.old) (O.faults out.new)) (O.taken out.old) (O.taken out.new) result }
+{
+    let Ok(text) = accepted_report(alloc) else {
+        return publish_fault(alloc, out, Answer::NoMemory { found: None });
+    };
+    match write_all(out, text.as_bytes()) {
+        Ok(()) => Answer::Accepted,
         Err(Trouble::Failed) => Answer::WriteFault {
             target: Target::Out,
             found: None,

@@ -9,7 +9,7 @@ ghost use Rattle.glpsol_cli.specs.Files.{Files};
 
 use crate::Answer;
 use crate::find::{Found, find};
-use crate::publish::{publish_fault, publish_size};
+use crate::publish::{publish_acceptance, publish_fault, publish_size};
 use crate::save::conclude;
 use outside::{Sink, Store};
 use std::alloc::Global;
@@ -50,6 +50,7 @@ pub fn run<T: Threads + Sync, S: Store, O: Sink>(
     certificates_are_right();
     match find(alloc, &words, files) {
         Ok(Found::Sized(problem)) => publish_size(alloc, out, &problem),
+        Ok(Found::Accepted) => publish_acceptance(alloc, out),
         Ok(Found::Solved(solved)) => conclude(alloc, files, out, solved),
         Err(fault) => publish_fault(alloc, out, fault),
     }

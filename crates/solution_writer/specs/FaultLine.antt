@@ -7,8 +7,13 @@ use Rattle.fraction.specs.declared.frac.Op.TheVariants.{Add, Sub, Mul, Div}
 use Rattle.fraction.specs.declared.frac.NoFit.{NoFit}
 use Rattle.file_fault.specs.KindText.{kind_text}
 use Rattle.file_fault.specs.declared.fault.FileFault.{FileFault}
+use Rattle.certificate.specs.declared.fault.FaultKind.{FaultKind}
+use Rattle.certificate.specs.declared.fault.FaultKind.TheVariants.{BadLine, TooWide, Unended, Extra}
+use Rattle.certificate.specs.declared.fault.CertFault.{CertFault}
+use Rattle.cert_check.specs.declared.part.Part.{Part}
+use Rattle.cert_check.specs.declared.part.Part.TheVariants.{Size, Point, Value, Ray, DerivedRow, Node}
 use Rattle.solution_writer.specs.declared.fault.Fault.{Fault}
-use Rattle.solution_writer.specs.declared.fault.Fault.TheVariants.{Usage, Missing, OpenFault, ReadFault, WriteFault, TooLong, File, Overflow, NoMemory}
+use Rattle.solution_writer.specs.declared.fault.Fault.TheVariants.{Usage, Missing, OpenFault, ReadFault, WriteFault, TooLong, File, Certificate, Overflow, UndecidedPivots, Refused, NoMemory}
 
 abbrev pub operator_text : Op → List ℕ
 operator_text Add = codes "+"
@@ -22,12 +27,36 @@ named_line what name = what ++ (codes ": " ++ (name ++ codes "\n"))
 abbrev pub file_line : FileFault → List ℕ
 file_line f = codes "file fault: line " ++ (decimal f.line ++ (codes ": " ++ (kind_text f.kind ++ codes "\n")))
 
+abbrev pub certificate_kind_text : FaultKind → List ℕ
+certificate_kind_text BadLine = codes "BadLine"
+certificate_kind_text TooWide = codes "TooWide"
+certificate_kind_text Unended = codes "Unended"
+certificate_kind_text Extra = codes "Extra"
+
+abbrev pub certificate_line : CertFault → List ℕ
+certificate_line f = codes "certificate fault: line " ++ (decimal f.line ++ (codes ": " ++ (certificate_kind_text f.kind ++ codes "\n")))
+
+-- a part of a certificate; derived rows and nodes count from 1
+abbrev pub part_text : Part → List ℕ
+part_text Size = codes "size"
+part_text Point = codes "point"
+part_text Value = codes "value"
+part_text Ray = codes "ray"
+part_text (DerivedRow k) = codes "derived " ++ decimal k
+part_text (Node k) = codes "node " ++ decimal k
+
+abbrev pub refused_line : Part → List ℕ
+refused_line part = codes "refused: " ++ (part_text part ++ codes "\n")
+
+abbrev pub undecided_pivots_line : List ℕ
+undecided_pivots_line = codes "UNDECIDED pivots\n"
+
 -- `A OP B` whose result does not fit
 abbrev pub overflow_line : NoFit → List ℕ
 overflow_line f = codes "overflow: " ++ (text_of f.a ++ (codes " " ++ (operator_text f.op ++ (codes " " ++ (text_of f.b ++ codes "\n")))))
 
 abbrev pub usage_line : List ℕ
-usage_line = codes "usage: glpsol --freemps FILE [options]\n"
+usage_line = codes "usage: glpsol (--freemps|--lp) FILE [options]\n"
 
 abbrev pub no_memory_line : List ℕ
 no_memory_line = codes "no memory\n"
@@ -40,5 +69,8 @@ fault_line (ReadFault name) = named_line (codes "read fault") name.now
 fault_line (WriteFault name) = named_line (codes "write fault") name.now
 fault_line (TooLong name) = named_line (codes "too long") name.now
 fault_line (File f) = file_line f
+fault_line (Certificate f) = certificate_line f
 fault_line (Overflow f) = overflow_line f
+fault_line UndecidedPivots = undecided_pivots_line
+fault_line (Refused part) = refused_line part
 fault_line NoMemory = no_memory_line

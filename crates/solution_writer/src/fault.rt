@@ -1,7 +1,9 @@
 // The lines of faults.
 ghost use Rattle.std.specs.Prelude.{◌≡◌, IfOk, string_bytes};
-ghost use Rattle.solution_writer.specs.FaultLine.{operator_text as operator_text_of, named_line as named_line_of, file_line as file_line_of, overflow_line as overflow_line_of, fault_line as fault_line_of};
+ghost use Rattle.solution_writer.specs.FaultLine.{operator_text as operator_text_of, named_line as named_line_of, file_line as file_line_of, overflow_line as overflow_line_of, fault_line as fault_line_of, certificate_kind_text as certificate_kind_text_of, certificate_line as certificate_line_of, part_text as part_text_of, refused_line as refused_line_of};
 
+use cert_check::Part;
+use certificate::{CertFault, FaultKind};
 use file_fault::FileFault;
 use fraction::{NoFit, Op};
 use instance::Name;
@@ -24,8 +26,14 @@ pub enum Fault<'a> {
     TooLong(&'a Name),
     /// The text of the model has this fault.
     File(FileFault),
+    /// The text of the certificate has this fault.
+    Certificate(CertFault),
     /// The result of this operation does not fit.
     Overflow(NoFit),
+    /// The simplex method has not ended within its limit of steps.
+    UndecidedPivots,
+    /// This part of the certificate does not hold.
+    Refused(Part),
     /// The memory is not there.
     NoMemory,
 }
@@ -35,14 +43,17 @@ pub fn fault_line(alloc: Global, fault: &Fault<'_>) -> Result<String, AllocError
     ensures { IfOk result (λ text. string_bytes text ≡ fault_line_of fault.now) }
 {
     match fault {
-        Fault::Usage => "usage: glpsol --freemps FILE [options]\n".to_string(alloc),
+        Fault::Usage => "usage: glpsol (--freemps|--lp) FILE [options]\n".to_string(alloc),
         Fault::Missing(name) => named_line(alloc, "missing", name),
         Fault::OpenFault(name) => named_line(alloc, "open fault", name),
         Fault::ReadFault(name) => named_line(alloc, "read fault", name),
         Fault::WriteFault(name) => named_line(alloc, "write fault", name),
         Fault::TooLong(name) => named_line(alloc, "too long", name),
         Fault::File(fault) => file_line(alloc, *fault),
+        Fault::Certificate(fault) => certificate_line(alloc, *fault),
         Fault::Overflow(fault) => overflow_line(alloc, *fault),
+        Fault::UndecidedPivots => "UNDECIDED pivots\n".to_string(alloc),
+        Fault::Refused(part) => refused_line(alloc, *part),
         Fault::NoMemory => "no memory\n".to_string(alloc),
     }
 }
@@ -60,6 +71,45 @@ fn file_line(alloc: Global, fault: FileFault) -> Result<String, AllocError>
     let FileFault { line, kind } = fault;
     let kind = kind.as_str();
     format!(in alloc; "file fault: line {line}: {kind}\n")
+}
+
+fn certificate_line(alloc: Global, fault: CertFault) -> Result<String, AllocError>
+    ensures { IfOk result (λ text. string_bytes text ≡ certificate_line_of fault) }
+{
+    let CertFault { line, kind } = fault;
+    let kind = certificate_kind_text(kind);
+    format!(in alloc; "certificate fault: line {line}: {kind}\n")
+}
+
+fn certificate_kind_text(kind: FaultKind) -> &'static str
+    ensures { result.now ≡ certificate_kind_text_of kind }
+{
+    match kind {
+        FaultKind::BadLine => "BadLine",
+        FaultKind::TooWide => "TooWide",
+        FaultKind::Unended => "Unended",
+        FaultKind::Extra => "Extra",
+    }
+}
+
+fn refused_line(alloc: Global, part: Part) -> Result<String, AllocError>
+    ensures { IfOk result (λ text. string_bytes text ≡ refused_line_of part) }
+{
+    let part = part_text(alloc, part)?;
+    format!(in alloc; "refused: {part}\n")
+}
+
+fn part_text(alloc: Global, part: Part) -> Result<String, AllocError>
+    ensures { IfOk result (λ text. string_bytes text ≡ part_text_of part) }
+{
+    match part {
+        Part::Size => "size".to_string(alloc),
+        Part::Point => "point".to_string(alloc),
+        Part::Value => "value".to_string(alloc),
+        Part::Ray => "ray".to_string(alloc),
+        Part::DerivedRow(row) => format!(in alloc; "derived {row}"),
+        Part::Node(node) => format!(in alloc; "node {node}"),
+    }
 }
 
 fn overflow_line(alloc: Global, fault: NoFit) -> Result<String, AllocError>

@@ -6,4 +6,4 @@ mod lines;
 mod report;
 
 pub use fault::{Fault, fault_line};
-pub use report::{solved_report, translated_report};
+pub use report::{accepted_report, solved_report, translated_report};

@@ -4,7 +4,7 @@ ghost use Rattle.std.specs.Option.{option_map};
 ghost use Rattle.rational.specs.Rational.{zero_ℚ};
 ghost use Rattle.milp.specs.Form.{sum_at};
 ghost use Rattle.instance.specs.Sums.{sum_answer, form_of};
-ghost use Rattle.solution_writer.specs.Report.{optimal_at as optimal_at_of, unbounded_at as unbounded_at_of, row_lines as row_lines_of, optimal_report as optimal_report_of, unbounded_report as unbounded_report_of, solved_report as solved_report_of, translated_report as translated_report_of, RowsFit, IsReportable};
+ghost use Rattle.solution_writer.specs.Report.{optimal_at as optimal_at_of, unbounded_at as unbounded_at_of, row_lines as row_lines_of, optimal_report as optimal_report_of, unbounded_report as unbounded_report_of, solved_report as solved_report_of, translated_report as translated_report_of, accepted_report as accepted_report_of, RowsFit, IsReportable};
 
 use crate::lines::{column_lines, head_line, ray_lines, row_line};
 use certificate::{Certificate, Verdict};
@@ -139,4 +139,11 @@ pub fn translated_report(alloc: Global, problem: &Instance) -> Result<String, Al
     let rows = problem.rows().len();
     let columns = problem.columns().len();
     format!(in alloc; "TRANSLATED\nrows {rows}\ncolumns {columns}\n")
+}
+
+/// The report of a certificate that was accepted.
+pub fn accepted_report(alloc: Global) -> Result<String, AllocError>
+    ensures { IfOk result (λ text. string_bytes text ≡ accepted_report_of) }
+{
+    "ACCEPTED\n".to_string(alloc)
 }

@@ -1,4 +1,4 @@
-use Rattle.std.proofs.Common.{◌≡◌, ◌∙◌, subst}
+use Rattle.std.proofs.Common.{◌∙◌, subst}
 use Rattle.std.specs.Io.KnownBytes.{Appends}
 use Rattle.glpsol_cli.proofs.Ends.{saved}
 use Rattle.glpsol_cli.proofs.save.conclude.Goals as goal

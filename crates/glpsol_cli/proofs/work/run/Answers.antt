@@ -1,8 +1,8 @@
-use Rattle.std.proofs.Common.{◌≡◌, map, string_bytes, sym, subst}
+use Rattle.std.proofs.Common.{map, string_bytes, sym, subst}
 use Rattle.outside.specs.Causes.{Rose}
-use Rattle.glpsol_cli.specs.Cause.{Cause, IsVerdictOrNoMemory}
+use Rattle.glpsol_cli.specs.Cause.{Cause, IsAccepted, IsVerdictOrNoMemory}
 use Rattle.glpsol_cli.specs.Endings.{IsSized}
-use Rattle.glpsol_cli.proofs.Ends.{rose_since, cause, printed, files, complete, size_cause, size_printed, size_files, size_complete, early_complete, is_best, has_no_point, has_ray}
+use Rattle.glpsol_cli.proofs.Ends.{rose_since, cause, printed, files, complete, size_cause, size_printed, size_files, size_complete, acceptance_cause, certificate_complete, early_cause, early_complete, is_best, has_no_point, has_ray}
 use Rattle.glpsol_cli.proofs.work.run.Goals as goal
 
 pub returns-in-Ok-Sized-clause-optimal : goal.returns-in-Ok-Sized-clause-optimal
@@ -32,7 +32,7 @@ returns-in-Ok-Sized-clause-files g c =
 pub returns-in-Ok-Sized-clause-complete : goal.returns-in-Ok-Sized-clause-complete
 returns-in-Ok-Sized-clause-complete g c =
     let of = rw (c.deref.ensures.value, c.in-Ok-Sized.field-0-is) at c.in-Ok-Sized.ensures.found in
-    λ k. absurd (size_complete (map string_bytes c.args.words.items) (g.S.Store.told c.args.files.now) c.in-Ok-Sized.problem _ _ of k)
+    λ k. absurd (size_complete (map string_bytes c.args.words.items) (g.S.Store.told c.args.files.now) _ _ k c.in-Ok-Sized.problem of)
 
 pub returns-in-Ok-Solved-clause-optimal : goal.returns-in-Ok-Solved-clause-optimal
 returns-in-Ok-Solved-clause-optimal g c =
@@ -89,3 +89,19 @@ returns-in-Ok-Solved-clause-complete g c =
 pub returns-clause-complete : goal.returns-clause-complete
 returns-clause-complete g c =
     λ k. subst IsVerdictOrNoMemory (sym c.publish_fault.ensures.same) (early_complete (map string_bytes c.args.words.items) (g.S.Store.told c.args.files.now) _ _ k c.in-Err.fault c.in-Err.ensures.early (rw c.deref.ensures.value at c.in-Err.ensures.cause))
+
+pub returns-in-Ok-Accepted-clause-cause : goal.returns-in-Ok-Accepted-clause-cause
+returns-in-Ok-Accepted-clause-cause g c =
+    let of = rw (c.deref.ensures.value, c.in-Ok-Accepted.field-0-is) at c.in-Ok-Accepted.ensures.found in
+    acceptance_cause (map string_bytes c.args.words.items) (g.S.Store.told c.args.files.now) _ _ (g.S.Store.told c.find.new.files) _ _ c.in-Ok-Accepted.ensures.told of c.publish_acceptance.result c.publish_acceptance.ensures
+
+pub returns-in-Ok-Accepted-clause-complete : goal.returns-in-Ok-Accepted-clause-complete
+returns-in-Ok-Accepted-clause-complete g c =
+    let of = rw (c.deref.ensures.value, c.in-Ok-Accepted.field-0-is) at c.in-Ok-Accepted.ensures.found in
+    λ k. absurd (certificate_complete (map string_bytes c.args.words.items) (g.S.Store.told c.args.files.now) _ _ k IsAccepted of)
+
+pub returns-clause-cause : goal.returns-clause-cause
+returns-clause-cause g c =
+    let words = map string_bytes c.args.words.items in
+    let told = g.S.Store.told c.args.files.now in
+    subst (Cause words told _ _) (sym c.publish_fault.ensures.same) (early_cause words told _ _ c.in-Err.fault c.in-Err.ensures.early (rw c.deref.ensures.value at c.in-Err.ensures.cause))

@@ -1,0 +1,9 @@
+pub mod Told
+pub mod NodeNumbers
+pub mod NodeForms
+pub mod LeafWeights
+pub mod NodeTests
+pub mod RootCertificates
+pub mod Answered
+pub mod SimplexFaults
+pub mod StuckFaults

@@ -1,0 +1,5 @@
+pub mod Faults
+pub mod Root
+pub mod Leaves
+pub mod Solved
+pub mod Stuck

@@ -1,0 +1,75 @@
+// Problems solved at the root alone.
+ghost use Rattle.std.specs.Prelude.{◌≡◌, [], None, IfOk, IfErr};
+ghost use Rattle.verdicts.specs.Proves.{Proves};
+ghost use Rattle.cert_check.specs.Outcome.{Acceptance, outcome, trials};
+ghost use Rattle.branch_solve.specs.Root.{NoneInteger, IsRootCertificate};
+ghost use Rattle.branch_solve.specs.Solved.{IsNoFit, IsAfterRun, IsAtLimit};
+ghost use Rattle.simplex.specs.Answer.{IsRelaxed, IsStuck};
+ghost use Rattle.branch_solve.specs.Stuck.{fault_of as fault_of_stuck};
+
+use crate::fault::SolveFault;
+use crate::solving::{certified_contradiction, certified_optimum, certified_ray};
+use certificate::{Certificate, DerivedRows};
+use instance::Instance;
+use search_node::{Node, Stuck};
+use simplex::{Relaxed, relax, root_is_over_columns};
+use std::alloc::Global;
+
+/// The verdict of a problem without integer columns, with its certificate, which proves it and which the checker
+/// accepts. The simplex method takes at most `pivot_limit` steps. A fault tells an operation that does not fit: at the
+/// root, or in a part of the certificate's check.
+pub fn solve(alloc: Global, problem: &Instance, pivot_limit: u32) -> Result<Certificate, SolveFault>
+    requires continuous { NoneInteger problem.now.columns }
+    ensures proves { IfOk result (λ c. Proves problem.now c) }
+    ensures accepted { IfOk result (λ c. outcome (trials problem.now c) ≡ Acceptance) }
+    ensures made { IfOk result (λ c. IsRootCertificate problem.now c) }
+    ensures no_fit { IfErr result (λ e. IsNoFit problem.now e) }
+    ensures limit { IfErr result (λ e. IsAtLimit problem.now pivot_limit e) }
+{
+    match relaxed(alloc, problem, pivot_limit) {
+        Ok(relaxed) => certified(alloc, problem, relaxed),
+        Err(stuck) => Err(fault_of(stuck)),
+    }
+}
+
+// What the simplex method finds at the root, in at most `pivot_limit` steps.
+fn relaxed(alloc: Global, problem: &Instance, pivot_limit: u32) -> Result<Relaxed, Stuck>
+    ensures relaxed { IfOk result (IsRelaxed problem.now [] []) }
+    ensures stuck { IfErr result (IsStuck problem.now [] (record { root_basis = None; splits = [] }) pivot_limit) }
+{
+    root_is_over_columns(problem);
+    relax(
+        alloc,
+        problem,
+        &Node::root(alloc),
+        &DerivedRows::new(alloc),
+        pivot_limit,
+    )
+}
+
+// The certificate of what the simplex method has found.
+fn certified(alloc: Global, problem: &Instance, relaxed: Relaxed) -> Result<Certificate, SolveFault>
+    requires continuous { NoneInteger problem.now.columns }
+    requires relaxed { IsRelaxed problem.now [] [] relaxed }
+    ensures proves { IfOk result (λ c. Proves problem.now c) }
+    ensures accepted { IfOk result (λ c. outcome (trials problem.now c) ≡ Acceptance) }
+    ensures made { IfOk result (λ c. IsRootCertificate problem.now c) }
+    ensures fault { IfErr result (λ e. IsAfterRun problem.now e) }
+{
+    match relaxed {
+        Relaxed::Optimal(best) => certified_optimum(alloc, problem, best.point, best.weights),
+        Relaxed::Infeasible(weights) => certified_contradiction(alloc, problem, weights),
+        Relaxed::Unbounded(endless) => certified_ray(alloc, problem, endless.point, endless.ray),
+    }
+}
+
+// The fault of the simplex method as one of the whole.
+fn fault_of(stuck: Stuck) -> SolveFault
+    ensures { result ≡ fault_of_stuck stuck }
+{
+    match stuck {
+        Stuck::NoFit(site) => SolveFault::Node(site),
+        Stuck::PivotLimit(bases) => SolveFault::PivotLimit(bases),
+        Stuck::NoMemory => SolveFault::NoMemory,
+    }
+}

@@ -1,4 +1,0 @@
-pub mod Verdicts
-pub mod Signs
-pub mod CostItems
-pub mod Found
