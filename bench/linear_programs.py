@@ -1,0 +1,151 @@
+#!/usr/bin/env python3
+"""Times `glpsol --freemps` on random linear programs, and other exact solvers on the same files where they are installed.
+
+usage: bench/linear_programs.py [--runs N] [--most ROWS] [FILE.mps ...]
+
+Without files it makes dense and sparse programs of 10 to 200 rows (to ROWS at most) with small whole coefficients.
+GLPK's `glpsol --exact` (Debian's glpk-utils) and `esolver` (Debian's qsopt-ex) are run on the same files, one program
+after the other in each round. It prints the median seconds of each, the optimum that each finds, and the ratio to GLPK;
+last the geometric mean of the ratios. A program that takes more than 60 seconds counts as none. Each certificate is
+checked by `--checkcert`, and its time printed too.
+"""
+import os
+import random
+import re
+import shutil
+import statistics
+import subprocess
+import sys
+import tempfile
+import time
+from fractions import Fraction
+
+TOP = os.path.dirname(os.path.dirname(os.path.abspath(__file__)))
+PROGRAM = os.path.join(TOP, "glpsol")
+LIMIT = 60
+
+
+def text_of(rows, columns, density, seed):
+    """A program whose columns go from 0 to 20, with a point that meets all rows."""
+    pick = random.Random(seed)
+    point = [pick.randint(0, 9) for _ in range(columns)]
+    lines = ["NAME random", "ROWS", " N cost"]
+    kinds = [pick.choice("LLGE") if i % 5 == 0 else pick.choice("LG") for i in range(rows)]
+    lines += [f" {kind} r{i}" for i, kind in enumerate(kinds)]
+    lines.append("COLUMNS")
+    sums = [0] * rows
+    for j in range(columns):
+        lines.append(f" x{j} cost {pick.choice([-1, 1]) * pick.randint(1, 9)}")
+        for i in range(rows):
+            if pick.random() < density:
+                a = pick.choice([-1, 1]) * pick.randint(1, 9)
+                sums[i] += a * point[j]
+                lines.append(f" x{j} r{i} {a}")
+    lines.append("RHS")
+    for i, kind in enumerate(kinds):
+        slack = 0 if kind == "E" else pick.randint(0, 20)
+        lines.append(f" R r{i} {sums[i] + (slack if kind == 'L' else -slack)}")
+    lines.append("BOUNDS")
+    lines += [f" UP b x{j} 20" for j in range(columns)]
+    lines.append("ENDATA")
+    return "\n".join(lines) + "\n"
+
+
+def timed(words):
+    start = time.perf_counter()
+    try:
+        done = subprocess.run(words, capture_output=True, text=True, timeout=LIMIT)
+    except subprocess.TimeoutExpired:
+        return None, ""
+    return time.perf_counter() - start, done.stdout
+
+
+def ours(path, folder):
+    seconds, text = timed([PROGRAM, "--freemps", path, "--cert", os.path.join(folder, "certificate")])
+    found = re.match(r"OPTIMAL\nobjective \S+ (\S+)", text)
+    return seconds, str(float(Fraction(found.group(1)))) if found else text.split("\n")[0]
+
+
+def check(path, folder):
+    seconds, text = timed([PROGRAM, "--freemps", path, "--checkcert", os.path.join(folder, "certificate")])
+    return seconds, text.strip()
+
+
+def glpk(path, folder):
+    solution = os.path.join(folder, "glpk.txt")
+    seconds, text = timed(["/usr/bin/glpsol", "--freemps", path, "--exact", "--nopresol", "-o", solution])
+    if seconds is None:
+        return None, ""
+    with open(solution) as file:
+        found = re.search(r"Objective: +\S+ = (\S+)", file.read())
+    return seconds, found.group(1) if found else ""
+
+
+def qsopt(path, folder):
+    plain = os.path.join(folder, "plain.mps")
+    with open(path) as source, open(plain, "w") as target:
+        target.write(source.read())
+    seconds, text = timed(["esolver", "-O", os.path.join(folder, "qsopt"), plain])
+    found = re.search(r"Value = ([-0-9/]+)", text)
+    return seconds, str(float(Fraction(found.group(1)))) if found else ""
+
+
+def shown(seconds):
+    return "    none" if seconds is None else f"{seconds:8.4f}"
+
+
+def measure(name, path, folder, runs):
+    others = [("glpk", glpk)] if os.path.exists("/usr/bin/glpsol") else []
+    others += [("qsopt", qsopt)] if shutil.which("esolver") else []
+    solvers = [("this", ours)] + others
+    times = {solver: [] for solver, _ in solvers}
+    values = {}
+    for _ in range(runs):
+        for solver, run in solvers:
+            seconds, values[solver] = run(path, folder)
+            if seconds is not None:
+                times[solver].append(seconds)
+    medians = {solver: statistics.median(times[solver]) if times[solver] else None for solver, _ in solvers}
+    checked, verdict = check(path, folder)
+    cells = [f"{solver} {shown(medians[solver])} s {values[solver][:12]:>12}" for solver, _ in solvers]
+    ratio = None
+    if medians.get("glpk") and medians["this"]:
+        ratio = medians["this"] / medians["glpk"]
+        cells.append(f"ratio to glpk {ratio:6.2f}")
+    cells.append(f"check {shown(checked)} s {verdict}")
+    print(f"{name:24} " + "  ".join(cells), flush=True)
+    return ratio
+
+
+def main():
+    words = sys.argv[1:]
+    runs, most, files = 5, 200, []
+    while words:
+        word = words.pop(0)
+        if word == "--runs":
+            runs = int(words.pop(0))
+        elif word == "--most":
+            most = int(words.pop(0))
+        else:
+            files.append(word)
+    ratios = []
+    with tempfile.TemporaryDirectory() as folder:
+        for path in files:
+            ratios.append((0, measure(os.path.basename(path), path, folder, runs)))
+        if not files:
+            for rows in [10, 20, 30, 50, 100, 200]:
+                for shape, density in [("dense", 1.0), ("sparse", 0.1)]:
+                    if rows > most:
+                        continue
+                    path = os.path.join(folder, "random.mps")
+                    with open(path, "w") as file:
+                        file.write(text_of(rows, rows, density, rows))
+                    ratios.append((rows, measure(f"{rows} rows, {shape}", path, folder, runs)))
+    for limit in [50, 200]:
+        known = [ratio for rows, ratio in ratios if ratio is not None and rows <= limit]
+        if known:
+            print(f"up to {limit} rows: geometric mean of the ratios to glpk {statistics.geometric_mean(known):.2f}")
+
+
+if __name__ == "__main__":
+    main()
