@@ -1,4 +1,4 @@
-NAME a row: a text that is refused as long as rows are not read
+NAME a row: twice x is at least 3, so the least x is 3/2
 ROWS
  N cost
  G least
