@@ -96,6 +96,13 @@ zero_by_test a e = zero_numerator a (none a.numerator e)
     none : (n : ℤ) → (unsigned_abs n == 0) ≡ true → n ≡ pos 0
     none n e = let k : unsigned_abs n ≡ 0 = grind (arith, nat_tests) in omega (arith, ints)
 
+-- a product with 0 adds nothing
+pub nothing_added : (k a b : Rational) (t : Bool) → t ≡ is_zero a → t ≡ true → b ≡ k *ℚ a +ℚ b
+nothing_added k a b t f g = sym (ap (λ u. k *ℚ u +ℚ b) (zero_by_test a (sym f ∙ g)) ∙ none b)
+  where
+    none : (b : Rational) → k *ℚ zero_ℚ +ℚ b ≡ b
+    none b = ap (λ u. u +ℚ b) (Q.mul-zero k) ∙ Q.zero-add b
+
 pub substituted_zero : (old ss : List Rational) (at : ℕ) (k : Rational) (t : Bool) → k ≡ number_at old at → t ≡ is_zero k → t ≡ true → IsSubstituted old ss at old
 substituted_zero old ss at k t e f g = record {
   size = refl;

@@ -119,6 +119,10 @@ pub(crate) fn mul_add(factor: Frac, a: Frac, b: Frac) -> Result<Frac, NoFit>
     ensures ok { IfOk result (λ v. v ≡ factor *ℚ a +ℚ b) }
     ensures err { IfErr result (IsProductOrSum factor a b) }
 {
+    // nothing is added
+    if is_zero(a) {
+        return Ok(b);
+    }
     factor.mul_add(a, b)
 }
 
