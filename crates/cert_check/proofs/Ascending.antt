@@ -1,15 +1,15 @@
 -- Forms with their entries in ascending order of column.
-use Rattle.std.proofs.Common.{◌≡◌, ◌∙◌, ℕ, zero, suc, Option, Some, None, ◌+◌, ◌<◌, ◌≤◌, ◌==◌, ◌&&◌, nat_le, nat_lt, not, cond, true, false, length, get_or, drop, add-one, List, [], ◌∷◌, refl, sym, ap, subst, arith}
+use Rattle.std.proofs.Common.{◌≡◌, ◌∙◌, ℕ, zero, suc, Some, None, ◌+◌, ◌<◌, ◌≤◌, ◌==◌, ◌&&◌, nat_le, nat_lt, not, true, false, length, get_or, drop, add-one, List, [], ◌∷◌, refl, sym, ap, subst, arith}
 use mathlib.Core.Path.{ap₂}
 use Rattle.std.proofs.Math.Decide.{ℕ_discrete}
 use Rattle.std.proofs.lemmas.Bool.{and_parts}
 use Rattle.std.proofs.lemmas.Bool.Decides.{nat_tests}
-use Rattle.rational.specs.Rational.{Rational, zero_ℚ, ◌+ℚ◌}
+use Rattle.rational.specs.Rational.{Rational, zero_ℚ}
 use Rattle.rational.proofs.Field as Q
 use Rattle.milp.specs.Form.{Entry}
 use Rattle.instance.specs.WellFormed.{is_zero, are_entries_from}
 use Rattle.verdicts.specs.WeightedSums.{coefficient_of}
-use Rattle.cert_check.specs.Sums.{Product, products}
+use Rattle.cert_check.specs.Sums.{products}
 use Rattle.cert_check.specs.Lookup.{entry_at}
 use Rattle.cert_check.specs.Parts.{ascending}
 use Rattle.cert_check.proofs.Products.{next}

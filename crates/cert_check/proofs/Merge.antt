@@ -1,5 +1,5 @@
 -- The products of a column's entries with the weights of their rows are those of the weights with their rows' entries.
-use Rattle.std.proofs.Common.{◌≡◌, ◌∙◌, ℕ, zero, suc, ◌+◌, ◌-◌, ◌*◌, ◌<◌, ◌≤◌, ◌==◌, ◌&&◌, nat_le, Bool, true, false, cond, if◌then◌else◌, length, slice_get, get_or, drop, Result, Ok, Err, List, [], ◌∷◌, ◌++◌, append_assoc, append-nil, refl, sym, ap, subst, arith}
+use Rattle.std.proofs.Common.{◌≡◌, ◌∙◌, ℕ, suc, ◌+◌, ◌-◌, ◌*◌, ◌<◌, ◌≤◌, ◌==◌, nat_le, Bool, true, false, if◌then◌else◌, length, slice_get, get_or, drop, Result, Ok, Err, List, [], ◌∷◌, ◌++◌, append_assoc, refl, sym, ap, arith}
 use mathlib.Core.Path.{ap₂}
 use Rattle.std.proofs.Math.Decide.{ℕ_discrete}
 use Rattle.std.proofs.lemmas.Bool.{and_parts}
@@ -16,7 +16,7 @@ use Rattle.instance.specs.ByColumn.{entries_in_form, entries_in_rows}
 use Rattle.verdicts.specs.Certificate.{Item}
 use Rattle.certificate.specs.Written.{place_of, AreItemsFrom}
 use Rattle.cert_check.specs.Setting.{Setting}
-use Rattle.cert_check.specs.Sums.{Product, products, item_products, form_at, with_products}
+use Rattle.cert_check.specs.Sums.{products, item_products, form_at, with_products}
 use Rattle.cert_check.specs.declared.kind.Kind.TheVariants.{OfColumn}
 use Rattle.cert_check.specs.Lookup.{at_index, at_entries}
 use Rattle.cert_check.specs.Parts.{ascending}

@@ -13,6 +13,8 @@ mod part;
 mod points;
 mod setting;
 mod sums;
+#[cfg(test)]
+mod tests;
 mod way;
 
 pub use checking::check;

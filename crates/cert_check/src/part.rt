@@ -3,7 +3,7 @@
 use fraction::NoFit;
 
 /// A part of a certificate, in the order in which they are tested. Derived rows and nodes count from 1.
-#[derive(Clone, Copy)]
+#[derive(Clone, Copy, Debug, PartialEq, Eq)]
 pub enum Part {
     /// The numbers of rows and columns are the problem's.
     Size,

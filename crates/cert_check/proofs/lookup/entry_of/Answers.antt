@@ -1,6 +1,6 @@
-use Rattle.std.proofs.Common.{◌≡◌, ◌∙◌, ◌<◌, sym, ap, arith, Option, Some}
+use Rattle.std.proofs.Common.{◌≡◌, ◌∙◌, sym, ap, arith}
 use Rattle.milp.specs.Form.{Entry}
-use Rattle.cert_check.proofs.Ascending.{none_after, entry_here, entry_passed}
+use Rattle.cert_check.proofs.Ascending.{none_after}
 use Rattle.cert_check.proofs.lookup.entry_of.Goals as goal
 
 pub returns-then-entry-column : goal.returns-then-entry-column

@@ -1,5 +1,5 @@
-use Rattle.std.proofs.Common.{◌≡◌, ◌∙◌, ap}
-use Rattle.rational.specs.Rational.{Rational, one_ℚ}
+use Rattle.std.proofs.Common.{◌∙◌, ap}
+use Rattle.rational.specs.Rational.{Rational}
 use Rattle.cert_check.specs.Sums.{with_products}
 use Rattle.cert_check.specs.Lookup.{at_index}
 use Rattle.cert_check.proofs.Merge.{units}

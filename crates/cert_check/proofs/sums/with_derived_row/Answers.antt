@@ -1,10 +1,9 @@
-use Rattle.std.proofs.Common.{◌≡◌, ◌∙◌, true, Some, sym, ap, subst, List, rules}
+use Rattle.std.proofs.Common.{◌≡◌, ◌∙◌, true, Some, sym, subst, List, rules}
 use Rattle.milp.specs.Form.{Entry}
 use Rattle.certificate.specs.Written.{count_max}
-use Rattle.cert_check.specs.Sums.{with_products}
 use Rattle.cert_check.specs.Lookup.{entry_at}
 use Rattle.cert_check.specs.Parts.{ascending}
-use Rattle.cert_check.proofs.Ascending.{entries_ascend, products_found, products_none}
+use Rattle.cert_check.proofs.Ascending.{entries_ascend, products_found}
 use Rattle.cert_check.proofs.sums.with_derived_row.Goals as goal
 
 pub entry_of-requires : goal.entry_of-requires
