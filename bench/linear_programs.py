@@ -6,7 +6,7 @@ usage: bench/linear_programs.py [--runs N] [--most ROWS] [FILE.mps ...]
 Without files it makes dense and sparse programs of 10 to 200 rows (to ROWS at most) with small whole coefficients.
 GLPK's `glpsol --exact` (Debian's glpk-utils) and `esolver` (Debian's qsopt-ex) are run on the same files, one program
 after the other in each round. It prints the median seconds of each, the optimum that each finds, and the ratio to GLPK;
-last the geometric mean of the ratios. A program that takes more than 60 seconds counts as none. Each certificate is
+last the geometric mean of the ratios, without those where this program answers Overflow. A program that takes more than 60 seconds counts as none. Each certificate is
 checked by `--checkcert`, and its time printed too.
 """
 import os
@@ -21,7 +21,7 @@ import time
 from fractions import Fraction
 
 TOP = os.path.dirname(os.path.dirname(os.path.abspath(__file__)))
-PROGRAM = os.path.join(TOP, "glpsol")
+PROGRAM = os.path.join(TOP, "crates", "glpsol", "out", "glpsol")
 LIMIT = 60
 
 
@@ -63,7 +63,7 @@ def timed(words):
 def ours(path, folder):
     seconds, text = timed([PROGRAM, "--freemps", path, "--cert", os.path.join(folder, "certificate")])
     found = re.match(r"OPTIMAL\nobjective \S+ (\S+)", text)
-    return seconds, str(float(Fraction(found.group(1)))) if found else text.split("\n")[0]
+    return seconds, str(float(Fraction(found.group(1)))) if found else text.split(":")[0].strip()
 
 
 def check(path, folder):
@@ -114,10 +114,11 @@ def measure(name, path, folder, runs):
         cells.append(f"ratio to glpk {ratio:6.2f}")
     cells.append(f"check {shown(checked)} s {verdict}")
     print(f"{name:24} " + "  ".join(cells), flush=True)
-    return ratio
+    return None if values["this"] == "overflow" else ratio
 
 
 def main():
+    subprocess.run([os.path.join(TOP, "glpsol"), "--check"], stdout=subprocess.DEVNULL)  # builds it
     words = sys.argv[1:]
     runs, most, files = 5, 200, []
     while words:

@@ -13,7 +13,7 @@ import tempfile
 import time
 
 TOP = os.path.dirname(os.path.dirname(os.path.abspath(__file__)))
-PROGRAM = os.path.join(TOP, "glpsol")
+PROGRAM = os.path.join(TOP, "crates", "glpsol", "out", "glpsol")
 MODEL = "NAME one\nROWS\n N cost\nCOLUMNS\n x cost 1\nENDATA\n"
 
 
@@ -34,6 +34,7 @@ def seconds(words):
 
 
 def main():
+    subprocess.run([os.path.join(TOP, "glpsol"), "--check"], stdout=subprocess.DEVNULL)  # builds it
     sizes = [int(word) for word in sys.argv[1:]] or [1, 4, 16]
     with tempfile.TemporaryDirectory() as folder:
         model = os.path.join(folder, "one.mps")

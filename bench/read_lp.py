@@ -13,7 +13,7 @@ import tempfile
 import time
 
 TOP = os.path.dirname(os.path.dirname(os.path.abspath(__file__)))
-PROGRAM = os.path.join(TOP, "glpsol")
+PROGRAM = os.path.join(TOP, "crates", "glpsol", "out", "glpsol")
 
 
 def objective(count):
@@ -31,6 +31,7 @@ def rows(count):
 
 
 def main():
+    subprocess.run([os.path.join(TOP, "glpsol"), "--check"], stdout=subprocess.DEVNULL)  # builds it
     counts = [int(word) for word in sys.argv[1:]] or [25000, 50000, 100000]
     with tempfile.TemporaryDirectory() as folder:
         path = os.path.join(folder, "many.lp")

@@ -33,7 +33,8 @@ def seconds(words):
 
 def main():
     counts = [int(word) for word in sys.argv[1:]] or [25000, 50000, 100000]
-    program = os.path.join(TOP, "glpsol")
+    subprocess.run([os.path.join(TOP, "glpsol"), "--check"], stdout=subprocess.DEVNULL)
+    program = os.path.join(TOP, "crates", "glpsol", "out", "glpsol")
     for count in counts:
         with tempfile.TemporaryDirectory() as folder:
             path = os.path.join(folder, "many.mps")
