@@ -7,7 +7,7 @@ Without files it makes dense and sparse programs of 10 to 200 rows (to ROWS at m
 GLPK's `glpsol --exact` (Debian's glpk-utils) and `esolver` (Debian's qsopt-ex) are run on the same files, one program
 after the other in each round. It prints the median seconds of each, the optimum that each finds, and the ratio to GLPK;
 last the geometric mean of the ratios, without those where this program answers Overflow. A program that takes more than 60 seconds counts as none. Each certificate is
-checked by `--checkcert`, and its time printed too.
+checked by `--checkcert`, and its time printed too. Last it solves and checks chains of 500 to 2,000 rows.
 """
 import os
 import random
@@ -49,6 +49,30 @@ def text_of(rows, columns, density, seed):
     lines += [f" UP b x{j} 20" for j in range(columns)]
     lines.append("ENDATA")
     return "\n".join(lines) + "\n"
+
+
+def chain_of(rows):
+    """Rows that each tie two neighbours, of which few bind: a program that many rows make long, and few steps solve."""
+    lines = ["NAME chain", "ROWS", " N cost"] + [f" L r{i}" for i in range(rows)] + ["COLUMNS"]
+    for j in range(rows):
+        lines.append(f" x{j} cost {-(j % 7 + 1) if j % 20 == 0 else j % 3}")
+        lines.append(f" x{j} r{j} {j % 5 + 1}")
+        if j > 0:
+            lines.append(f" x{j} r{j - 1} -{j % 4 + 1}")
+    lines += ["RHS"] + [f" R r{i} {i % 11 + 3}" for i in range(rows)]
+    lines += ["BOUNDS"] + [f" UP b x{j} 50" for j in range(rows)] + ["ENDATA"]
+    return "\n".join(lines) + "\n"
+
+
+def chains(folder):
+    path = os.path.join(folder, "chain.mps")
+    for rows in [500, 1000, 2000]:
+        with open(path, "w") as file:
+            file.write(chain_of(rows))
+        read = min(timed([PROGRAM, "--freemps", path, "--check"])[0] for _ in range(3))
+        solved = min(ours(path, folder)[0] for _ in range(3))
+        checked = min(check(path, folder)[0] for _ in range(3))
+        print(f"chain of {rows} rows: read in {read:.4f} s, solved in {solved:.4f} s, read and checked in {checked:.4f} s")
 
 
 def timed(words):
@@ -142,6 +166,8 @@ def main():
                     with open(path, "w") as file:
                         file.write(text_of(rows, rows, density, rows))
                     ratios.append((rows, measure(f"{rows} rows, {shape}", path, folder, runs)))
+        if not files:
+            chains(folder)
     for limit in [50, 200]:
         known = [ratio for rows, ratio in ratios if ratio is not None and rows <= limit]
         if known:
