@@ -1,4 +1,4 @@
-pub mod Scan
+pub mod Elements
 pub mod Walk
 pub mod Products
 pub mod ItemOrder

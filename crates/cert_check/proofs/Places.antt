@@ -8,10 +8,10 @@ use Rattle.verdicts.specs.Proves.{below, Node}
 use Rattle.verdicts.specs.Preorder.{way_to, ways_to}
 use Rattle.verdicts.proofs.Trees.{ways_step}
 use Rattle.certificate.specs.Written.{open_after}
-use Rattle.cert_check.specs.Setting.{way}
+use Rattle.certificate.specs.Ways.{way}
 use Rattle.cert_check.specs.Parts.{node_answer}
 use Rattle.cert_check.specs.Outcome.{Outcome, Acceptance, Refusal, Fault, judged, outcome, node_trials}
-use Rattle.cert_check.proofs.Scan.{back}
+use Rattle.cert_check.proofs.Elements.{back}
 use Rattle.cert_check.proofs.Products.{next}
 
 abbrev pub left : Problem → Option Rational → List Derived → List TreeNode → ℕ → ℕ → Outcome

@@ -1,28 +1,10 @@
 -- What weights stand on at a node: the problem, derived rows, and the splits on the way to the node.
-use Rattle.std.specs.Prelude.{ℕ, ◌<◌, ◌≡◌, List, [], ◌∷◌, take, reverse, Option, Some, None}
+use Rattle.std.specs.Prelude.{List}
 use Rattle.milp.specs.Problem.{Problem}
-use Rattle.verdicts.specs.Certificate.{Derived, TreeNode, Side as SideOf}
-use Rattle.verdicts.specs.Certificate as of
-use Rattle.verdicts.specs.Preorder.{way_to}
-use Rattle.cert_check.specs.declared.way.Side.{Side}
-use Rattle.cert_check.specs.declared.way.Side.TheVariants.{Low, High}
-use Rattle.cert_check.specs.declared.way.Turn.{Turn}
+use Rattle.verdicts.specs.Certificate.{Derived, Side}
 
 -- the problem, the derived rows that weights may name, and the splits on the way, the latest first
 pub record Setting : Type 0 where
   pub problem : Problem
   pub derived : List Derived
-  pub sides : List SideOf
-
-abbrev pub side_of : Side → SideOf
-side_of (Low s) = of.Low s
-side_of (High s) = of.High s
-
--- the splits on the way to the node at this place of the preorder, the latest first
-abbrev pub way : List TreeNode → ℕ → List SideOf
-way nodes place = way_to (reverse (take place nodes)) 0
-
--- the last turn on the way to a place, and the place of the branch where it is taken; none at the root
-abbrev pub IsLastTurn : List TreeNode → ℕ → Option Turn → Type 0
-IsLastTurn nodes place None = way nodes place ≡ []
-IsLastTurn nodes place (Some t) = (t.place < place) × (way nodes place ≡ side_of t.side ∷ way nodes t.place)
+  pub sides : List Side

@@ -1,24 +1,11 @@
--- Steps of a scan back over the nodes before a place, and of the walk over its turns.
-use Rattle.std.specs.Prelude.{ℕ, zero, suc, ◌+◌, ◌-◌, ◌==◌, Option, Some, None, Result, Ok, if◌then◌else◌}
+-- Steps of the walk back over the turns on the way to a place.
+use Rattle.std.specs.Prelude.{ℕ, ◌==◌, Option, Some, None, Result, Ok, if◌then◌else◌}
 use Rattle.rational.specs.Rational.{Rational, whole}
 use Rattle.fraction.specs.declared.frac.NoFit.{NoFit}
 use Rattle.instance.specs.Sums.{and_then}
-use Rattle.verdicts.specs.Certificate.{Side, Low, High, TreeNode, Branch, Empty, Bound}
+use Rattle.verdicts.specs.Certificate.{Side, Low, High}
 use Rattle.verdicts.specs.Proves.{greater, lesser}
 use Rattle.cert_check.specs.Sums.{next_answer}
-
--- the turn that is taken at a node to the place after it and `skip` more subtrees
-abbrev pub turn_of : TreeNode → ℕ → Option Side
-turn_of (Branch s) zero = Some (Low s)
-turn_of (Branch s) (suc zero) = Some (High s)
-turn_of (Branch s) (suc (suc skip)) = None
-turn_of (Empty w) skip = None
-turn_of (Bound w) skip = None
-
-abbrev pub skip_after : TreeNode → ℕ → ℕ
-skip_after (Branch s) skip = skip - 1
-skip_after (Empty w) skip = skip + 1
-skip_after (Bound w) skip = skip + 1
 
 -- the greatest lower bound of a column's sides so far, with one more side
 abbrev pub found_lower : Option Rational → Side → ℕ → Result (Option Rational) NoFit

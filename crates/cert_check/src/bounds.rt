@@ -1,12 +1,11 @@
 // The bounds of columns under the splits on the way to a node.
 ghost use Rattle.std.specs.Prelude.{◌≡◌, ◌≤◌, [], length};
 ghost use Rattle.verdicts.specs.Proves.{lower_under, upper_under, greater as greater_of, lesser as lesser_of};
-ghost use Rattle.cert_check.specs.Setting.{side_of, way};
+ghost use Rattle.certificate.specs.Ways.{side_of, way};
 ghost use Rattle.cert_check.specs.Sums.{next_answer, lower_answer};
 ghost use Rattle.cert_check.specs.Walk.{found_lower, found_upper, merged_lower, merged_upper};
 
-use crate::way::{Side, last_turn};
-use certificate::{Tree, WholeNumber};
+use certificate::{Side, Tree, WholeNumber};
 use fraction::{Frac, NoFit};
 use instance::Instance;
 
@@ -23,7 +22,7 @@ pub(crate) fn lower_at(
 {
     let mut found = None;
     let mut at = place;
-    while let Some(turn) = last_turn(tree, at) {
+    while let Some(turn) = tree.last_turn(at) {
         found = with_lower(found, turn.side, column)?;
         at = turn.place;
     }
@@ -37,7 +36,7 @@ pub(crate) fn upper_at(problem: &Instance, tree: &Tree, place: usize, column: u3
 {
     let mut found = None;
     let mut at = place;
-    while let Some(turn) = last_turn(tree, at) {
+    while let Some(turn) = tree.last_turn(at) {
         found = with_upper(found, turn.side, column);
         at = turn.place;
     }

@@ -15,7 +15,6 @@ mod setting;
 mod sums;
 #[cfg(test)]
 mod tests;
-mod way;
 
 pub use checking::check;
 pub use part::{CheckFault, Checked, Part};

@@ -6,7 +6,7 @@ ghost use Rattle.verdicts.specs.WeightedSums.{coefficient_of};
 ghost use Rattle.verdicts.specs.Compare.{is_less};
 ghost use Rattle.certificate.specs.Values.{node_of};
 ghost use Rattle.certificate.specs.Written.{open_after};
-ghost use Rattle.cert_check.specs.Setting.{way};
+ghost use Rattle.certificate.specs.Ways.{way};
 ghost use Rattle.cert_check.specs.Sums.{weight_products, are_forms};
 ghost use Rattle.cert_check.specs.Parts.{shown_answer, bound_answer, node_answer};
 ghost use Rattle.cert_check.specs.Outcome.{outcome, outcome_of, node_trials};

@@ -1,7 +1,7 @@
 // What weights stand on at a node.
 ghost use Rattle.std.specs.Prelude.{◌≡◌, ◌≤◌, length};
 ghost use Rattle.verdicts.specs.Proves.{upper_under};
-ghost use Rattle.cert_check.specs.Setting.{way};
+ghost use Rattle.certificate.specs.Ways.{way};
 ghost use Rattle.cert_check.specs.Sums.{lower_answer};
 ghost use Rattle.cert_check.specs.Parts.{problem_alone};
 
@@ -22,7 +22,8 @@ pub(crate) struct Setting<'a> {
 
 impl<'a> Model for Setting<'a> {
     ghost use Rattle.std.specs.Prelude.{◌≤◌, length};
-    ghost use Rattle.cert_check.specs.Setting.{Setting as SettingOf, way};
+    ghost use Rattle.certificate.specs.Ways.{way};
+    ghost use Rattle.cert_check.specs.Setting.{Setting as SettingOf};
 
     ghost Value = { SettingOf };
 

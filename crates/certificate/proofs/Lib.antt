@@ -10,3 +10,4 @@ pub mod LinesFound
 pub mod CertificateFound
 pub mod FieldsAgain
 pub mod CertificateAgain
+pub mod Turns

@@ -1,5 +1,7 @@
 pub mod Written
 pub mod Values
+pub mod Ways
+pub mod Parents
 pub mod Text
 pub mod Fields
 pub mod Reading

@@ -8,6 +8,7 @@ mod fault;
 mod fields;
 mod lines;
 mod reading;
+mod split;
 #[cfg(test)]
 mod tests;
 mod tree;
@@ -19,7 +20,8 @@ pub use certificate::{Certificate, Verdict};
 pub use derived::{Derived, DerivedRows, FormSplit, Proof};
 pub use fault::{CertError, CertFault, FaultKind};
 pub use reading::read;
-pub use tree::{Split, Tree, TreeNode};
+pub use split::{Side, Split, Turn};
+pub use tree::{Tree, TreeNode};
 pub use weights::{Item, Items, Weights};
 pub use whole::WholeNumber;
 pub use writing::text;

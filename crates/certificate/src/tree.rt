@@ -1,59 +1,14 @@
 // Trees of splits of columns.
-ghost use Rattle.std.specs.Prelude.{◌≡◌, ◌<◌, [], ◌∷◌, ◌++◌, map, OnOk, OnErr, IfErr};
+ghost use Rattle.std.specs.Prelude.{◌≡◌, ◌≤◌, ◌+◌, [], ◌∷◌, ◌++◌, length, map, reverse, take, OnOk, OnErr, IfErr};
 ghost use Rattle.std.specs.List.{AllByRecursion};
-ghost use Rattle.certificate.specs.Written.{count_max, IsSplit, IsNode};
+ghost use Rattle.certificate.specs.Written.{IsNode};
 ghost use Rattle.certificate.specs.Values.{node_of};
+ghost use Rattle.certificate.specs.Ways.{IsLastTurn};
+ghost use Rattle.certificate.specs.Parents.{parent_to, parent_of, side_at, turn_under as turn_of};
 
-use crate::{Weights, WholeNumber};
+use crate::{Side, Split, Turn, Weights};
 use std::alloc::{AllocFailed, Global};
 use std::marker::Model;
-
-/// Two cases that cover every number of an integer column, named by its index from 0: at most `at` (the low side), at
-/// least `at + 1` (the high side).
-#[derive(Clone, Copy)]
-pub struct Split {
-    column: u32,
-    at: WholeNumber,
-}
-
-impl Model for Split {
-    ghost use Rattle.verdicts.specs.Certificate.{Split as SplitOf};
-    ghost use Rattle.certificate.specs.Written.{IsSplit};
-
-    ghost Value = { SplitOf };
-
-    ghost view = { λ s. record { column = s.column; at = s.at } };
-
-    ghost invariant = { λ s. IsSplit (record { column = s.column; at = s.at }) };
-
-    ghost inverse = { λ s. record { column = s.column; at = s.at } };
-}
-
-impl Split {
-    /// The split of a column.
-    pub fn new(column: u32, at: WholeNumber) -> Self
-        requires { column < count_max }
-        ensures { result ≡ record { column = column; at = at } }
-    {
-        let _at = at.get();
-        Split { column, at }
-    }
-
-    /// The column's index, from 0. The split has a text.
-    pub fn column(self) -> u32
-        ensures column { result ≡ self.column }
-        ensures written { IsSplit self }
-    {
-        self.column
-    }
-
-    /// Where the cases part.
-    pub fn at(self) -> WholeNumber
-        ensures { result ≡ self.at }
-    {
-        self.at
-    }
-}
 
 /// A node of a tree.
 #[derive(Drop)]
@@ -83,24 +38,42 @@ fn node_has_text(node: &TreeNode)
     }
 }
 
-/// The nodes of a tree in preorder.
+// A half of a split.
+#[derive(Clone, Copy)]
+enum Half {
+    Low,
+    High,
+}
+
+// The branch above a node, by its place in the preorder, and the half in which the node is.
+#[derive(Clone, Copy)]
+struct Parent {
+    place: usize,
+    half: Half,
+}
+
+/// The nodes of a tree in preorder. The tree keeps the place of the branch above each node, and above the place after the
+/// last one.
 #[derive(Drop)]
 pub struct Tree {
     nodes: Vec<TreeNode>,
+    parents: Vec<Option<Parent>>,
+    next: Option<Parent>,
 }
 
 impl Model for Tree {
-    ghost use Rattle.std.specs.Prelude.{List, map};
+    ghost use Rattle.std.specs.Prelude.{List, length, map, ◌≡◌};
     ghost use Rattle.std.specs.List.{AllByRecursion};
     ghost use Rattle.verdicts.specs.Certificate.{TreeNode as NodeOf};
     ghost use Rattle.certificate.specs.Written.{IsNode};
     ghost use Rattle.certificate.specs.Values.{node_of};
+    ghost use Rattle.certificate.specs.Parents.{parent_of, AreParents};
 
     ghost Value = { List NodeOf };
 
     ghost view = { λ t. map node_of t.nodes.items };
 
-    ghost invariant = { λ t. AllByRecursion IsNode (map node_of t.nodes.items) };
+    ghost invariant = { λ t. AllByRecursion IsNode (map node_of t.nodes.items) × AreParents (map node_of t.nodes.items) t.parents.items × (t.next ≡ parent_of (map node_of t.nodes.items) (length t.nodes.items)) };
 }
 
 impl Tree {
@@ -110,6 +83,8 @@ impl Tree {
     {
         Tree {
             nodes: Vec::new(alloc),
+            parents: Vec::new(alloc),
+            next: None,
         }
     }
 
@@ -120,7 +95,72 @@ impl Tree {
         ensures back { IfErr result (λ e. e.value ≡ node) }
     {
         node_has_text(&node);
-        self.nodes.push(node)
+        if self.parents.reserve(1).is_err() || self.nodes.reserve(1).is_err() {
+            return Err(AllocFailed { value: node });
+        }
+        let next = self.above_next(&node);
+        self.parents.push_reserved(self.next);
+        self.nodes.push_reserved(node);
+        self.next = next;
+        Ok(())
+    }
+
+    // The branch above the place after a node that comes next.
+    fn above_next(&self, node: &TreeNode) -> Option<Parent>
+        ensures { result ≡ parent_of (self.now ++ node_of node.now ∷ []) (length self.now + 1) }
+    {
+        let place = self.nodes.len();
+        match node {
+            TreeNode::Branch(_) => Some(Parent {
+                place,
+                half: Half::Low,
+            }),
+            _ => self.above_past(place),
+        }
+    }
+
+    // The branch above the place after the subtree that begins at a place: the first on the way up in whose low half the
+    // place is.
+    fn above_past(&self, place: usize) -> Option<Parent>
+        requires { place ≤ length self.now }
+        ensures { result ≡ parent_to (reverse (take place self.now)) 1 }
+    {
+        let mut at = place;
+        while let Some(parent) = self.above(at) {
+            match parent.half {
+                Half::Low => {
+                    return Some(Parent {
+                        place: parent.place,
+                        half: Half::High,
+                    });
+                }
+                Half::High => at = parent.place,
+            }
+        }
+        None
+    }
+
+    // The branch above the node at a place, or above the place after the last node; none at the root.
+    fn above(&self, place: usize) -> Option<Parent>
+        requires { place ≤ length self.now }
+        ensures { result ≡ parent_of self.now place }
+    {
+        if place < self.parents.len() {
+            self.parents[place]
+        } else {
+            self.next
+        }
+    }
+
+    /// The last turn on the way to the node at a place, or to the place after the last node; none at the root.
+    pub fn last_turn(&self, place: usize) -> Option<Turn>
+        requires { place ≤ length self.now }
+        ensures { IsLastTurn self.now place result }
+    {
+        match self.above(place) {
+            None => None,
+            Some(parent) => turn_under(&self.nodes[parent.place], parent),
+        }
     }
 
     /// The nodes, for reading. All of them have a text.
@@ -129,5 +169,28 @@ impl Tree {
         ensures written { AllByRecursion IsNode self.now }
     {
         &self.nodes
+    }
+}
+
+// The turn in a half of a branch.
+fn turn_under(node: &TreeNode, parent: Parent) -> Option<Turn>
+    ensures { result ≡ turn_of (node_of node.now) parent }
+{
+    match node {
+        TreeNode::Branch(split) => Some(Turn {
+            place: parent.place,
+            side: side(*split, parent.half),
+        }),
+        _ => None,
+    }
+}
+
+// The side of a split.
+fn side(split: Split, half: Half) -> Side
+    ensures { result ≡ side_at split half }
+{
+    match half {
+        Half::Low => Side::Low(split),
+        Half::High => Side::High(split),
     }
 }

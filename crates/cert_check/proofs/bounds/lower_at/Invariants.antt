@@ -1,5 +1,5 @@
 use Rattle.std.proofs.Common.{◌≡◌, ◌≤◌, length}
-use Rattle.cert_check.specs.Setting.{way}
+use Rattle.certificate.specs.Ways.{way}
 use Rattle.cert_check.specs.Sums.{lower_answer}
 use Rattle.cert_check.specs.Walk.{merged_answer}
 use Rattle.cert_check.proofs.bounds.lower_at.Given as goal

@@ -1,6 +1,6 @@
 use Rattle.std.proofs.Common.{subst, arith, Some, Option}
-use Rattle.cert_check.specs.Setting.{side_of, way, IsLastTurn}
-use Rattle.cert_check.specs.declared.way.Turn.{Turn}
+use Rattle.certificate.specs.Ways.{side_of, way, IsLastTurn}
+use Rattle.certificate.specs.declared.split.Turn.{Turn}
 use Rattle.cert_check.proofs.Walk.{upper_more}
 use Rattle.cert_check.proofs.bounds.upper_at.Goals as goal
 

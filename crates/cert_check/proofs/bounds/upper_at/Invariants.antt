@@ -1,6 +1,6 @@
 use Rattle.std.proofs.Common.{◌≡◌, ◌≤◌, length}
 use Rattle.verdicts.specs.Proves.{upper_under}
-use Rattle.cert_check.specs.Setting.{way}
+use Rattle.certificate.specs.Ways.{way}
 use Rattle.cert_check.specs.Walk.{merged_upper}
 use Rattle.cert_check.proofs.bounds.upper_at.Given as goal
 

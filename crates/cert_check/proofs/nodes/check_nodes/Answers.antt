@@ -2,9 +2,9 @@ use Rattle.std.proofs.Common.{◌≡◌, ◌≤◌, ◌<◌, ◌+◌, ◌-◌, �
 use Rattle.verdicts.specs.Certificate.{TreeNode, Branch, Empty, Bound}
 use Rattle.certificate.specs.Values.{node_of}
 use Rattle.certificate.specs.Written.{open_after}
-use Rattle.cert_check.specs.Setting.{way}
+use Rattle.certificate.specs.Ways.{way}
 use Rattle.cert_check.specs.Parts.{node_answer}
-use Rattle.cert_check.proofs.Scan.{stands_for, same_length, element_at}
+use Rattle.cert_check.proofs.Elements.{stands_for, same_length, element_at}
 use Rattle.cert_check.proofs.Places.{node_holds, node_fails, node_faults, tree_full, tree_short}
 use Rattle.cert_check.proofs.nodes.check_nodes.Goals as goal
 
