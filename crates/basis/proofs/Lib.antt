@@ -26,4 +26,5 @@ pub mod Leaves
 pub mod NumberFacts
 pub mod Ends
 pub mod Operations
+pub mod OneRun
 mod Examples

@@ -1,10 +1,10 @@
 // Steps and runs of Bland's rule.
-ghost use Rattle.std.specs.Prelude.{ℕ, List, length, pos, ◌≡◌, ◌≢◌, ◌<◌, ◌⊎◌};
+ghost use Rattle.std.specs.Prelude.{ℕ, List, length, pos, ◌≡◌, ◌≢◌, ◌<◌, ◌≤◌, ◌⊎◌};
 ghost use Rattle.rational.specs.Rational.{Rational, ◌+ℚ◌, ◌*ℚ◌};
 ghost use Rattle.milp.specs.Form.{value_at};
 ghost use Rattle.basis.specs.System.{System, size, Satisfies, IsSystem, AllInside, AreBoundsInOrder};
 ghost use Rattle.basis.specs.Dictionary.{IsBasic, IsResting, Dictionary, IsDictionary, rate_of, gain_of, RestsAt, IsBasicPoint};
-ghost use Rattle.basis.specs.Bland.{exchanged, IsOutside, MendStep, ImproveStep, IsDirection, IsStart, IsRun, start_dictionary, start_point};
+ghost use Rattle.basis.specs.Bland.{exchanged, IsOutside, MendStep, ImproveStep, IsDirection, IsStart, BlandStep, IsFinal, IsRun, start_dictionary, start_point};
 ghost use Rattle.basis.specs.declared.Place.{Place};
 ghost use Rattle.basis.specs.declared.Place.TheVariants.{Basic};
 
@@ -53,4 +53,18 @@ pub fn points_after_steps()
 pub fn where_none_is_outside()
     ensures { (s : System) (b : List Place) (x : ℕ → Rational) → AreBoundsInOrder s → length b ≡ size s →
         IsBasicPoint s b x → ((v : ℕ) → ¬ (IsOutside s b x v)) → AllInside s x }
+{}
+
+/// Bland's rule leads from a system to one run alone: there is at most one basis to start at, and at most one next basis
+/// from each, so two runs with the same number of steps are the same. No run has more steps than one from whose last
+/// basis no step leads, and there is at most one such run.
+pub fn runs_are_one()
+    ensures starts { (s : System) (b c : List Place) → IsStart s b → IsStart s c → b ≡ c }
+    ensures steps { (s : System) (b next other : List Place) → BlandStep s b next → BlandStep s b other → next ≡ other }
+    ensures runs { (s : System) (b c : List Place) (before others : List (List Place)) → IsRun s b before →
+        IsRun s c others → length before ≡ length others → (b ≡ c) × (before ≡ others) }
+    ensures longest { (s : System) (b c : List Place) (before others : List (List Place)) → IsRun s b before →
+        IsFinal s b → IsRun s c others → length others ≤ length before }
+    ensures ends { (s : System) (b c : List Place) (before others : List (List Place)) → IsRun s b before →
+        IsFinal s b → IsRun s c others → IsFinal s c → (b ≡ c) × (before ≡ others) }
 {}
