@@ -1,16 +1,19 @@
--- A worked step: one column between 0 and 3, of which the objective wants much, goes from its lower bound to its upper one.
-use Rattle.std.proofs.Common.{◌≡◌, ◌∙◌, ℕ, zero, suc, ◌<◌, List, [], ◌∷◌, refl, sym, ap, subst, arith, Some, IfSome, inl, inr}
+-- A worked step: one column between 0 and 3, of which the objective wants much, goes from its lower bound to its upper one, and its run ends there.
+use Rattle.std.proofs.Common.{◌≡◌, ◌≢◌, ◌∙◌, ℕ, zero, suc, ◌<◌, List, [], ◌∷◌, refl, sym, ap, subst, arith, Some, IfSome, inl, inr}
 use Rattle.std.specs.Prelude.{pos, negsuc, ◌*ℤ◌, ◌<ℤ◌}
 use Rattle.std.proofs.lemmas.Int.{ints}
-use Rattle.rational.specs.Rational.{Rational, zero_ℚ, one_ℚ, whole, ◌+ℚ◌, ◌*ℚ◌, ◌<ℚ◌, ◌≤ℚ◌}
+use Rattle.rational.specs.Rational.{Rational, zero_ℚ, one_ℚ, whole, neg_ℚ, ◌+ℚ◌, ◌*ℚ◌, ◌<ℚ◌, ◌≤ℚ◌}
 use Rattle.rational.proofs.Field as Q
 use Rattle.basis.specs.System.{System, lower_of, upper_of, IsSystem}
-use Rattle.basis.specs.Dictionary.{place_of, IsBasic}
-use Rattle.basis.specs.Bland.{IsStart, first_place, start_dictionary, start_point, Reaches, BlandStep, IsRun}
+use Rattle.basis.specs.Dictionary.{place_of, IsBasic, IsResting, Dictionary, IsDictionary, gain_of, IsBasicPoint}
+use Rattle.basis.specs.Bland.{IsStart, first_place, start_dictionary, start_point, Improves, Reaches, BlandStep, IsFinal, IsRun}
 use Rattle.basis.specs.declared.Place.{Place}
 use Rattle.basis.specs.declared.Place.TheVariants.{Basic, AtLower, AtUpper, AtZero}
 use Rattle.basis.proofs.Order.{neg_below}
 use Rattle.basis.proofs.Start.{start_is_dictionary, start_is_point}
+use Rattle.basis.proofs.Unique.{same_gains}
+use Rattle.basis.proofs.StepLemmas.{flip_keeps}
+use Rattle.basis.proofs.OneRun.{one_end}
 
 abbrev one_column : System
 one_column = record {
@@ -115,3 +118,44 @@ leads_on = record {
 
 runs_on : IsRun one_column (AtUpper ∷ []) (first ∷ [])
 runs_on = (leads_on, is_start)
+
+-- ---- the end of the run
+
+none_basic_there : (v : ℕ) → ¬ (IsBasic (AtUpper ∷ []) v)
+none_basic_there zero e = cc
+none_basic_there (suc v) e = cc
+
+dictionary_there : IsDictionary one_column (AtUpper ∷ []) (start_dictionary one_column)
+dictionary_there = flip_keeps first 0 AtUpper resting stops one_column (start_dictionary one_column) (start_is_dictionary one_column first is_system is_start)
+  where
+    resting : IsResting first 0
+    resting = record { known = omega arith; not_basic = λ e. none_basic 0 e }
+
+    stops : AtUpper ≢ Basic
+    stops e = cc
+
+none_improves_there : (d : Dictionary) (x : ℕ → Rational) (q : ℕ) → IsDictionary one_column (AtUpper ∷ []) d → IsBasicPoint one_column (AtUpper ∷ []) x → ¬ (Improves one_column (AtUpper ∷ []) x d q)
+none_improves_there d x (suc q) h k m = let known = m.resting.known in absurd (omega arith)
+none_improves_there d x zero h k m = elim m.can_improve [
+  | inl rises ↦ Q.lt-not-le (x 0) (whole (pos 3)) rises.1 (subst (λ t. whole (pos 3) ≤ℚ t) at_three (Q.le_refl (whole (pos 3))))
+  | inr falls ↦ Q.lt-not-le (neg_ℚ (gain_of d 0)) zero_ℚ falls.0 (Q.le_of_lt _ _ (neg_below (gain_of d 0) (subst (λ t. t <ℚ zero_ℚ) gain_there minus_below)))
+]
+  where
+    at_three : whole (pos 3) ≡ x 0
+    at_three = some_number (k.rests 0 (omega arith))
+      where
+        some_number : Some (whole (pos 3)) ≡ Some (x 0) → whole (pos 3) ≡ x 0
+        some_number e = cc
+
+    gain_there : whole (negsuc 0) ≡ gain_of d 0
+    gain_there = sym gain ∙ same_gains one_column (AtUpper ∷ []) (start_dictionary one_column) d dictionary_there h 0
+
+ends_there : IsFinal one_column (AtUpper ∷ [])
+ends_there c h = elim h.chosen [
+  | inl m ↦ none_basic_there h.leaves m.first_outside.holds.basic
+  | inr m ↦ none_improves_there h.dictionary h.point h.enters h.is_dictionary h.is_point m.first_improving.holds
+]
+
+-- so each run of this system that comes to an end is this one
+one_run_alone : (b : List Place) (before : List (List Place)) → IsRun one_column b before → IsFinal one_column b → (b ≡ AtUpper ∷ []) × (before ≡ first ∷ [])
+one_run_alone b before h final = one_end one_column b (AtUpper ∷ []) before (first ∷ []) h final runs_on ends_there
