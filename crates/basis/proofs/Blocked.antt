@@ -175,8 +175,8 @@ module _ (p : Problem) (ds : List Derived) (sides : List Side) (b : List Place) 
 pub blocked_shows : (p : Problem) (ds : List Derived) (sides : List Side) (b : List Place) (d : Dictionary) (x : ℕ → Rational) (r : ℕ) (place : Place) → IsOverColumns p ds sides → IsBlocked (system_of p ds sides) b d x r place
     → ShowsInfeasible p ds sides (weights_of p ds (blocking_weights d r place))
 blocked_shows p ds sides b d x r Basic over h = absurd h.passed
-blocked_shows p ds sides b d x r AtLower over h = low_shows p ds sides b d x r over h.in_order h.is_dictionary h.is_point h.basic h.passed.0 h.passed.1 h.passed.2 h.none_mends
-blocked_shows p ds sides b d x r AtUpper over h = high_shows p ds sides b d x r over h.in_order h.is_dictionary h.is_point h.basic h.passed.0 h.passed.1 h.passed.2 h.none_mends
+blocked_shows p ds sides b d x r AtLower over h = low_shows p ds sides b d x r over h.in_order h.is_dictionary h.is_point h.first_outside.holds.basic h.passed.0 h.passed.1 h.passed.2 h.none_mends
+blocked_shows p ds sides b d x r AtUpper over h = high_shows p ds sides b d x r over h.in_order h.is_dictionary h.is_point h.first_outside.holds.basic h.passed.0 h.passed.1 h.passed.2 h.none_mends
 blocked_shows p ds sides b d x r AtZero over h = absurd h.passed
 
 -- ---- contradictory bounds

@@ -116,7 +116,7 @@ infeasible_weights_base p ds sides w (contradiction u h e) =
     subst P (sym e) (weights_base p ds sides (contradiction_weights u) (contradiction_base p ds sides u))
 infeasible_weights_base p ds sides w (blocked b d x r place h e) =
     let P : Weights → Type 0 = AreNodeWeights p ds sides in
-    subst P (sym e) (weights_base p ds sides (blocking_weights d r place) (blocking_base p ds sides b h.before d r place h.is_run h.is_dictionary h.basic))
+    subst P (sym e) (weights_base p ds sides (blocking_weights d r place) (blocking_base p ds sides b h.before d r place h.is_run h.is_dictionary h.first_outside.holds.basic))
 
 -- ---- rays
 
@@ -145,7 +145,7 @@ unbounded_ray_base p ds sides x ray h =
         dictionary = h.dictionary;
         is_dictionary = u.is_dictionary;
         mover = h.mover;
-        resting = u.improves.resting;
+        resting = u.first_improving.holds.resting;
         heading = u.heading;
         up_or_down = up_or_down h.dictionary h.mover u.heading u.is_heading;
         is_direction = u.is_direction;

@@ -8,8 +8,8 @@ use Rattle.verdicts.specs.Certificate.{Side, Weights, Derived, Verdict, Unbounde
 use Rattle.verdicts.specs.WeightedSums.{scaled, Weighted, combined, combined_bound}
 use Rattle.verdicts.specs.Proves.{same_form, terms}
 use Rattle.basis.specs.System.{System, AreBoundsInOrder, AllInside}
-use Rattle.basis.specs.Dictionary.{IsBasic, Dictionary, IsDictionary, IsBasicPoint}
-use Rattle.basis.specs.Bland.{HasPassed, Mends, Improves, IsHeading, IsDirection, ReachesNone, IsRun, IsOptimalBasis}
+use Rattle.basis.specs.Dictionary.{Dictionary, IsDictionary, IsBasicPoint}
+use Rattle.basis.specs.Bland.{IsLeast, HasPassed, IsOutside, Mends, Improves, IsHeading, IsDirection, ReachesNone, IsRun, IsOptimalBasis}
 use Rattle.basis.specs.Node.{system_of, integer_at}
 use Rattle.basis.specs.Weights.{weights_of, optimal_weights, row_weights, minus_row_weights, contradiction_weights, IsContradictory, numbers_from, made_whole}
 use Rattle.basis.specs.declared.Place.{Place}
@@ -22,14 +22,14 @@ pub record IsOptimalRelaxation (p : Problem) (ds : List Derived) (sides : List S
   pub point : x ≡ numbers_from 0 (length p.columns) values
   pub weights : w ≡ weights_of p ds (optimal_weights d)
 
--- a basis of a run at which the basic variable r is past the bound of this place, and no resting variable mends it
+-- a basis of a run at which r, the least variable outside its bounds, is past the bound of this place, and no resting variable mends it
 pub record IsBlocked (s : System) (b : List Place) (d : Dictionary) (x : ℕ → Rational) (r : ℕ) (place : Place) : Type 0 where
   pub before : List (List Place)
   pub is_run : IsRun s b before
   pub in_order : AreBoundsInOrder s
   pub is_dictionary : IsDictionary s b d
   pub is_point : IsBasicPoint s b x
-  pub basic : IsBasic b r
+  pub first_outside : IsLeast (IsOutside s b x) r
   pub passed : HasPassed s x r place
   pub none_mends : (q : ℕ) → ¬ (Mends s b x d r place q)
 
@@ -46,14 +46,14 @@ pub data IsInfeasibleRelaxation (p : Problem) (ds : List Derived) (sides : List 
   blocked : (b : List Place) (d : Dictionary) (x : ℕ → Rational) (r : ℕ) (place : Place) → IsBlocked (system_of p ds sides) b d x r place
       → w ≡ weights_of p ds (blocking_weights d r place) → IsInfeasibleRelaxation p ds sides w
 
--- a basis of a run at whose point all variables are inside their bounds, and from which the variable q that improves moves without end
+-- a basis of a run at whose point all variables are inside their bounds, and from which q, the least variable that improves, moves without end
 pub record IsUnboundedBasis (s : System) (b : List Place) (d : Dictionary) (x : ℕ → Rational) (q : ℕ) (direction : ℕ → Rational) : Type 0 where
   pub before : List (List Place)
   pub is_run : IsRun s b before
   pub is_dictionary : IsDictionary s b d
   pub is_point : IsBasicPoint s b x
   pub inside : AllInside s x
-  pub improves : Improves s b x d q
+  pub first_improving : IsLeast (Improves s b x d) q
   pub heading : Rational
   pub is_heading : IsHeading d q heading
   pub is_direction : IsDirection b d q heading direction

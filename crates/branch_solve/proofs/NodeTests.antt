@@ -36,8 +36,8 @@ infeasible_is_weights p ds sides w (blocked b d x r place h e) = go place h.pass
   where
     go : (place : Place) → HasPassed (system_of p ds sides) x r place → w ≡ weights_of p ds (blocking_weights d r place) → IsNodeWeights p ds sides w
     go Basic k e = absurd k
-    go AtLower k e = IsNodeWeights.of_row b h.before d r h.is_run h.is_dictionary h.basic (inl e)
-    go AtUpper k e = IsNodeWeights.of_row b h.before d r h.is_run h.is_dictionary h.basic (inr e)
+    go AtLower k e = IsNodeWeights.of_row b h.before d r h.is_run h.is_dictionary h.first_outside.holds.basic (inl e)
+    go AtUpper k e = IsNodeWeights.of_row b h.before d r h.is_run h.is_dictionary h.first_outside.holds.basic (inr e)
     go AtZero k e = absurd k
 
 optimal_of_run : (p : Problem) (ds : List Derived) (sides : List Side) (x : List Rational) (w : Weights) (b : List Place) (d : Dictionary) → IsOptimalRelaxation p ds sides x w b d → IsOfRun p ds sides x
@@ -73,7 +73,7 @@ ray_of_run p ds sides x ray h = record {
       dictionary = h.dictionary;
       is_dictionary = h.is_unbounded.is_dictionary;
       mover = h.mover;
-      resting = h.is_unbounded.improves.resting;
+      resting = h.is_unbounded.first_improving.holds.resting;
       heading = h.is_unbounded.heading;
       up_or_down = up_or_down h.dictionary h.mover h.is_unbounded.heading h.is_unbounded.is_heading;
       is_direction = h.is_unbounded.is_direction;

@@ -148,7 +148,7 @@ module _ (s : System) (t : Table) (xs : List Rational) (bases : List (List Place
       is_dictionary = at.is_state.is_dictionary;
       is_point = at.is_state.is_point;
       inside = none_outside_inside s t.places (number_at xs) at.in_order at.is_state.is_dictionary.size at.is_state.is_point inside;
-      improves = first.holds;
+      first_improving = first;
       heading = turned rises one_ℚ;
       is_heading = heads q rises gain is_gain test first.holds;
       is_direction = turned_direction t q rises first.holds.resting;

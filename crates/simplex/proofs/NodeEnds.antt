@@ -107,7 +107,7 @@ module _ (p : Problem) (ds : List Derived) (sides : List Side) where
       dictionary = dictionary_of t;
       is_dictionary = h.is_end.is_dictionary;
       mover = q;
-      resting = h.is_end.improves.resting;
+      resting = h.is_end.first_improving.holds.resting;
       heading = h.is_end.heading;
       up_or_down = up_or_down h.is_end.is_heading;
       is_direction = h.is_end.is_direction;
