@@ -27,4 +27,5 @@ pub mod NumberFacts
 pub mod Ends
 pub mod Operations
 pub mod OneRun
+pub mod LastBases
 mod Examples

@@ -6,7 +6,7 @@ use Rattle.std.proofs.lemmas.List.{ext_get_or}
 use Rattle.rational.specs.Rational.{Rational, zero_ℚ, neg_ℚ, ◌+ℚ◌, ◌*ℚ◌, ◌<ℚ◌, ◌≤ℚ◌}
 use Rattle.rational.proofs.Field as Q
 use Rattle.basis.specs.System.{System, size, lower_of, upper_of, AreBoundsInOrder}
-use Rattle.basis.specs.Dictionary.{place_of, IsBasic, IsResting, Dictionary, rate_of, gain_of}
+use Rattle.basis.specs.Dictionary.{place_of, IsBasic, IsResting, Dictionary, IsDictionary, rate_of, gain_of, IsBasicPoint}
 use Rattle.basis.specs.Bland.{exchanged, IsLeast, HasPassed, IsOutside, CanRaise, CanMend, Mends, MendStep, Improves, IsHeading, IsDirection, Reaches, IsFirst, ImproveStep, BlandStep, IsFinal, IsStart, IsRun}
 use Rattle.basis.specs.declared.Place.{Place}
 use Rattle.basis.specs.declared.Place.TheVariants.{Basic, AtLower, AtUpper, AtZero}
@@ -14,7 +14,7 @@ use Rattle.basis.proofs.Places.{basic_known, is_basic_or}
 use Rattle.basis.proofs.Unique.{same_rates, same_gains, same_point}
 
 -- where P and Q hold of the same numbers, they hold of the same least one
-same_least : (P Q : ℕ → Type 0) (m n : ℕ) → ((k : ℕ) → P k → Q k) → ((k : ℕ) → Q k → P k) → IsLeast P m → IsLeast Q n → m ≡ n
+pub same_least : (P Q : ℕ → Type 0) (m n : ℕ) → ((k : ℕ) → P k → Q k) → ((k : ℕ) → Q k → P k) → IsLeast P m → IsLeast Q n → m ≡ n
 same_least P Q m n there back h k = elim (dec_lt m n) [
   | yes low ↦ absurd (k.none_before m low (there m h.holds))
   | no high ↦ elim (dec_lt n m) [
@@ -26,13 +26,13 @@ same_least P Q m n there back h k = elim (dec_lt m n) [
 -- ---- two dictionaries and two points of one basis
 
 -- they have the same numbers
-record HaveSameNumbers (s : System) (b : List Place) (d e : Dictionary) (x y : ℕ → Rational) : Type 0 where
-  places : length b ≡ size s
-  rates : (v j : ℕ) → IsBasic b v → rate_of d j v ≡ rate_of e j v
-  gains : (j : ℕ) → gain_of d j ≡ gain_of e j
-  values : (v : ℕ) → v < size s → x v ≡ y v
+pub record HaveSameNumbers (s : System) (b : List Place) (d e : Dictionary) (x y : ℕ → Rational) : Type 0 where
+  pub places : length b ≡ size s
+  pub rates : (v j : ℕ) → IsBasic b v → rate_of d j v ≡ rate_of e j v
+  pub gains : (j : ℕ) → gain_of d j ≡ gain_of e j
+  pub values : (v : ℕ) → v < size s → x v ≡ y v
 
-turned : (s : System) (b : List Place) (d e : Dictionary) (x y : ℕ → Rational) → HaveSameNumbers s b d e x y → HaveSameNumbers s b e d y x
+pub turned : (s : System) (b : List Place) (d e : Dictionary) (x y : ℕ → Rational) → HaveSameNumbers s b d e x y → HaveSameNumbers s b e d y x
 turned s b d e x y h = record {
   places = h.places;
   rates = λ v j k. sym (h.rates v j k);
@@ -40,9 +40,17 @@ turned s b d e x y h = record {
   values = λ v k. sym (h.values v k);
 }
 
+pub same_numbers : (s : System) (b : List Place) (d e : Dictionary) (x y : ℕ → Rational) → IsDictionary s b d → IsDictionary s b e → IsBasicPoint s b x → IsBasicPoint s b y → HaveSameNumbers s b d e x y
+same_numbers s b d e x y h k m n = record {
+  places = h.size;
+  rates = same_rates s b d e h k;
+  gains = same_gains s b d e h k;
+  values = same_point s b d x y h m n;
+}
+
 -- ---- what holds of a variable, at another function with the same value there
 
-same_passed : (s : System) (x y : ℕ → Rational) (v : ℕ) (p : Place) → x v ≡ y v → HasPassed s x v p → HasPassed s y v p
+pub same_passed : (s : System) (x y : ℕ → Rational) (v : ℕ) (p : Place) → x v ≡ y v → HasPassed s x v p → HasPassed s y v p
 same_passed s x y v Basic e h = h
 same_passed s x y v AtLower e h = (h.0, h.1, subst (λ t. t <ℚ h.0) e h.2)
 same_passed s x y v AtUpper e h = (h.0, h.1, subst (λ t. h.0 <ℚ t) e h.2)
@@ -62,7 +70,7 @@ same_mend s x y AtLower q a c e f h = same_raise s x y q a c e f h
 same_mend s x y AtUpper q a c e f h = same_raise s x y q (neg_ℚ a) (neg_ℚ c) e (ap neg_ℚ f) h
 same_mend s x y AtZero q a c e f h = h
 
-same_reach : (s : System) (x y r w : ℕ → Rational) (t : Rational) (v : ℕ) (p : Place) → x v ≡ y v → r v ≡ w v → Reaches s x r t v p → Reaches s y w t v p
+pub same_reach : (s : System) (x y r w : ℕ → Rational) (t : Rational) (v : ℕ) (p : Place) → x v ≡ y v → r v ≡ w v → Reaches s x r t v p → Reaches s y w t v p
 same_reach s x y r w t v Basic e f h = h
 same_reach s x y r w t v AtLower e f h = (subst (λ u. u <ℚ zero_ℚ) f h.0, h.1 ∙ ap Some (ap₂ (λ a c. a +ℚ t *ℚ c) e f))
 same_reach s x y r w t v AtUpper e f h = (subst (λ u. zero_ℚ <ℚ u) f h.0, h.1 ∙ ap Some (ap₂ (λ a c. a +ℚ t *ℚ c) e f))
@@ -74,7 +82,7 @@ same_reach s x y r w t v AtZero e f h = h
 not_both : (s : System) (v : ℕ) (a l u : Rational) → AreBoundsInOrder s → lower_of s v ≡ Some l → upper_of s v ≡ Some u → a <ℚ l → u <ℚ a → ⊥
 not_both s v a l u order is_lower is_upper low high = Q.lt-not-le u l (Q.lt_trans u a l high low) (rw (is_lower, is_upper) at (order v))
 
-passed_once : (s : System) (x : ℕ → Rational) (v : ℕ) (p o : Place) → AreBoundsInOrder s → HasPassed s x v p → HasPassed s x v o → p ≡ o
+pub passed_once : (s : System) (x : ℕ → Rational) (v : ℕ) (p o : Place) → AreBoundsInOrder s → HasPassed s x v p → HasPassed s x v o → p ≡ o
 passed_once s x v Basic o order h k = absurd h
 passed_once s x v AtZero o order h k = absurd h
 passed_once s x v AtLower Basic order h k = absurd k
@@ -104,13 +112,13 @@ reached_once s x r t v AtUpper AtZero h k = absurd k
 -- ---- one choice in each phase
 
 module _ (s : System) (b : List Place) (d e : Dictionary) (x y : ℕ → Rational) (same : HaveSameNumbers s b d e x y) where
-  basic_value : (v : ℕ) → IsBasic b v → x v ≡ y v
+  pub basic_value : (v : ℕ) → IsBasic b v → x v ≡ y v
   basic_value v h = same.values v (rw (← same.places) (basic_known b v h))
 
   resting_value : (q : ℕ) → IsResting b q → x q ≡ y q
   resting_value q h = same.values q (rw (← same.places) h.known)
 
-  same_outside : (v : ℕ) → IsOutside s b x v → IsOutside s b y v
+  pub same_outside : (v : ℕ) → IsOutside s b x v → IsOutside s b y v
   same_outside v h = record {
     basic = h.basic;
     outside = elim h.outside [
@@ -119,25 +127,25 @@ module _ (s : System) (b : List Place) (d e : Dictionary) (x y : ℕ → Rationa
     ];
   }
 
-  same_mends : (v : ℕ) (p : Place) → IsBasic b v → (q : ℕ) → Mends s b x d v p q → Mends s b y e v p q
+  pub same_mends : (v : ℕ) (p : Place) → IsBasic b v → (q : ℕ) → Mends s b x d v p q → Mends s b y e v p q
   same_mends v p basic q h = record {
     resting = h.resting;
     can_mend = same_mend s x y p q (rate_of d q v) (rate_of e q v) (resting_value q h.resting) (same.rates v q basic) h.can_mend;
   }
 
-  same_improves : (q : ℕ) → Improves s b x d q → Improves s b y e q
+  pub same_improves : (q : ℕ) → Improves s b x d q → Improves s b y e q
   same_improves q h = record {
     resting = h.resting;
     can_improve = same_raise s x y q (neg_ℚ (gain_of d q)) (neg_ℚ (gain_of e q)) (resting_value q h.resting) (ap neg_ℚ (same.gains q)) h.can_improve;
   }
 
-  same_heading : (q : ℕ) (f g : Rational) → IsHeading d q f → IsHeading e q g → f ≡ g
+  pub same_heading : (q : ℕ) (f g : Rational) → IsHeading d q f → IsHeading e q g → f ≡ g
   same_heading q f g (inl h) (inl k) = h.1 ∙ sym k.1
   same_heading q f g (inl h) (inr k) = absurd (not_both_signs (gain_of e q) (subst (λ t. t <ℚ zero_ℚ) (same.gains q) h.0) k.0)
   same_heading q f g (inr h) (inl k) = absurd (not_both_signs (gain_of e q) k.0 (subst (λ t. zero_ℚ <ℚ t) (same.gains q) h.0))
   same_heading q f g (inr h) (inr k) = h.1 ∙ sym k.1
 
-  same_direction : (q : ℕ) (f g : Rational) (r w : ℕ → Rational) → f ≡ g → IsDirection b d q f r → IsDirection b e q g w → (v : ℕ) → v < size s → r v ≡ w v
+  pub same_direction : (q : ℕ) (f g : Rational) (r w : ℕ → Rational) → f ≡ g → IsDirection b d q f r → IsDirection b e q g w → (v : ℕ) → v < size s → r v ≡ w v
   same_direction q f g r w heads h k v known = elim (is_basic_or b v (rw same.places known)) [
     | inl basic ↦ h.basics v basic ∙ ap₂ ◌*ℚ◌ heads (same.rates v q basic) ∙ sym (k.basics v basic)
     | inr rests ↦ elim (ℕ_discrete v q) [
@@ -236,12 +244,7 @@ one_choice s b d e x y q j v w p o same order (inr h) (inr k) = one_improve s b 
 
 pub one_step : (s : System) (b next other : List Place) → BlandStep s b next → BlandStep s b other → next ≡ other
 one_step s b next other h k =
-    let same : HaveSameNumbers s b h.dictionary k.dictionary h.point k.point = record {
-      places = h.is_dictionary.size;
-      rates = same_rates s b h.dictionary k.dictionary h.is_dictionary k.is_dictionary;
-      gains = same_gains s b h.dictionary k.dictionary h.is_dictionary k.is_dictionary;
-      values = same_point s b h.dictionary h.point k.point h.is_dictionary h.is_point k.is_point;
-    } in
+    let same : HaveSameNumbers s b h.dictionary k.dictionary h.point k.point = same_numbers s b h.dictionary k.dictionary h.point k.point h.is_dictionary k.is_dictionary h.is_point k.is_point in
     h.exchange
     ∙ one_choice s b h.dictionary k.dictionary h.point k.point h.enters k.enters h.leaves k.leaves h.place k.place same h.in_order h.chosen k.chosen
     ∙ sym k.exchange

@@ -18,8 +18,8 @@ pub use numbers::{
     numbers_of_runs, operations_of_lengths, operations_of_moves, operations_of_pivots,
 };
 pub use runs::{
-    directions, points_after_steps, runs_are_one, runs_have_dictionaries, starts, steps,
-    where_none_is_outside,
+    directions, ends_are_final, points_after_steps, runs_are_one, runs_have_dictionaries, starts,
+    steps, where_none_is_outside,
 };
 
 /// Whether a variable is basic, or else where it rests: at its lower or upper bound, or at 0 where it has neither.

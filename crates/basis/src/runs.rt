@@ -4,7 +4,8 @@ ghost use Rattle.rational.specs.Rational.{Rational, ◌+ℚ◌, ◌*ℚ◌};
 ghost use Rattle.milp.specs.Form.{value_at};
 ghost use Rattle.basis.specs.System.{System, size, Satisfies, IsSystem, AllInside, AreBoundsInOrder};
 ghost use Rattle.basis.specs.Dictionary.{IsBasic, IsResting, Dictionary, IsDictionary, rate_of, gain_of, RestsAt, IsBasicPoint};
-ghost use Rattle.basis.specs.Bland.{exchanged, IsOutside, MendStep, ImproveStep, IsDirection, IsStart, BlandStep, IsFinal, IsRun, start_dictionary, start_point};
+ghost use Rattle.basis.specs.Bland.{exchanged, IsOutside, MendStep, ImproveStep, IsDirection, IsStart, BlandStep, IsFinal, IsRun, IsOptimalBasis, start_dictionary, start_point};
+ghost use Rattle.basis.specs.Relaxation.{IsBlocked, IsUnboundedBasis};
 ghost use Rattle.basis.specs.declared.Place.{Place};
 ghost use Rattle.basis.specs.declared.Place.TheVariants.{Basic};
 
@@ -67,4 +68,14 @@ pub fn runs_are_one()
         IsFinal s b → IsRun s c others → length others ≤ length before }
     ensures ends { (s : System) (b c : List Place) (before others : List (List Place)) → IsRun s b before →
         IsFinal s b → IsRun s c others → IsFinal s c → (b ≡ c) × (before ≡ others) }
+{}
+
+/// From a basis at which the simplex method ends no step of Bland's rule leads on: neither from an optimal basis, nor
+/// from one at which a row is blocked, nor from one from which a variable moves without end.
+pub fn ends_are_final()
+    ensures optimal { (s : System) (b : List Place) (d : Dictionary) (x : ℕ → Rational) → IsOptimalBasis s b d x → IsFinal s b }
+    ensures blocked { (s : System) (b : List Place) (d : Dictionary) (x : ℕ → Rational) (r : ℕ) (place : Place) →
+        IsBlocked s b d x r place → IsFinal s b }
+    ensures unbounded { (s : System) (b : List Place) (d : Dictionary) (x : ℕ → Rational) (q : ℕ) (direction : ℕ → Rational) →
+        IsUnboundedBasis s b d x q direction → IsFinal s b }
 {}
