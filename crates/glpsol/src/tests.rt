@@ -144,7 +144,7 @@ const TWO_ROWS: &str =
     "ROWS\n N obj\n L r.1\n L r.2\nCOLUMNS\n x obj 3 r.1 1\n x r.2 1\n y obj 2 r.1 1\n y r.2 3\nRHS\n R r.1 4 r.2 6\nBOUNDS\n UP b x 3\nENDATA\n";
 
 // CPLEX LP texts: the word beside `--lp f`, the text and what is printed.
-const CPLEX_LP: [(&str, &str, &str); 6] = [
+const CPLEX_LP: [(&str, &str, &str); 8] = [
     (
         "--exact",
         "max\n 3 x + 2 y\nst\n x + y <= 4\n x + 3 y <= 6\nbounds\n x <= 3\nend\n",
@@ -174,6 +174,16 @@ const CPLEX_LP: [(&str, &str, &str); 6] = [
         "--exact",
         "min\n z\nst\n 100000000000000000000 x - y = 0\n 100000000000000000000 y - z = 0\n x = 1\nend\n",
         "overflow: 100000000000000000000 * 100000000000000000000\n",
+    ),
+    (
+        "--exact",
+        "min\n x + 1\nst\n c: x + x >= 3\nbounds\n x free\nend\n",
+        "OPTIMAL\nobjective obj 5/2\ncolumn x 3/2\nrow c 3\n",
+    ),
+    (
+        "--exact",
+        "min\n x\nst\n a: x >= 1\n a: x >= 2\nend\n",
+        "file fault: line 5: Twice\n",
     ),
 ];
 
@@ -377,10 +387,14 @@ fn the_certificate_is_written(rt: HostRuntime) -> Result<(), Fail> {
 #[test]
 fn words_that_are_no_command(rt: HostRuntime) -> Result<(), Fail> {
     let alloc = rt.alloc();
-    for words in [["--freemps", "--min"], ["--math", "row1.mod"]] {
+    for words in [
+        ["--freemps", "--min"].as_slice(),
+        ["--math", "row1.mod"].as_slice(),
+        ["--lp", "f", "--workers", "0"].as_slice(),
+    ] {
         let mut files = MemStore::new(alloc, Vec::new(alloc), 4096);
         let mut out = MemSink::new(alloc, Vec::new(alloc), 4096);
-        let answer = run(&rt, alloc, words_of(alloc, &words)?, &mut files, &mut out);
+        let answer = run(&rt, alloc, words_of(alloc, words)?, &mut files, &mut out);
         assert_eq!(rt;
             out.bytes(),
             b"usage: glpsol (--freemps|--lp) FILE [options]\n".as_slice()
@@ -393,12 +407,17 @@ fn words_that_are_no_command(rt: HostRuntime) -> Result<(), Fail> {
 #[test]
 fn a_file_that_is_missing(rt: HostRuntime) -> Result<(), Fail> {
     let alloc = rt.alloc();
-    let mut files = MemStore::new(alloc, Vec::new(alloc), 4096);
-    let mut out = MemSink::new(alloc, Vec::new(alloc), 4096);
-    let words = words_of(alloc, &["--freemps", "no.mps"])?;
-    let answer = run(&rt, alloc, words, &mut files, &mut out);
-    assert_eq!(rt; out.bytes(), b"missing: no.mps\n".as_slice());
-    assert_eq!(rt; answer.code(), 1);
+    for (language, name, want) in [
+        ("--freemps", "no.mps", "missing: no.mps\n"),
+        ("--lp", "no.lp", "missing: no.lp\n"),
+    ] {
+        let mut files = MemStore::new(alloc, Vec::new(alloc), 4096);
+        let mut out = MemSink::new(alloc, Vec::new(alloc), 4096);
+        let words = words_of(alloc, &[language, name])?;
+        let answer = run(&rt, alloc, words, &mut files, &mut out);
+        assert_eq!(rt; out.bytes(), want.as_bytes());
+        assert_eq!(rt; answer.code(), 1);
+    }
     Ok(())
 }
 
