@@ -1,12 +1,13 @@
 // The bounds of columns under the splits on the way to a node.
-ghost use Rattle.std.specs.Prelude.{◌≡◌, ◌≤◌, [], length};
+ghost use Rattle.std.specs.Prelude.{◌≡◌, ◌≤◌, ◌+ℤ◌, pos, [], length, unsigned_abs, IfSome};
+ghost use Rattle.fraction.specs.Fits.{part_max};
 ghost use Rattle.verdicts.specs.Proves.{lower_under, upper_under, greater as greater_of, lesser as lesser_of};
 ghost use Rattle.certificate.specs.Ways.{side_of, way};
 ghost use Rattle.cert_check.specs.Sums.{next_answer, lower_answer};
 ghost use Rattle.cert_check.specs.Walk.{found_lower, found_upper, merged_lower, merged_upper};
 
 use certificate::{Side, Tree, WholeNumber};
-use fraction::{Frac, NoFit};
+use fraction::{Frac, NoFit, whole_numbers};
 use instance::Instance;
 
 // The lower bound of a column at a place: the greatest of its own and of the sums P + 1 on the way, or the first of these
@@ -76,7 +77,25 @@ fn with_upper(found: Option<Frac>, side: Side, column: u32) -> Option<Frac>
 pub(crate) fn next(at: WholeNumber) -> Result<Frac, NoFit>
     ensures { result ≡ next_answer at }
 {
-    at.to_frac().add(Frac::whole(1))
+    match one_more(at) {
+        Some(next) => {
+            whole_numbers();
+            Ok(next.to_frac())
+        }
+        None => at.to_frac().add(Frac::whole(1)),
+    }
+}
+
+// The next whole number, where it is within plus or minus 2^127 - 1.
+fn one_more(at: WholeNumber) -> Option<WholeNumber>
+    ensures { IfSome result (λ next. (next ≡ at +ℤ pos 1) × (unsigned_abs at ≤ part_max) × (unsigned_abs next ≤ part_max)) }
+{
+    let n = at.get();
+    if n < i128::MAX {
+        Some(WholeNumber::new(n + 1))
+    } else {
+        None
+    }
 }
 
 fn greater(bound: Option<Frac>, b: Frac) -> Frac
