@@ -1,9 +1,9 @@
 // Worked certificates that are accepted, and their twins that are refused at a part.
-ghost use Rattle.std.specs.Prelude.{◌≡◌, ◌+◌, IsTrue, false, IfSome, length};
+ghost use Rattle.std.specs.Prelude.{◌≡◌, ◌≤◌, ◌+◌, IsTrue, false, IfSome, length};
 ghost use Rattle.instance.specs.WellFormed.{is_zero, are_entries};
 
 use super::*;
-use certificate::{CertError, read};
+use certificate::{CertError, Items, Side, Split, Tree, TreeNode, Weights, WholeNumber, read};
 use fraction::Frac;
 use instance::{Builder, Column, Entries, Entry, Instance, Name, Row};
 use milp::Direction;
@@ -416,4 +416,55 @@ fn rays(rt: HostRuntime) {
             "{text}"
         );
     }
+}
+
+fn branch() -> TreeNode {
+    TreeNode::Branch(Split::new(0, WholeNumber::new(0)))
+}
+
+fn leaf(alloc: Global) -> TreeNode {
+    TreeNode::Empty(Weights::new(Items::new(alloc), Items::new(alloc), Items::new(alloc)))
+}
+
+// A branch over a leaf and a second branch of two leaves.
+fn two_branches(alloc: Global) -> Option<Tree>
+    ensures { IfSome result (λ tree. length tree ≡ 5) }
+{
+    let mut tree = Tree::new(alloc);
+    tree.push(branch()).ok()?;
+    tree.push(leaf(alloc)).ok()?;
+    tree.push(branch()).ok()?;
+    tree.push(leaf(alloc)).ok()?;
+    tree.push(leaf(alloc)).ok()?;
+    Some(tree)
+}
+
+fn is_high(side: Side) -> bool {
+    match side {
+        Side::Low(_) => false,
+        Side::High(_) => true,
+    }
+}
+
+// The place of the branch above a place, and whether it is on the high side.
+fn turn(tree: &Tree, place: usize) -> Option<(usize, bool)>
+    requires { place ≤ length tree.now }
+{
+    match tree.last_turn(place) {
+        Some(turn) => Some((turn.place, is_high(turn.side))),
+        None => None,
+    }
+}
+
+#[test]
+fn last_turns(rt: HostRuntime) {
+    let Some(tree) = two_branches(rt.alloc()) else {
+        panic!(rt; "memory");
+    };
+    assert!(rt; turn(&tree, 0) == None);
+    assert!(rt; turn(&tree, 1) == Some((0, false)));
+    assert!(rt; turn(&tree, 2) == Some((0, true)));
+    assert!(rt; turn(&tree, 3) == Some((2, false)));
+    assert!(rt; turn(&tree, 4) == Some((2, true)));
+    assert!(rt; turn(&tree, 5) == None);
 }

@@ -1,5 +1,5 @@
 // Texts of worked certificates, made as values.
-ghost use Rattle.std.specs.Prelude.{◌≡◌, ◌≢◌, ◌<◌, ◌≤◌, length, pos, IfOk, IsTrue};
+ghost use Rattle.std.specs.Prelude.{◌≡◌, ◌≢◌, ◌<◌, pos, IfOk, IsTrue};
 ghost use Rattle.instance.specs.WellFormed.{are_entries};
 ghost use Rattle.certificate.specs.Written.{count_max};
 
@@ -141,48 +141,6 @@ fn tree_of_three_nodes(rt: HostRuntime) -> Result<(), Fail> {
     let expected =
         "cert 1\nsize 1 1\nverdict infeasible\nderived 0\ntree\nbranch 1 0\nempty r1:1 c1:-3\nempty r1:-1 c1:3\nend\n";
     assert!(rt; writes(alloc, &certificate, expected)?);
-    Ok(())
-}
-
-// A branch on column `column`, from 0.
-fn branch(column: u32) -> TreeNode
-    requires { column < count_max }
-{
-    TreeNode::Branch(Split::new(column, WholeNumber::new(0)))
-}
-
-fn leaf(alloc: Global) -> TreeNode {
-    TreeNode::Empty(of_rows(alloc, Items::new(alloc)))
-}
-
-// The last turn on the way to a place: the branch's place, and the column of a high side.
-fn high_turn(tree: &Tree, place: usize) -> Option<(usize, u32)>
-    requires { place ≤ length tree.now }
-{
-    match tree.last_turn(place) {
-        Some(
-            Turn {
-                place,
-                side: Side::High(split),
-            },
-        ) => Some((place, split.column())),
-        _ => None,
-    }
-}
-
-// A branch on column 0 over a leaf and a branch on column 1: the last leaf is on the high side of both.
-#[test]
-fn last_turns(rt: HostRuntime) -> Result<(), Fail> {
-    let alloc = rt.alloc();
-    let mut tree = Tree::new(alloc);
-    tree.push(branch(0))?;
-    tree.push(leaf(alloc))?;
-    tree.push(branch(1))?;
-    tree.push(leaf(alloc))?;
-    assert!(rt; high_turn(&tree, 1) == None);
-    assert!(rt; high_turn(&tree, 2) == Some((0, 0)));
-    assert!(rt; high_turn(&tree, 3) == None);
-    assert!(rt; high_turn(&tree, 4) == Some((2, 1)));
     Ok(())
 }
 
