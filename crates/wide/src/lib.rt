@@ -1,6 +1,7 @@
 //! Unsigned whole numbers of 384 bits. Clauses see them as whole numbers.
 #![tactic(auto)]
 
+mod division;
 #[cfg(test)]
 mod tests;
 mod wide;

@@ -4,6 +4,7 @@ ghost use Rattle.std.specs.Ordering.{nat_cmp};
 ghost use Rattle.integer.specs.Gcd.{gcd as gcd_of};
 ghost use Rattle.wide.specs.Parts.{part_end, wide_end, whole_of};
 
+use crate::division::part_quotient;
 use crate::words::{add_carry, part_product, sub_borrow};
 use std::cmp::Ordering;
 use std::marker::Model;
@@ -183,6 +184,23 @@ impl Wide {
     {
         let (low, _, _) = self.open();
         low % 2 == 0
+    }
+
+    /// The number divided by one of a single part, rounded down, and what is left.
+    pub fn divided_by(self, divisor: u128) -> (Wide, u128)
+        requires positive { 0 < divisor }
+        requires small { divisor < 2 ^ 127 }
+        ensures quotient { result.0 ≡ self / divisor }
+        ensures rest { result.1 ≡ self % divisor }
+    {
+        if divisor == 1 {
+            return (self, 0);
+        }
+        let (low, mid, high) = self.open();
+        let (third, over) = part_quotient(0, high, divisor);
+        let (second, over_2) = part_quotient(over, mid, divisor);
+        let (first, left) = part_quotient(over_2, low, divisor);
+        (Wide::new(first, second, third), left)
     }
 
     // The quotient and what is left: of twice the divisor first.

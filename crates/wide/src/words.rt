@@ -42,7 +42,7 @@ pub fn sub_borrow(a: u128, b: u128, borrow: u64) -> (u128, u64)
 }
 
 // The two words of a part.
-fn split(n: u128) -> (u64, u64)
+pub fn split(n: u128) -> (u64, u64)
     ensures { n ≡ result.0 + 2 ^ 64 * result.1 }
 {
     (
@@ -52,7 +52,7 @@ fn split(n: u128) -> (u64, u64)
 }
 
 // The part of two words.
-fn join(low: u64, high: u64) -> u128
+pub fn join(low: u64, high: u64) -> u128
     ensures { result ≡ low + 2 ^ 64 * high }
 {
     low as u128 + 0x1_0000_0000_0000_0000 * (high as u128)
