@@ -8,4 +8,5 @@ pub mod CanonicalLemmas
 pub mod CanonicalLaw
 pub mod FusedLemmas
 pub mod SumLemmas
+pub mod WideLemmas
 pub mod BinaryLemmas

@@ -5,3 +5,4 @@ pub mod Literal
 pub mod Reading
 pub mod Canonical
 pub mod CanonicalReading
+pub mod WideValue

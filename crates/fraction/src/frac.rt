@@ -107,7 +107,7 @@ fn quotient(n: i128, g: u128) -> i128
 }
 
 // n / g, rounded down.
-fn divided(n: u128, g: u128) -> u128
+pub(crate) fn divided(n: u128, g: u128) -> u128
     requires { 0 < g }
     ensures { result ≡ n / g }
 {

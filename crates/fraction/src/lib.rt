@@ -11,6 +11,7 @@ mod laws;
 mod read;
 #[cfg(test)]
 mod tests;
+mod wide_quotient;
 
 pub use frac::{Frac, NoFit, Op};
 pub use laws::{texts, whole_numbers};
