@@ -8,27 +8,75 @@ use std::cmp::Ordering;
 const WORD_MAX: u128 = u64::MAX as u128;
 
 // The greatest common divisor of a and b, which is 0 only for two zeros. It goes on in words as soon
-// as both numbers fit them.
+// as a number fits one.
 pub fn gcd(a: u128, b: u128) -> u128
     ensures { result ≡ gcd_of a b }
 {
     if a == 1 || b == 1 {
         return 1;
     }
+    if b <= WORD_MAX {
+        gcd_with_word(a, b as u64)
+    } else if a <= WORD_MAX {
+        gcd_with_word(b, a as u64)
+    } else {
+        gcd_long(a, b)
+    }
+}
+
+fn gcd_with_word(a: u128, b: u64) -> u128
+    ensures { result ≡ gcd_of a b }
+{
+    if b == 0 {
+        a
+    } else if a <= WORD_MAX {
+        u128::from(gcd_words(a as u64, b))
+    } else {
+        u128::from(gcd_words(b, (a % b as u128) as u64))
+    }
+}
+
+fn gcd_long(a: u128, b: u128) -> u128
+    ensures { result ≡ gcd_of a b }
+{
+    if a == 0 {
+        b
+    } else if a % 2 != 0 {
+        gcd_odd_long(a, b)
+    } else if b % 2 != 0 {
+        gcd_odd_long(b, a)
+    } else {
+        2 * gcd_long(a / 2, b / 2)
+    }
+}
+
+// As `gcd_odd`, until a number fits a word.
+fn gcd_odd_long(a: u128, b: u128) -> u128
+    requires { a % 2 ≡ 1 }
+    ensures { result ≡ gcd_of a b }
+{
     let mut x = a;
     let mut y = b;
     while y > WORD_MAX {
-        let rest = x % y;
-        x = y;
-        y = rest;
+        let odd = odd_part_long(y);
+        if odd < x {
+            y = x - odd;
+            x = odd;
+        } else {
+            y = odd - x;
+        }
     }
-    if y == 0 {
-        x
-    } else if x > WORD_MAX {
-        u128::from(gcd_words(y as u64, (x % y) as u64))
-    } else {
-        u128::from(gcd_words(x as u64, y as u64))
-    }
+    gcd_with_word(x, y as u64)
+}
+
+// As `odd_part`.
+fn odd_part_long(n: u128) -> u128
+    requires { 0 < n }
+    ensures odd { result % 2 ≡ 1 }
+    ensures small { result ≤ n }
+    ensures same { (x : ℕ) → x % 2 ≡ 1 → gcd_of x result ≡ gcd_of x n }
+{
+    n >> n.trailing_zeros()
 }
 
 fn gcd_words(a: u64, b: u64) -> u64
