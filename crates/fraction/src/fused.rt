@@ -1,5 +1,5 @@
 // A product and a sum at once, exact where the value fits.
-ghost use Rattle.std.specs.Prelude.{◌≡◌, IsTrue, SomeIff, IfSome, IfErr, cond, false};
+ghost use Rattle.std.specs.Prelude.{◌≡◌, IsTrue, SomeIff, IfErr, cond, false};
 ghost use Rattle.rational.specs.Rational.{◌+ℚ◌, ◌*ℚ◌};
 ghost use Rattle.fraction.specs.Fits.{fits};
 ghost use Rattle.fraction.specs.Answers.{mul_add_answer, result_fits};
@@ -43,19 +43,19 @@ impl Frac {
     fn fused(self, a: Frac, b: Frac) -> Option<Frac>
         ensures { SomeIff result (IsTrue (fits (self *ℚ a +ℚ b))) (self *ℚ a +ℚ b) }
     {
-        match self.narrow_fused(a, b) {
-            Some(value) => Some(value),
+        match self.exact_product(a) {
+            Some(product) => product.exact_sum(b),
             None => self.wide_fused(a, b),
         }
     }
 
-    // The value where 128 bits serve on the way.
-    fn narrow_fused(self, a: Frac, b: Frac) -> Option<Frac>
-        ensures { IfSome result (λ q. (q ≡ self *ℚ a +ℚ b) × IsTrue (fits q)) }
+    // The sum, where it fits.
+    fn exact_sum(self, other: Frac) -> Option<Frac>
+        ensures { SomeIff result (IsTrue (fits (self +ℚ other))) (self +ℚ other) }
     {
-        match self.exact_product(a) {
-            Some(product) => product.scaled_sum(b),
-            None => None,
+        match self.scaled_sum(other) {
+            Some(total) => Some(total),
+            None => self.widened().sum(other),
         }
     }
 

@@ -37,6 +37,19 @@ impl Frac {
         )
     }
 
+    // The number itself.
+    pub(crate) fn widened(self) -> WideQuotient
+        ensures value { value_of result ≡ self }
+        ensures form { IsProduct result }
+    {
+        let (negative, numerator, denominator) = self.sizes();
+        WideQuotient {
+            negative,
+            numerator: product(numerator, 1),
+            denominator: product(denominator, 1),
+        }
+    }
+
     // The product, whatever its size.
     pub(crate) fn wide_product(self, other: Frac) -> WideQuotient
         ensures value { value_of result ≡ self *ℚ other }
