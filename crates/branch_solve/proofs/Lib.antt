@@ -5,5 +5,4 @@ pub mod LeafWeights
 pub mod NodeTests
 pub mod RootCertificates
 pub mod Answered
-pub mod SimplexFaults
 pub mod StuckFaults

@@ -19,7 +19,7 @@ use Rattle.basis.proofs.Blocked.{infeasible_shows}
 use Rattle.basis.proofs.Leaves.{optimal_proves, infeasible_proves, unbounded_proves}
 use Rattle.cert_check.specs.Outcome.{Trial, Outcome, Acceptance, Refusal, Fault, judged, outcome, trials}
 use Rattle.cert_check.proofs.Ascending.{entries_ascend}
-use Rattle.branch_solve.specs.Faults.{IsSiteFault}
+use Rattle.search_node.specs.Faults.{IsSiteFault}
 use Rattle.branch_solve.specs.Leaves.{AreFormsAscending}
 use Rattle.branch_solve.specs.Root.{NoneInteger, IsRootOptimum, IsRootCertificate}
 use Rattle.branch_solve.proofs.Told.{Told}

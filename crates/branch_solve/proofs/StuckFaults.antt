@@ -3,19 +3,17 @@ use Rattle.std.proofs.Common.{◌≡◌, ℕ, [], None, sym, subst}
 use Rattle.milp.specs.Problem.{Problem}
 use Rattle.search_node.specs.declared.fault.Stuck.{Stuck}
 use Rattle.search_node.specs.declared.fault.Stuck.TheVariants.{NoFit, PivotLimit, NoMemory}
-use Rattle.basis.specs.Numbers.{node_numbers}
 use Rattle.simplex.specs.Answer.{IsStuck}
 use Rattle.branch_solve.specs.Solved.{IsNoFit, IsAtLimit}
 use Rattle.branch_solve.specs.Stuck.{fault_of}
 use Rattle.branch_solve.specs.declared.fault.SolveFault.{SolveFault}
-use Rattle.branch_solve.proofs.SimplexFaults.{site_fault}
 
 module _ (p : Problem) (limit : ℕ) where
   abbrev IsStuckAtRoot : Stuck → Type 0
   IsStuckAtRoot stuck = IsStuck p [] (record { root_basis = None; splits = [] }) limit stuck
 
   no_fit : (stuck : Stuck) → IsStuckAtRoot stuck → IsNoFit p (fault_of stuck)
-  no_fit (NoFit site) h = (h.same_node, site_fault (node_numbers p [] []) site.fault h.fault.operation h.fault.not_fit)
+  no_fit (NoFit site) h = (h.same_node, h.fault)
   no_fit (PivotLimit bases) h = tt
   no_fit NoMemory h = tt
 

@@ -1,4 +1,3 @@
-pub mod Faults
 pub mod Root
 pub mod Leaves
 pub mod Solved

@@ -6,9 +6,9 @@ use Rattle.basis.specs.Node.{system_of}
 use Rattle.basis.specs.Numbers.{node_numbers}
 use Rattle.cert_check.specs.Outcome.{Fault, outcome, trials, part_of}
 use Rattle.cert_check.specs.declared.part.CheckFault.{CheckFault}
+use Rattle.search_node.specs.Faults.{IsSiteFault}
 use Rattle.search_node.specs.declared.node.Node.{Node as NodeOf}
 use Rattle.simplex.specs.Run.{IsLimited}
-use Rattle.branch_solve.specs.Faults.{IsSiteFault}
 use Rattle.branch_solve.specs.Root.{IsRootCertificate}
 use Rattle.branch_solve.specs.declared.fault.SolveFault.{SolveFault}
 use Rattle.branch_solve.specs.declared.fault.SolveFault.TheVariants.{Node, Part, PivotLimit, NoMemory}

@@ -14,7 +14,7 @@ ghost use Rattle.basis.specs.Numbers.{node_numbers};
 ghost use Rattle.basis.specs.declared.Place.{Place};
 ghost use Rattle.cert_check.specs.Parts.{point_answer, ray_answer, node_answer};
 ghost use Rattle.cert_check.specs.Outcome.{Fault, outcome, trials};
-ghost use Rattle.branch_solve.specs.Faults.{IsSiteFault};
+ghost use Rattle.search_node.specs.Faults.{IsSiteFault};
 ghost use Rattle.branch_solve.specs.Leaves.{AreFormsAscending, node_setting};
 ghost use Rattle.branch_solve.specs.Root.{NoneInteger, IsRootOptimum, IsRootCertificate};
 

@@ -19,7 +19,7 @@ use Rattle.search_node.specs.declared.node.Node.{Node}
 use Rattle.basis.specs.declared.Place.{Place}
 use Rattle.basis.specs.Node.{system_of}
 use Rattle.basis.specs.Numbers.{node_numbers}
-use Rattle.branch_solve.specs.Faults.{IsSiteFault}
+use Rattle.search_node.specs.Faults.{IsSiteFault}
 use Rattle.simplex.specs.Run.{IsLimited}
 use Rattle.solution_writer.specs.Report.{solved_report, translated_report}
 use Rattle.solution_writer.specs.FaultLine.{no_memory_line}

@@ -11,7 +11,7 @@ use Rattle.verdicts.specs.Proves.{Proves, tests, first_failing}
 use Rattle.basis.specs.Bland.{IsPivotLimit}
 use Rattle.basis.specs.Node.{system_of}
 use Rattle.basis.specs.Numbers.{node_numbers}
-use Rattle.branch_solve.specs.Faults.{IsSiteFault}
+use Rattle.search_node.specs.Faults.{IsSiteFault}
 use Rattle.simplex.specs.Run.{IsLimited}
 use Rattle.branch_solve.specs.Solved.{IsRoot}
 use Rattle.basis.specs.declared.Place.{Place}

@@ -8,7 +8,7 @@ use Rattle.verdicts.specs.Certificate as kind
 use Rattle.verdicts.specs.Proves.{Proves}
 use Rattle.basis.specs.Node.{system_of}
 use Rattle.basis.specs.Numbers.{node_numbers}
-use Rattle.branch_solve.specs.Faults.{IsSiteFault}
+use Rattle.search_node.specs.Faults.{IsSiteFault}
 use Rattle.simplex.specs.Run.{IsLimited}
 use Rattle.branch_solve.specs.Solved.{IsRoot}
 use Rattle.outside.specs.Told.{Lacks, Has, AppendsPrefix}

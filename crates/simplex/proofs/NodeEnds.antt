@@ -21,13 +21,14 @@ use Rattle.basis.specs.declared.Place.TheVariants.{Basic, AtLower, AtUpper, AtZe
 use Rattle.basis.proofs.NodeSystems.{node_size}
 use Rattle.basis.proofs.NumberFacts.{pair_within, run_within_node}
 use Rattle.fraction.specs.declared.frac.NoFit.{NoFit}
+use Rattle.search_node.specs.Faults.{IsSiteFault}
 use Rattle.simplex.specs.Table.{Table, is_basic, dictionary_of}
 use Rattle.simplex.specs.Ratio.{along}
 use Rattle.simplex.specs.Narrowed.{AreSplitFaults}
 use Rattle.simplex.specs.Rays.{IsFault, IsRayFault, numbers_to_be_whole, whole_ray}
 use Rattle.simplex.specs.Sources.{weights_from}
 use Rattle.simplex.specs.Run.{IsEnded, IsFaultOf}
-use Rattle.simplex.specs.Answer.{IsNodeFault, IsNodeStop, source_of, stop_of}
+use Rattle.simplex.specs.Answer.{IsNodeStop, source_of, stop_of}
 use Rattle.simplex.specs.declared.fault.Fault.{Fault}
 use Rattle.simplex.specs.declared.fault.Fault.TheVariants as F
 use Rattle.simplex.specs.declared.runs.End.TheVariants.{Optimal, Blocked, Endless}
@@ -141,20 +142,20 @@ module _ (p : Problem) (ds : List Derived) (sides : List Side) where
     common : IsRunCommon s (integer_at p) (numbers_to_be_whole p.columns r)
     common = IsRunCommon.along_direction r of_run refl
 
-    ray_site : (f : NoFit) → IsRayFault p.columns r f → IsNodeFault p ds sides f
+    ray_site : (f : NoFit) → IsRayFault p.columns r f → IsSiteFault (node_numbers p ds sides) f
     ray_site f (IsRayFault.denominators d) = record {
-      operation = pair_within (run_numbers s (integer_at p)) (node_numbers p ds sides) (run_within_node p ds sides) f.a f.b
+      numbers = pair_within (run_numbers s (integer_at p)) (node_numbers p ds sides) (run_within_node p ds sides) f.a f.b
           (IsSitePair.next_denominator (numbers_to_be_whole p.columns r) d.index d.number common d.fault.left d.is_number d.fault.right);
       not_fit = d.fault.not_fit;
     }
     ray_site f (IsRayFault.product j k d) = record {
-      operation = pair_within (run_numbers s (integer_at p)) (node_numbers p ds sides) (run_within_node p ds sides) f.a f.b
+      numbers = pair_within (run_numbers s (integer_at p)) (node_numbers p ds sides) (run_within_node p ds sides) f.a f.b
           (IsSitePair.left_base (subst (IsRunBase s (integer_at p)) (sym d.left) (base j (let e = h.places in let z = columns_inside (length t.places) h.places in omega arith)))
           (IsSiteNumber.denominator (numbers_to_be_whole p.columns r) (length (numbers_to_be_whole p.columns r)) common (d.right ∙ ap (λ l. whole (pos (common_denominator 1 l))) (sym (take_all (length (numbers_to_be_whole p.columns r)) (numbers_to_be_whole p.columns r) (omega arith))))));
       not_fit = d.not_fit;
     }
 
-    pub ray_fault : (columns : List Column) (f : NoFit) → columns ≡ p.columns → IsRayFault columns r f → IsNodeFault p ds sides f
+    pub ray_fault : (columns : List Column) (f : NoFit) → columns ≡ p.columns → IsRayFault columns r f → IsSiteFault (node_numbers p ds sides) f
     ray_fault columns f same fault = ray_site f (subst (λ (cs : List Column). IsRayFault cs r f) same fault)
 
   -- ---- stops
@@ -163,13 +164,13 @@ module _ (p : Problem) (ds : List Derived) (sides : List Side) where
   run_stop now limit e same h = go e (subst (λ (z : System). IsFaultOf z limit e) same h)
     where
       go : (g : RunFault) → IsFaultOf s limit g → IsNodeStop p ds sides limit g
-      go (R.NoFit f) k = record { operation = pair_within (run_numbers s (integer_at p)) (node_numbers p ds sides) (run_within_node p ds sides) f.a f.b (k.operation (integer_at p)); not_fit = k.not_fit }
+      go (R.NoFit f) k = record { numbers = pair_within (run_numbers s (integer_at p)) (node_numbers p ds sides) (run_within_node p ds sides) f.a f.b (k.operation (integer_at p)); not_fit = k.not_fit }
       go (R.PivotLimit bases) k = k
       go R.NoMemory k = tt
 
-  split_site : (f : NoFit) → AreSplitFaults sides f → IsNodeFault p ds sides f
+  split_site : (f : NoFit) → AreSplitFaults sides f → IsSiteFault (node_numbers p ds sides) f
   split_site f h = record {
-    operation = IsSitePair.left_base (IsNodeBase.of_problem (IsProblemNumber.of_split h.index h.side h.is_side h.fault.left)) (IsSiteNumber.base_number (IsNodeBase.of_run (IsRunBase.one_number h.fault.right)));
+    numbers = IsSitePair.left_base (IsNodeBase.of_problem (IsProblemNumber.of_split h.index h.side h.is_side h.fault.left)) (IsSiteNumber.base_number (IsNodeBase.of_run (IsRunBase.one_number h.fault.right)));
     not_fit = h.fault.not_fit;
   }
 

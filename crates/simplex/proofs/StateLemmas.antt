@@ -17,10 +17,11 @@ use Rattle.basis.proofs.Pivot.{pivot_keeps}
 use Rattle.basis.proofs.Places.{basic_known}
 use Rattle.basis.proofs.Points.{point_after}
 use Rattle.basis.proofs.Start.{same_below, start_is_point}
+use Rattle.fraction.specs.Answers.{result_fits}
 use Rattle.fraction.specs.declared.frac.NoFit.{NoFit}
 use Rattle.search_node.specs.Bases.{next_bases}
 use Rattle.search_node.specs.declared.bases.Exchange.{Exchange}
-use Rattle.simplex.specs.Rows.{IsProductOrSum, result_fits}
+use Rattle.simplex.specs.Rows.{IsProductOrSum}
 use Rattle.simplex.specs.Sums.{IsTermFault, IsStartFault, AreStartNumbers}
 use Rattle.simplex.specs.Table.{Table, dictionary_of, IsPivotFault}
 use Rattle.simplex.specs.Values.{direction_of, AreMoved, IsVariableFault}
@@ -62,7 +63,7 @@ module _ (s : System) (b : List Place) (is_system : IsSystem s) (start : IsStart
     term_operation e (IsTermFault.product named fit) = rw named (IsSitePair.left_base given (IsSiteNumber.base_number coordinate))
     term_operation e (IsTermFault.sum named fit) = rw named (IsSitePair.next_product (products_of form (start_point s)) i (IsRunProducts.along_form k form (start_point s) is_form (inl point_of_run) refl) refl next_term)
 
-  term_fit : (total a c : Rational) (e : NoFit) → IsTermFault total a c e → result_fits e.op e.a e.b ≡ false
+  term_fit : (total a c : Rational) (e : NoFit) → IsTermFault total a c e → result_fits e ≡ false
   term_fit total a c e (IsTermFault.product named fit) = rw named fit
   term_fit total a c e (IsTermFault.sum named fit) = rw named fit
 
@@ -139,7 +140,7 @@ module _ (s : System) (t : Table) (xs : List Rational) (bases : List (List Place
   next_point = point_after s t.places (dictionary_of t) (number_at xs) step.enters step.leaves step.place one_ℚ step.by (direction_of t step.enters) at.is_state.is_dictionary at.is_state.is_point
       (is_direction t step.enters is_step.enters) is_step.enters.known leaves_known is_step.lands
 
-  variable_operation : (v : ℕ) (e : NoFit) → v < length xs → IsVariableFault t step.enters step.by v (number_at xs v) e → IsMoveOperation s t.places (number_at xs) (dictionary_of t) step.enters step.by e.a e.b × (result_fits e.op e.a e.b ≡ false)
+  variable_operation : (v : ℕ) (e : NoFit) → v < length xs → IsVariableFault t step.enters step.by v (number_at xs v) e → IsMoveOperation s t.places (number_at xs) (dictionary_of t) step.enters step.by e.a e.b × (result_fits e ≡ false)
   variable_operation v e h (IsVariableFault.mover same named fit) = rw named (IsMoveOperation.mover (ap (number_at xs) same) refl, fit)
   variable_operation v e h (IsVariableFault.basic basic (IsProductOrSum.product named fit)) = rw named (IsMoveOperation.product v (let k = at.is_state.size in omega arith) basic refl refl, fit)
   variable_operation v e h (IsVariableFault.basic basic (IsProductOrSum.sum named fit)) = rw named (IsMoveOperation.sum v (let k = at.is_state.size in omega arith) basic refl refl, fit)

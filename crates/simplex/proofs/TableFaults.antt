@@ -6,8 +6,9 @@ use Rattle.rational.specs.Rational.{Rational, inv_ℚ, neg_ℚ, ◌*ℚ◌, ◌/
 use Rattle.milp.specs.Form.{number_at}
 use Rattle.basis.specs.Dictionary.{IsBasic, IsResting, rate_of, gain_of}
 use Rattle.basis.specs.Pivots.{IsRowOf, IsPivotOperation}
+use Rattle.fraction.specs.Answers.{result_fits}
 use Rattle.fraction.specs.declared.frac.NoFit.{NoFit}
-use Rattle.simplex.specs.Rows.{result_fits, IsSolved, IsQuotient, IsSolvingFault, IsProductOrSum, IsSubstitutionFault}
+use Rattle.simplex.specs.Rows.{IsSolved, IsQuotient, IsSolvingFault, IsProductOrSum, IsSubstitutionFault}
 use Rattle.simplex.specs.Table.{Table, dictionary_of, IsTable, IsPivotedFault, IsPivotFault}
 use Rattle.simplex.proofs.TableForms.{rate_number, gain_number}
 
@@ -18,17 +19,17 @@ module _ (t : Table) (q r : ℕ) (is_table : IsTable t.places t.positions t.rows
   quotient : (a c : Rational) (e : NoFit) → IsQuotient a c e → IsPivotOperation t.places (dictionary_of t) q r a c → IsPivotFault t q r e
   quotient a c e f operation = record {
     operation = let P : NoFit → Type 0 = λ g. IsPivotOperation t.places (dictionary_of t) q r g.a g.b in subst P (sym f.named) operation;
-    not_fit = let P : NoFit → Type 0 = λ g. result_fits g.op g.a g.b ≡ false in subst P (sym f.named) f.not_fit;
+    not_fit = let P : NoFit → Type 0 = λ g. result_fits g ≡ false in subst P (sym f.named) f.not_fit;
   }
 
   product_or_sum : (k a c : Rational) (e : NoFit) → IsProductOrSum k a c e → IsPivotOperation t.places (dictionary_of t) q r k a → IsPivotOperation t.places (dictionary_of t) q r (k *ℚ a) c → IsPivotFault t q r e
   product_or_sum k a c e (IsProductOrSum.product named not_fit) one two = record {
     operation = let P : NoFit → Type 0 = λ g. IsPivotOperation t.places (dictionary_of t) q r g.a g.b in subst P (sym named) one;
-    not_fit = let P : NoFit → Type 0 = λ g. result_fits g.op g.a g.b ≡ false in subst P (sym named) not_fit;
+    not_fit = let P : NoFit → Type 0 = λ g. result_fits g ≡ false in subst P (sym named) not_fit;
   }
   product_or_sum k a c e (IsProductOrSum.sum named not_fit) one two = record {
     operation = let P : NoFit → Type 0 = λ g. IsPivotOperation t.places (dictionary_of t) q r g.a g.b in subst P (sym named) two;
-    not_fit = let P : NoFit → Type 0 = λ g. result_fits g.op g.a g.b ≡ false in subst P (sym named) not_fit;
+    not_fit = let P : NoFit → Type 0 = λ g. result_fits g ≡ false in subst P (sym named) not_fit;
   }
 
   width : (v : ℕ) → IsBasic t.places v → length (get_or t.rows (get_or t.positions v 0) []) ≡ length t.gains

@@ -6,8 +6,8 @@ use Rattle.milp.specs.Problem.{Column}
 use Rattle.verdicts.specs.Proves.{is_integer}
 use Rattle.basis.specs.Numbers.{prefix_denominator}
 use Rattle.basis.specs.Weights.{numbers_from, common_denominator}
+use Rattle.fraction.specs.Answers.{result_fits}
 use Rattle.fraction.specs.declared.frac.NoFit.{NoFit}
-use Rattle.simplex.specs.Rows.{result_fits}
 use Rattle.simplex.specs.declared.fault.Fault.{Fault}
 use Rattle.simplex.specs.declared.fault.Fault.TheVariants as F
 
@@ -20,7 +20,7 @@ IsFault P F.NoMemory = Unit {0}
 pub record IsShareFault (m d : ℕ) (f : NoFit) : Type 0 where
   pub left : f.a ≡ over (pos 1) m
   pub right : f.b ≡ over (pos 1) d
-  pub not_fit : result_fits f.op f.a f.b ≡ false
+  pub not_fit : result_fits f ≡ false
 
 -- f is the sum of 1 over the common denominator of the first numbers and 1 over the next number's, and does not fit
 pub record IsDenominatorFault (numbers : List Rational) (f : NoFit) : Type 0 where
@@ -50,7 +50,7 @@ pub record AreScaled (old : List Rational) (b : Rational) (new : List Rational) 
 pub record IsProduct (a b : Rational) (f : NoFit) : Type 0 where
   pub left : f.a ≡ a
   pub right : f.b ≡ b
-  pub not_fit : result_fits f.op f.a f.b ≡ false
+  pub not_fit : result_fits f ≡ false
 
 -- f is such a product of one of the numbers, and does not fit
 pub record IsProductFault (old : List Rational) (b : Rational) (f : NoFit) : Type 0 where

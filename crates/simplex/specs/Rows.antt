@@ -1,18 +1,10 @@
 -- Rows of numbers, and what a pivot makes of them.
-use Rattle.std.specs.Prelude.{ℕ, negsuc, ◌<◌, ◌≡◌, ◌≢◌, List, length, Bool, false}
+use Rattle.std.specs.Prelude.{ℕ, negsuc, ◌<◌, ◌≡◌, ◌≢◌, List, length, false}
 use Rattle.rational.specs.Rational.{Rational, zero_ℚ, whole, inv_ℚ, neg_ℚ, ◌+ℚ◌, ◌*ℚ◌, ◌/ℚ◌}
 use Rattle.milp.specs.Form.{number_at}
 use Rattle.fraction.specs.Fits.{fits, sum_fits}
-use Rattle.fraction.specs.declared.frac.Op.{Op}
-use Rattle.fraction.specs.declared.frac.Op.TheVariants.{Add, Sub, Mul, Div}
+use Rattle.fraction.specs.declared.frac.Op.TheVariants.{Add, Mul, Div}
 use Rattle.fraction.specs.declared.frac.NoFit.{NoFit}
-
--- the result of an operation fits
-abbrev pub result_fits : Op → Rational → Rational → Bool
-result_fits Add a b = sum_fits a b
-result_fits Sub a b = sum_fits a (neg_ℚ b)
-result_fits Mul a b = fits (a *ℚ b)
-result_fits Div a b = fits (a /ℚ b)
 
 -- the row `old`, whose number at the place `at` is not 0, solved for that place
 pub record IsSolved (old : List Rational) (at : ℕ) (new : List Rational) : Type 0 where

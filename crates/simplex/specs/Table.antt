@@ -4,8 +4,9 @@ use Rattle.rational.specs.Rational.{Rational}
 use Rattle.milp.specs.Form.{Entry, number_at}
 use Rattle.basis.specs.Dictionary.{place_of, IsBasic, IsResting, Dictionary}
 use Rattle.basis.specs.Pivots.{IsPivotOperation}
+use Rattle.fraction.specs.Answers.{result_fits}
 use Rattle.fraction.specs.declared.frac.NoFit.{NoFit}
-use Rattle.simplex.specs.Rows.{IsSolved, IsSubstituted, IsSolvingFault, IsSubstitutionFault, result_fits}
+use Rattle.simplex.specs.Rows.{IsSolved, IsSubstituted, IsSolvingFault, IsSubstitutionFault}
 use Rattle.basis.specs.declared.Place.{Place}
 use Rattle.basis.specs.declared.Place.TheVariants.{Basic, AtLower, AtUpper, AtZero}
 
@@ -86,4 +87,4 @@ pub data IsPivotedFault (old : List (List Rational)) (gains : List Rational) (li
 -- e is an operation of the pivot of q into the place of r, and does not fit
 pub record IsPivotFault (t : Table) (q r : ℕ) (e : NoFit) : Type 0 where
   pub operation : IsPivotOperation t.places (dictionary_of t) q r e.a e.b
-  pub not_fit : result_fits e.op e.a e.b ≡ false
+  pub not_fit : result_fits e ≡ false
