@@ -20,6 +20,8 @@ import tempfile
 import time
 from fractions import Fraction
 
+GLPK = shutil.which("glpsol")
+
 TOP = os.path.dirname(os.path.dirname(os.path.abspath(__file__)))
 PROGRAM = os.path.join(TOP, "crates", "glpsol", "out", "glpsol")
 LIMIT = 60
@@ -97,7 +99,7 @@ def check(path, folder):
 
 def glpk(path, folder):
     solution = os.path.join(folder, "glpk.txt")
-    seconds, text = timed(["/usr/bin/glpsol", "--freemps", path, "--exact", "--nopresol", "-o", solution])
+    seconds, text = timed([GLPK, "--freemps", path, "--exact", "--nopresol", "-o", solution])
     if seconds is None:
         return None, ""
     with open(solution) as file:
@@ -119,7 +121,7 @@ def shown(seconds):
 
 
 def measure(name, path, folder, runs):
-    others = [("glpk", glpk)] if os.path.exists("/usr/bin/glpsol") else []
+    others = [("glpk", glpk)] if GLPK else []
     others += [("qsopt", qsopt)] if shutil.which("esolver") else []
     solvers = [("this", ours)] + others
     times = {solver: [] for solver, _ in solvers}

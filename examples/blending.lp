@@ -1,4 +1,4 @@
-\ Two-sided rows and bounds in every form: the cheapest blend of four parts
+\ Two-sided rows, and bounds on one and on both sides: the cheapest blend of four parts
 Minimize
  cost: 12 oats + 9.5 wheat + 30 fat - 2 bran + 5
 Subject To
