@@ -32,7 +32,7 @@ pub fn directions()
 {}
 
 /// What each step exchanges: in the first phase a basic variable for a resting one that changes it; in the second
-/// too, or the resting one goes to its other bound.
+/// too, or the resting one rests at a place again.
 pub fn steps()
     ensures mend { (s : System) (b : List Place) (x : ℕ → Rational) (d : Dictionary) (q v : ℕ) (place : Place) →
         MendStep s b x d q v place → (place ≢ Basic) × IsBasic b v × IsResting b q × ((rate_of d q v).numerator ≢ pos 0) }
@@ -71,7 +71,8 @@ pub fn runs_are_one()
 {}
 
 /// From a basis at which the simplex method ends no step of Bland's rule leads on: neither from an optimal basis, nor
-/// from one at which a row is blocked, nor from one from which a variable moves without end.
+/// from one at which the row of the least variable outside its bounds is blocked, nor from one from which the least
+/// variable that improves moves without end.
 pub fn ends_are_final()
     ensures optimal { (s : System) (b : List Place) (d : Dictionary) (x : ℕ → Rational) → IsOptimalBasis s b d x → IsFinal s b }
     ensures blocked { (s : System) (b : List Place) (d : Dictionary) (x : ℕ → Rational) (r : ℕ) (place : Place) →

@@ -16,8 +16,8 @@ use simplex::{Relaxed, relax, root_is_over_columns};
 use std::alloc::Global;
 
 /// The verdict of a problem without integer columns, with its certificate, which proves it and which the checker
-/// accepts. The simplex method takes at most `pivot_limit` steps. A fault tells an operation that does not fit: at the
-/// root, or in a part of the certificate's check.
+/// accepts. A fault tells an operation that does not fit, at the root or in a part of the certificate's check, or that
+/// the run of the simplex method is longer than `pivot_limit` steps.
 pub fn solve(alloc: Global, problem: &Instance, pivot_limit: u32) -> Result<Certificate, SolveFault>
     requires continuous { NoneInteger problem.now.columns }
     ensures proves { IfOk result (λ c. Proves problem.now c) }
@@ -32,7 +32,7 @@ pub fn solve(alloc: Global, problem: &Instance, pivot_limit: u32) -> Result<Cert
     }
 }
 
-// What the simplex method finds at the root, in at most `pivot_limit` steps.
+// What the simplex method finds at the root.
 fn relaxed(alloc: Global, problem: &Instance, pivot_limit: u32) -> Result<Relaxed, Stuck>
     ensures relaxed { IfOk result (IsRelaxed problem.now [] []) }
     ensures stuck { IfErr result (IsStuck problem.now [] (record { root_basis = None; splits = [] }) pivot_limit) }

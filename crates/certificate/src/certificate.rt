@@ -61,7 +61,7 @@ fn numbers_fit(numbers: &[Frac])
 
 impl Certificate {
     /// The certificate of an optimal point and its value, for a problem with these numbers of rows and columns: a whole
-    /// tree whose leaves show that no point is better. It takes no memory.
+    /// tree, whose leaves are to show that no point is better. It takes no memory.
     pub fn optimal(
         rows: u32,
         columns: u32,
@@ -90,7 +90,8 @@ impl Certificate {
         }
     }
 
-    /// The certificate of a problem without feasible points: a whole tree whose leaves show it. It takes no memory.
+    /// The certificate of a problem without feasible points: a whole tree, whose leaves are to show it. It
+    /// takes no memory.
     pub fn infeasible(rows: u32, columns: u32, derived: DerivedRows, tree: Tree) -> Self
         requires { IsTrue (is_tree tree) }
         ensures { result ≡ record { rows = rows; columns = columns; verdict = is_infeasible; value = None; point = None; ray = None; derived = derived; tree = tree } }

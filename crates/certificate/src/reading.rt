@@ -24,8 +24,7 @@ use fraction::{Frac, texts};
 use instance::{Entries, Point};
 use std::alloc::Global;
 
-/// The certificate whose text the bytes are, or the first fault of the text. Each certificate has one text: it takes
-/// time linear in the bytes, and reads a tree of any depth.
+/// The certificate whose text the bytes are, or the first fault of the text. Each certificate has one text.
 pub fn read(alloc: Global, text: &[u8]) -> Result<Certificate, CertError>
     // The certificate, or the first fault.
     ensures exact { Gives (λ c. c) result (read_of text.now) }

@@ -1,4 +1,4 @@
-// Euclid's algorithm, and the order of two quotients.
+// Greatest common divisors by halving and differences, and the order of two quotients.
 ghost use Rattle.std.specs.Prelude.{◌≡◌, ℕ, ◌*◌, ◌%◌, ◌<◌, ◌≤◌};
 ghost use Rattle.std.specs.Ordering.{nat_cmp};
 ghost use Rattle.integer.specs.Gcd.{gcd as gcd_of};

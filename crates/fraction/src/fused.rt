@@ -7,7 +7,7 @@ ghost use Rattle.fraction.specs.Answers.{mul_add_answer, result_fits};
 use crate::frac::{Frac, NoFit, Op};
 
 impl Frac {
-    /// `self * a + b`. No product or sum on the way may be too large: it is `Ok` exactly where the
+    /// `self * a + b`. However large the product or the sum on the way, it is `Ok` exactly where the
     /// value in lowest terms fits. Else `NoFit` names `self * a` where that does not fit, and
     /// otherwise the sum of that product and `b`.
     pub fn mul_add(self, a: Frac, b: Frac) -> Result<Frac, NoFit>

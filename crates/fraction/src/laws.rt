@@ -7,7 +7,7 @@ ghost use Rattle.fraction.specs.Text.{text_of};
 ghost use Rattle.fraction.specs.Canonical.{plain_digits_of, read_canonical_of};
 ghost use Rattle.fraction.specs.Answers.{add_answer, mul_answer};
 
-/// Sums and products of whole numbers are whole, and fit where their value does.
+/// Products of whole numbers are whole and fit where their value does; so are sums of whole numbers that fit.
 #[tactic(auto, using(crate::proofs::WholeNumbers::whole_numbers_lemmas))]
 pub fn whole_numbers()
     ensures product { (n m : ℤ) → unsigned_abs (n *ℤ m) ≤ part_max
@@ -16,7 +16,8 @@ pub fn whole_numbers()
         → add_answer (whole n) (whole m) ≡ Ok (whole (n +ℤ m)) }
 {}
 
-/// Each fraction has one text from which it is read, and each whole number one text of plain digits.
+/// Each fraction that fits has one text from which it is read, and each whole number below 10^64 one text of plain
+/// digits.
 pub fn texts()
     ensures fractions { (text : List ℕ) (q : Rational) → (read_canonical_of text ≡ Ok q) ↔ (IsTrue (fits q) × (text ≡ text_of q)) }
     ensures digits { (text : List ℕ) (n : ℕ) → n < 10 ^ 64 → (plain_digits_of text ≡ Some n) ↔ (text ≡ decimal n) }

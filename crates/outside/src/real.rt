@@ -44,7 +44,8 @@ fn written(got: io::Result<usize>, bytes: &[u8], faults: &mut u64) -> Result<usi
     }
 }
 
-/// The files of the system. It tells no bytes, and counts a fault at each error but "not found" and want of memory.
+/// The files of the system. It tells no bytes, and counts a fault at each error but want of memory, and "not found" where
+/// a file is opened.
 #[derive(Drop)]
 pub struct RealStore<'a, R: Files> {
     rt: &'a R,

@@ -172,7 +172,8 @@ pub trait Store {
         ensures failed { IsErrOf result Trouble.Failed → Rose (faults self.old) (faults self.new) };
 }
 
-/// The whole file of a name, of at most `MAX_FILE` bytes. The file is closed in any case.
+// The file is closed in any case.
+/// The whole file of a name, of at most `MAX_FILE` bytes.
 /// Errors: `Missing` where no file has the name; `Open` and `Read` where the outside failed, closing included;
 /// `TooLong` where the file has more bytes; `NoMemory`.
 pub fn read_all<S: Store>(alloc: Global, store: &mut S, name: &str) -> Result<Vec<u8>, LoadFault>
@@ -204,8 +205,9 @@ pub fn read_all<S: Store>(alloc: Global, store: &mut S, name: &str) -> Result<Ve
     }
 }
 
-/// Writes all the bytes to a file of this name, made anew, and closes it.
-/// Errors: `Failed`, `NoMemory`; the file then has a part of the bytes from the front, or isn't made.
+// The file is closed in any case.
+/// Writes all the bytes to a file of this name, made anew.
+/// Errors: `Failed`, `NoMemory`; the file then has a part of the bytes from the front, or is as it was.
 pub fn write_file<S: Store>(store: &mut S, name: &str, bytes: &[u8]) -> Result<(), Trouble>
     ensures all { (before : Option (List ℕ)) → S.told store.old name.now ≡ Some before → OnOk result (Has (S.told store.new name.now) bytes.now) }
     ensures prefix { (before : Option (List ℕ)) → S.told store.old name.now ≡ Some before

@@ -9,7 +9,7 @@ use fraction::{NoFit, Op};
 use instance::Name;
 use std::alloc::{AllocError, Global};
 
-/// What ends a run before its report, with what its line shows.
+/// What the line of a fault shows.
 #[derive(Clone, Copy)]
 pub enum Fault<'a> {
     /// The words are no command.

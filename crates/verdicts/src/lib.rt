@@ -1,4 +1,4 @@
-// Mixed-integer linear programs and the certificates of their answers.
+//! Certificates of verdicts on mixed-integer linear programs, and what they prove.
 #![tactic(auto)]
 
 ghost use Rattle.std.specs.Prelude.{ℕ, List, [], Some, ◌≡◌, ◌<◌, ◌↔◌, true};
