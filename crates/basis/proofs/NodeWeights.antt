@@ -77,10 +77,6 @@ abbrev pub range_sum : (ℕ → Rational) → ℕ → ℕ → Rational
 range_sum g first zero = zero_ℚ
 range_sum g first (suc count) = g first +ℚ range_sum g (suc first) count
 
-range_same : (g h : ℕ → Rational) (first count limit : ℕ) → first + count ≤ limit → ((v : ℕ) → v < limit → g v ≡ h v) → range_sum g first count ≡ range_sum h first count
-range_same g h first zero limit l e = refl
-range_same g h first (suc count) limit l e = ap₂ ◌+ℚ◌ (e first (omega arith)) (range_same g h (suc first) count limit (omega arith) e)
-
 range_split : (g : ℕ → Rational) (first a b : ℕ) → range_sum g first (a + b) ≡ range_sum g first a +ℚ range_sum g (first + a) b
 range_split g first zero b = let e : zero + b ≡ b = omega arith in let f : first ≡ first + zero = omega arith in ap (range_sum g first) e ∙ ap (λ v. range_sum g v b) f ∙ sym (Q.zero-add _)
 range_split g first (suc a) b =

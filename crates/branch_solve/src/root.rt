@@ -5,7 +5,7 @@ ghost use Rattle.cert_check.specs.Outcome.{Acceptance, outcome, trials};
 ghost use Rattle.branch_solve.specs.Root.{NoneInteger, IsRootCertificate};
 ghost use Rattle.branch_solve.specs.Solved.{IsNoFit, IsAfterRun, IsAtLimit};
 ghost use Rattle.simplex.specs.Answer.{IsRelaxed, IsStuck};
-ghost use Rattle.branch_solve.specs.Stuck.{fault_of as fault_of_stuck};
+ghost use Rattle.branch_solve.specs.Stuck.{fault_of};
 
 use crate::fault::SolveFault;
 use crate::solving::{certified_contradiction, certified_optimum, certified_ray};
@@ -65,7 +65,7 @@ fn certified(alloc: Global, problem: &Instance, relaxed: Relaxed) -> Result<Cert
 
 // The fault of the simplex method as one of the whole.
 fn fault_of(stuck: Stuck) -> SolveFault
-    ensures { result ≡ fault_of_stuck stuck }
+    ensures { result ≡ fault_of stuck }
 {
     match stuck {
         Stuck::NoFit(site) => SolveFault::Node(site),

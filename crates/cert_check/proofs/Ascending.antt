@@ -17,9 +17,6 @@ use Rattle.cert_check.proofs.Products.{next}
 pub from_test : (a b : ℕ) → nat_le a b ≡ true → a ≤ b
 from_test a b h = grind (arith, nat_tests)
 
-to_test : (a b : ℕ) → a ≤ b → nat_le a b ≡ true
-to_test a b h = grind (arith, nat_tests)
-
 pub entries_ascend : (least n : ℕ) (es : List Entry) → are_entries_from least n es ≡ true → ascending least es ≡ true
 entries_ascend least n [] h = refl
 entries_ascend least n (e ∷ es) h =
@@ -89,12 +86,6 @@ none_before least (e ∷ es) j h k =
 pub none_after : (es : List Entry) (n : ℕ) (x : Entry) (j : ℕ) → ascending 0 es ≡ true → n < length es → x ≡ get_or es n x → j < x.column → entry_at (drop n es) j ≡ None
 none_after es n x j h small is high =
     ap (λ xs. entry_at xs j) (next es n x small is) ∙ not_here x (drop (n + 1) es) j (λ k. absurd (omega arith)) ∙ rw (add-one n) (none_before (x.column + 1) (drop (suc n) es) j (rest_ascends 0 es n x h small is) (omega arith)).0
-
-pub entry_here : (es : List Entry) (n : ℕ) (x : Entry) (j : ℕ) → n < length es → x ≡ get_or es n x → x.column ≡ j → entry_at (drop n es) j ≡ Some x.coefficient
-entry_here es n x j small is column = ap (λ xs. entry_at xs j) (next es n x small is) ∙ rw (self x.column j column) refl
-
-pub entry_passed : (es : List Entry) (n : ℕ) (x : Entry) (j : ℕ) → n < length es → x ≡ get_or es n x → ¬ (x.column ≡ j) → entry_at (drop n es) j ≡ entry_at (drop (n + 1) es) j
-entry_passed es n x j small is column = ap (λ xs. entry_at xs j) (next es n x small is) ∙ not_here x (drop (n + 1) es) j column
 
 -- ---- what the entry says of the form
 

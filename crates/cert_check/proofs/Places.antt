@@ -51,10 +51,6 @@ pub tree_full : (p : Problem) (goal : Option Rational) (ds : List Derived) (node
 tree_full p goal ds nodes k zero node all h is inv e = rw (next nodes k node h is) at inv
 tree_full p goal ds nodes k (suc m) node all h is inv e = absurd (omega arith)
 
-pub tree_ended : (p : Problem) (goal : Option Rational) (ds : List Derived) (nodes : List TreeNode) (k open_places : ℕ) (all : Outcome) → length nodes ≤ k → left p goal ds nodes k open_places ≡ all → open_places ≡ 0 → Acceptance ≡ all
-tree_ended p goal ds nodes k zero all h inv e = rw (drop_of_length-le nodes h) at inv
-tree_ended p goal ds nodes k (suc m) all h inv e = absurd (omega arith)
-
 pub tree_short : (p : Problem) (goal : Option Rational) (ds : List Derived) (nodes : List TreeNode) (k open_places : ℕ) (all : Outcome) → length nodes ≤ k → left p goal ds nodes k open_places ≡ all → 0 < open_places → Refusal (Node (k + 1)) ≡ all
 tree_short p goal ds nodes k zero all h inv e = absurd (omega arith)
 tree_short p goal ds nodes k (suc m) all h inv e = rw (drop_of_length-le nodes h) at inv

@@ -132,8 +132,5 @@ upper_turn p (Low s) sides j found = go (s.column == j)
 pub lower_more : (p : Problem) (side : Side) (here sides : List Side) (j : ℕ) (found f : Option Rational) (all : Result (Option Rational) NoFit) → here ≡ side ∷ sides → Ok f ≡ found_lower found side j → merged_answer found (lower_answer p here j) ≡ all → merged_answer f (lower_answer p sides j) ≡ all
 lower_more p side here sides j found f all is e inv = ap (λ r. and_then r (λ f. merged_answer f (lower_answer p sides j))) e ∙ sym (lower_turn p side sides j found) ∙ (rw is at inv)
 
-pub lower_fault : (p : Problem) (side : Side) (here sides : List Side) (j : ℕ) (found : Option Rational) (d : NoFit) (all : Result (Option Rational) NoFit) → here ≡ side ∷ sides → Err d ≡ found_lower found side j → merged_answer found (lower_answer p here j) ≡ all → Err d ≡ all
-lower_fault p side here sides j found d all is e inv = ap (λ r. and_then r (λ f. merged_answer f (lower_answer p sides j))) e ∙ sym (lower_turn p side sides j found) ∙ (rw is at inv)
-
 pub upper_more : (p : Problem) (side : Side) (here sides : List Side) (j : ℕ) (found f : Option Rational) (all : Option Rational) → here ≡ side ∷ sides → f ≡ found_upper found side j → merged_upper found (upper_under p here j) ≡ all → merged_upper f (upper_under p sides j) ≡ all
 upper_more p side here sides j found f all is e inv = ap (λ f. merged_upper f (upper_under p sides j)) e ∙ sym (upper_turn p side sides j found) ∙ (rw is at inv)

@@ -1,7 +1,7 @@
 // The bounds of columns under the splits on the way to a node.
 ghost use Rattle.std.specs.Prelude.{◌≡◌, ◌≤◌, ◌+ℤ◌, pos, [], length, unsigned_abs, IfSome};
 ghost use Rattle.fraction.specs.Fits.{part_max};
-ghost use Rattle.verdicts.specs.Proves.{lower_under, upper_under, greater as greater_of, lesser as lesser_of};
+ghost use Rattle.verdicts.specs.Proves.{lower_under, upper_under, greater, lesser};
 ghost use Rattle.certificate.specs.Ways.{side_of, way};
 ghost use Rattle.cert_check.specs.Sums.{next_answer, lower_answer};
 ghost use Rattle.cert_check.specs.Walk.{found_lower, found_upper, merged_lower, merged_upper};
@@ -99,7 +99,7 @@ fn one_more(at: WholeNumber) -> Option<WholeNumber>
 }
 
 fn greater(bound: Option<Frac>, b: Frac) -> Frac
-    ensures { result ≡ greater_of bound b }
+    ensures { result ≡ greater bound b }
 {
     match bound {
         None => b,
@@ -108,7 +108,7 @@ fn greater(bound: Option<Frac>, b: Frac) -> Frac
 }
 
 fn lesser(bound: Option<Frac>, b: Frac) -> Frac
-    ensures { result ≡ lesser_of bound b }
+    ensures { result ≡ lesser bound b }
 {
     match bound {
         None => b,

@@ -1,12 +1,12 @@
 // The test of derived rows.
 ghost use Rattle.std.specs.Prelude.{◌≡◌, ◌&&◌, IsTrue, length, slice_get, neg_ℤ};
 ghost use Rattle.rational.specs.Rational.{zero_ℚ};
-ghost use Rattle.verdicts.specs.Compare.{is_at_most, is_whole as is_whole_number};
+ghost use Rattle.verdicts.specs.Compare.{is_at_most, is_whole};
 ghost use Rattle.verdicts.specs.WeightedSums.{coefficient_of};
-ghost use Rattle.verdicts.specs.Proves.{in_range as in_range_of, is_integer as is_integer_of, is_whole_form as is_whole_form_of};
+ghost use Rattle.verdicts.specs.Proves.{in_range, is_integer, is_whole_form};
 ghost use Rattle.certificate.specs.Values.{proof_of};
 ghost use Rattle.cert_check.specs.Sums.{weight_products};
-ghost use Rattle.cert_check.specs.Parts.{ascending, problem_alone, side_bound as side_bound_of, side_answer, shown_answer, split_answer, proof_answer, derived_answer};
+ghost use Rattle.cert_check.specs.Parts.{ascending, problem_alone, side_bound, side_answer, shown_answer, split_answer, proof_answer, derived_answer};
 ghost use Rattle.cert_check.specs.Outcome.{outcome, outcome_of, derived_trials};
 
 use crate::bounds::next;
@@ -22,7 +22,7 @@ use instance::{Entry, Instance};
 
 // The columns of a form are the problem's.
 fn in_range(problem: &Instance, form: &[Entry]) -> bool
-    ensures { result ≡ in_range_of (length problem.now.columns) form.now }
+    ensures { result ≡ in_range (length problem.now.columns) form.now }
 {
     let count = problem.columns().len();
     for entry in form {
@@ -35,7 +35,7 @@ fn in_range(problem: &Instance, form: &[Entry]) -> bool
 
 // There is a column at the index, and it is integer.
 pub(crate) fn is_integer(problem: &Instance, column: u32) -> bool
-    ensures { result ≡ is_integer_of (slice_get problem.now.columns column) }
+    ensures { result ≡ is_integer (slice_get problem.now.columns column) }
 {
     match problem.columns().get(column as usize) {
         None => false,
@@ -44,14 +44,14 @@ pub(crate) fn is_integer(problem: &Instance, column: u32) -> bool
 }
 
 fn is_whole_entry(problem: &Instance, entry: Entry) -> bool
-    ensures { result ≡ (is_whole_number entry.coefficient && is_integer_of (slice_get problem.now.columns entry.column)) }
+    ensures { result ≡ (is_whole entry.coefficient && is_integer (slice_get problem.now.columns entry.column)) }
 {
     is_whole(entry.coefficient) && is_integer(problem, entry.column)
 }
 
 // The form is whole at each feasible point: whole coefficients on integer columns alone.
 fn is_whole_form(problem: &Instance, form: &[Entry]) -> bool
-    ensures { result ≡ is_whole_form_of problem.now form.now }
+    ensures { result ≡ is_whole_form problem.now form.now }
 {
     for entry in form {
         if !is_whole_entry(problem, *entry) {
@@ -64,7 +64,7 @@ fn is_whole_form(problem: &Instance, form: &[Entry]) -> bool
 // What the inequality of a split's side adds to R.
 #[tactic(auto, using(crate::proofs::Signs::whole_negative))]
 fn side_bound(split: &FormSplit, side: FormSide) -> Result<Frac, NoFit>
-    ensures { result ≡ side_bound_of split.now side }
+    ensures { result ≡ side_bound split.now side }
 {
     match side {
         FormSide::AtMost => with_product(Frac::whole(0), split.low(), split.at().to_frac().neg()),
@@ -122,7 +122,7 @@ fn split_passes(
 
 // The split's form is whole, and the weights of its inequalities are not negative.
 fn is_split(problem: &Instance, split: &FormSplit) -> bool
-    ensures { result ≡ (is_whole_form_of problem.now split.now.form && (is_at_most zero_ℚ split.now.low && is_at_most zero_ℚ split.now.high)) }
+    ensures { result ≡ (is_whole_form problem.now split.now.form && (is_at_most zero_ℚ split.now.low && is_at_most zero_ℚ split.now.high)) }
 {
     let zero = Frac::whole(0);
     is_whole_form(problem, split.form().as_slice())

@@ -2,8 +2,8 @@
 ghost use Rattle.std.specs.Prelude.{◌≡◌};
 ghost use Rattle.rational.specs.Rational.{◌*ℚ◌};
 ghost use Rattle.milp.specs.Points.{sign_of};
-ghost use Rattle.verdicts.specs.Compare.{is_less, is_at_most, is_same, is_whole as is_whole_of};
-ghost use Rattle.instance.specs.WellFormed.{is_zero as is_zero_of};
+ghost use Rattle.verdicts.specs.Compare.{is_less, is_at_most, is_same, is_whole};
+ghost use Rattle.instance.specs.WellFormed.{is_zero};
 
 use fraction::Frac;
 use milp::Direction;
@@ -27,13 +27,13 @@ pub(crate) fn same(a: Frac, b: Frac) -> bool
 }
 
 pub(crate) fn is_whole(v: Frac) -> bool
-    ensures { result ≡ is_whole_of v }
+    ensures { result ≡ is_whole v }
 {
     v.parts().1 == 1
 }
 
 pub(crate) fn is_zero(v: Frac) -> bool
-    ensures { result ≡ is_zero_of v }
+    ensures { result ≡ is_zero v }
 {
     v.parts().0 == 0
 }

@@ -4,7 +4,7 @@ ghost use Rattle.rational.specs.Rational.{zero_ℚ, one_ℚ};
 ghost use Rattle.verdicts.specs.Compare.{is_less};
 ghost use Rattle.verdicts.specs.Proves.{bound_used};
 ghost use Rattle.certificate.specs.Written.{AreItemsFrom};
-ghost use Rattle.cert_check.specs.Sums.{with_product as with_product_of, bound_of as bound_answer, row_bound as row_bound_of, derived_bound as derived_bound_of, are_there as are_there_of, all_there as all_there_of, with_bound as with_bound_of, with_bounds as with_bounds_of, bound_sum as bound_sum_of, products, form_at, item_products, weight_products, with_products};
+ghost use Rattle.cert_check.specs.Sums.{with_product, bound_of, row_bound, derived_bound, are_there, all_there, with_bound, with_bounds, bound_sum, products, form_at, item_products, weight_products, with_products};
 ghost use Rattle.std.specs.Prelude.{slice_get};
 
 use crate::kind::Kind;
@@ -16,7 +16,7 @@ use instance::Entry;
 
 // A total plus a product.
 pub(crate) fn with_product(total: Frac, a: Frac, b: Frac) -> Result<Frac, NoFit>
-    ensures { result ≡ with_product_of total a b }
+    ensures { result ≡ with_product total a b }
 {
     let product = a.mul(b)?;
     total.add(product)
@@ -35,7 +35,7 @@ fn used(w: Frac, lower: Option<Frac>, upper: Option<Frac>) -> Option<Frac>
 }
 
 fn row_bound(setting: &Setting, item: Item) -> Option<Frac>
-    ensures { result ≡ row_bound_of item.weight (slice_get setting.now.problem.rows item.index) }
+    ensures { result ≡ row_bound item.weight (slice_get setting.now.problem.rows item.index) }
 {
     match setting.problem().rows().get(item.index as usize) {
         None => None,
@@ -44,7 +44,7 @@ fn row_bound(setting: &Setting, item: Item) -> Option<Frac>
 }
 
 fn column_bound(setting: &Setting, item: Item) -> Result<Option<Frac>, NoFit>
-    ensures { result ≡ bound_answer setting.now Kind.OfColumn item }
+    ensures { result ≡ bound_of setting.now Kind.OfColumn item }
 {
     if is_positive(item.weight) {
         setting.lower(item.index)
@@ -54,7 +54,7 @@ fn column_bound(setting: &Setting, item: Item) -> Result<Option<Frac>, NoFit>
 }
 
 fn derived_bound(setting: &Setting, item: Item) -> Option<Frac>
-    ensures { result ≡ derived_bound_of item.weight (slice_get setting.now.derived item.index) }
+    ensures { result ≡ derived_bound item.weight (slice_get setting.now.derived item.index) }
 {
     match setting.derived().get(item.index as usize) {
         None => None,
@@ -68,7 +68,7 @@ fn derived_bound(setting: &Setting, item: Item) -> Option<Frac>
 
 // The bound that a weight uses.
 fn bound_of(setting: &Setting, kind: Kind, item: Item) -> Result<Option<Frac>, NoFit>
-    ensures { result ≡ bound_answer setting.now kind item }
+    ensures { result ≡ bound_of setting.now kind item }
 {
     match kind {
         Kind::OfRow => Ok(row_bound(setting, item)),
@@ -79,7 +79,7 @@ fn bound_of(setting: &Setting, kind: Kind, item: Item) -> Result<Option<Frac>, N
 
 // The bounds that the weights of one kind use are there.
 fn are_there(setting: &Setting, kind: Kind, items: &[Item]) -> Result<bool, NoFit>
-    ensures { result ≡ are_there_of (bound_answer setting.now kind) items.now }
+    ensures { result ≡ are_there (bound_of setting.now kind) items.now }
 {
     for item in items {
         let bound = bound_of(setting, kind, *item)?;
@@ -92,7 +92,7 @@ fn are_there(setting: &Setting, kind: Kind, items: &[Item]) -> Result<bool, NoFi
 
 // All bounds that the weights use are there.
 pub(crate) fn all_there(setting: &Setting, weights: &Weights) -> Result<bool, NoFit>
-    ensures { result ≡ all_there_of setting.now weights.now }
+    ensures { result ≡ all_there setting.now weights.now }
 {
     if !are_there(setting, Kind::OfRow, weights.rows().as_slice())? {
         return Ok(false);
@@ -105,7 +105,7 @@ pub(crate) fn all_there(setting: &Setting, weights: &Weights) -> Result<bool, No
 
 // A total plus a weight times its bound.
 fn with_bound(setting: &Setting, kind: Kind, item: Item, total: Frac) -> Result<Frac, NoFit>
-    ensures { result ≡ with_bounds_of (bound_answer setting.now kind) total (item ∷ []) }
+    ensures { result ≡ with_bounds (bound_of setting.now kind) total (item ∷ []) }
 {
     match bound_of(setting, kind, item)? {
         None => Ok(total),
@@ -115,7 +115,7 @@ fn with_bound(setting: &Setting, kind: Kind, item: Item, total: Frac) -> Result<
 
 // A total plus each weight times its bound.
 fn with_bounds(setting: &Setting, kind: Kind, items: &[Item], start: Frac) -> Result<Frac, NoFit>
-    ensures { result ≡ with_bounds_of (bound_answer setting.now kind) start items.now }
+    ensures { result ≡ with_bounds (bound_of setting.now kind) start items.now }
 {
     let mut total = start;
     for item in items {
@@ -126,7 +126,7 @@ fn with_bounds(setting: &Setting, kind: Kind, items: &[Item], start: Frac) -> Re
 
 // The sum of weight times bound, from a total on.
 pub(crate) fn bound_sum(setting: &Setting, start: Frac, weights: &Weights) -> Result<Frac, NoFit>
-    ensures { result ≡ bound_sum_of setting.now start weights.now }
+    ensures { result ≡ bound_sum setting.now start weights.now }
 {
     let rows = with_bounds(setting, Kind::OfRow, weights.rows().as_slice(), start)?;
     let columns = with_bounds(setting, Kind::OfColumn, weights.columns().as_slice(), rows)?;

@@ -47,9 +47,6 @@ fields_line f word fs x read solid all text is n rest =
     let line = line_again f (word ++ blanked fs) x (ap f (fields_again word fs solid all) ∙ read) (line_inked word fs solid all) n rest in
     ap (λ (t : List ℕ). line_by f (left n (t ++ (10 ∷ rest)))) (sym is) ∙ line
 
-bind_is : {A B E : Type 0} (r : Result A E) (f : A → Result B E) (x : A) → r ≡ Ok x → (r >>= f) ≡ f x
-bind_is r f x h = ap (λ (q : Result _ _). q >>= f) h
-
 bind_assoc : {A B C E : Type 0} (r : Result A E) (f : A → Result B E) (g : B → Result C E) → (r >>= λ x. f x >>= g) ≡ ((r >>= f) >>= g)
 bind_assoc (Ok x) f g = refl
 bind_assoc (Err e) f g = refl

@@ -151,9 +151,6 @@ numbers_found law (suc n) (field ∷ fields) vs h =
     subst (λ (xs : List Rational). (blanked (field ∷ fields) ≡ numbers_text xs) × AllByRecursion (λ v. IsTrue (fits v)) xs) (made_of_is (a.0 ∷ b.0) vs b.2)
     (ap (λ (f : List ℕ). 32 ∷ (f ++ blanked fields)) first.0 ∙ ap (λ (t : List ℕ). 32 ∷ (text_of a.0 ++ t)) rest.0, (first.1, rest.1))
 
-entry_field : (i : ℕ) (v : Rational) (rest : List ℕ) → 32 ∷ ((decimal i ++ (58 ∷ text_of v)) ++ rest) ≡ (32 ∷ (decimal i ++ (58 ∷ text_of v))) ++ rest
-entry_field i v rest = refl
-
 form_found_from : Texts → (least : ℕ) (fields : List (List ℕ)) (es : List Entry) → form_of least fields ≡ Ok es → (blanked fields ≡ form_text es) × AllByRecursion (λ e. IsTrue (fits e.coefficient)) es
 unfolding form_of
 form_found_from law least [] es h = subst (λ (xs : List Entry). (blanked [] ≡ form_text xs) × AllByRecursion (λ e. IsTrue (fits e.coefficient)) xs) (made_of_is [] es h) (refl, tt)

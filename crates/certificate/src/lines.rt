@@ -1,7 +1,7 @@
 // The lines of a text.
 ghost use Rattle.std.specs.Prelude.{◌≡◌, ◌+◌, ◌<◌, ◌≤◌, ◌^◌, ◌∷◌, [], length, take, drop, MatchOption};
 ghost use Rattle.std.specs.List.{slice_split};
-ghost use Rattle.certificate.specs.Reading.{Rest, is_feed, next_of, is_over as are_over};
+ghost use Rattle.certificate.specs.Reading.{Rest, is_feed, next_of, is_over};
 ghost use Rattle.certificate.specs.Gives.{Reads, closing};
 
 use crate::fault::LineError;
@@ -89,7 +89,7 @@ impl<'a> Lines<'a> {
 
     // Nothing is left of the text.
     pub(crate) fn is_over(&self) -> bool
-        ensures { result ≡ are_over self.now.pieces }
+        ensures { result ≡ is_over self.now.pieces }
     {
         !self.more || self.bytes.is_empty()
     }

@@ -4,7 +4,7 @@ ghost use Rattle.std.specs.List.{AllByRecursion};
 ghost use Rattle.certificate.specs.Written.{IsNode};
 ghost use Rattle.certificate.specs.Values.{node_of};
 ghost use Rattle.certificate.specs.Ways.{IsLastTurn};
-ghost use Rattle.certificate.specs.Parents.{parent_to, parent_of, side_at, turn_under as turn_of};
+ghost use Rattle.certificate.specs.Parents.{parent_to, parent_of, side_at, turn_under};
 
 use crate::{Side, Split, Turn, Weights};
 use std::alloc::{AllocFailed, Global};
@@ -174,7 +174,7 @@ impl Tree {
 
 // The turn in a half of a branch.
 fn turn_under(node: &TreeNode, parent: Parent) -> Option<Turn>
-    ensures { result ≡ turn_of (node_of node.now) parent }
+    ensures { result ≡ turn_under (node_of node.now) parent }
 {
     match node {
         TreeNode::Branch(split) => Some(Turn {

@@ -1,7 +1,7 @@
 // The text of a certificate.
 ghost use Rattle.std.specs.Prelude.{◌≡◌, IfOk, string_bytes, map};
 ghost use Rattle.std.specs.Option.{option_map};
-ghost use Rattle.certificate.specs.Text.{certificate_text, head_text as head_text_of, body_text as body_text_of, value_text as value_text_of, point_text as point_text_of, shown_text as shown_text_of, derived_rows_text as derived_rows_text_of, derived_text as derived_text_of, proof_text as proof_text_of, form_split_text as form_split_text_of, node_text as node_text_of, tree_text as tree_text_of, weights_text as weights_text_of, items_text as items_text_of, item_text as item_text_of, form_text as form_text_of, entry_text as entry_text_of, numbers_text as numbers_text_of};
+ghost use Rattle.certificate.specs.Text.{certificate_text, head_text, body_text, value_text, point_text, shown_text, derived_rows_text, derived_text, proof_text, form_split_text, node_text, tree_text, weights_text, items_text, item_text, form_text, entry_text, numbers_text};
 ghost use Rattle.certificate.specs.Values.{verdict_of, proof_of, node_of};
 
 use crate::{Certificate, Derived, FormSplit, Item, Proof, TreeNode, Verdict, Weights};
@@ -22,13 +22,13 @@ pub fn text(alloc: Global, certificate: &Certificate) -> Result<Vec<u8>, AllocEr
 }
 
 fn head_text(alloc: Global, rows: u32, columns: u32) -> Result<String, AllocError>
-    ensures { IfOk result (λ text. string_bytes text ≡ head_text_of rows columns) }
+    ensures { IfOk result (λ text. string_bytes text ≡ head_text rows columns) }
 {
     format!(in alloc; "cert 1\nsize {rows} {columns}\n")
 }
 
 fn body_text(alloc: Global, certificate: &Certificate) -> Result<String, AllocError>
-    ensures { IfOk result (λ text. string_bytes text ≡ body_text_of certificate.now certificate.now.verdict) }
+    ensures { IfOk result (λ text. string_bytes text ≡ body_text certificate.now certificate.now.verdict) }
 {
     match certificate.verdict() {
         Verdict::Optimal => {
@@ -50,7 +50,7 @@ fn body_text(alloc: Global, certificate: &Certificate) -> Result<String, AllocEr
 }
 
 fn value_text(alloc: Global, value: Option<Frac>) -> Result<String, AllocError>
-    ensures { IfOk result (λ text. string_bytes text ≡ value_text_of value) }
+    ensures { IfOk result (λ text. string_bytes text ≡ value_text value) }
 {
     match value {
         None => Ok(String::new(alloc)),
@@ -62,7 +62,7 @@ fn value_text(alloc: Global, value: Option<Frac>) -> Result<String, AllocError>
 }
 
 fn point_text(alloc: Global, word: &str, point: Option<&Point>) -> Result<String, AllocError>
-    ensures { IfOk result (λ text. string_bytes text ≡ point_text_of word.now (option_map (λ p. p.now) point.entry)) }
+    ensures { IfOk result (λ text. string_bytes text ≡ point_text word.now (option_map (λ p. p.now) point.entry)) }
 {
     match point {
         None => Ok(String::new(alloc)),
@@ -74,7 +74,7 @@ fn point_text(alloc: Global, word: &str, point: Option<&Point>) -> Result<String
 }
 
 fn numbers_text(alloc: Global, numbers: &[Frac]) -> Result<String, AllocError>
-    ensures { IfOk result (λ text. string_bytes text ≡ numbers_text_of numbers.now) }
+    ensures { IfOk result (λ text. string_bytes text ≡ numbers_text numbers.now) }
 {
     let mut text = String::new(alloc);
     for number in numbers {
@@ -86,7 +86,7 @@ fn numbers_text(alloc: Global, numbers: &[Frac]) -> Result<String, AllocError>
 }
 
 fn shown_text(alloc: Global, certificate: &Certificate) -> Result<String, AllocError>
-    ensures { IfOk result (λ text. string_bytes text ≡ shown_text_of certificate.now.derived certificate.now.tree) }
+    ensures { IfOk result (λ text. string_bytes text ≡ shown_text certificate.now.derived certificate.now.tree) }
 {
     let rows = certificate.derived().as_slice();
     let count = rows.len();
@@ -96,7 +96,7 @@ fn shown_text(alloc: Global, certificate: &Certificate) -> Result<String, AllocE
 }
 
 fn derived_rows_text(alloc: Global, rows: &[Derived]) -> Result<String, AllocError>
-    ensures { IfOk result (λ text. string_bytes text ≡ derived_rows_text_of rows.now) }
+    ensures { IfOk result (λ text. string_bytes text ≡ derived_rows_text rows.now) }
 {
     let mut text = String::new(alloc);
     for row in rows {
@@ -107,7 +107,7 @@ fn derived_rows_text(alloc: Global, rows: &[Derived]) -> Result<String, AllocErr
 }
 
 fn derived_text(alloc: Global, row: &Derived) -> Result<String, AllocError>
-    ensures { IfOk result (λ text. string_bytes text ≡ derived_text_of row.now) }
+    ensures { IfOk result (λ text. string_bytes text ≡ derived_text row.now) }
 {
     let bound = row.bound().text(alloc)?;
     let form = form_text(alloc, row.form().as_slice())?;
@@ -116,7 +116,7 @@ fn derived_text(alloc: Global, row: &Derived) -> Result<String, AllocError>
 }
 
 fn proof_text(alloc: Global, proof: &Proof) -> Result<String, AllocError>
-    ensures { IfOk result (λ text. string_bytes text ≡ proof_text_of (proof_of proof.now)) }
+    ensures { IfOk result (λ text. string_bytes text ≡ proof_text (proof_of proof.now)) }
 {
     match proof {
         Proof::Plain(weights) => {
@@ -128,7 +128,7 @@ fn proof_text(alloc: Global, proof: &Proof) -> Result<String, AllocError>
 }
 
 fn form_split_text(alloc: Global, split: &FormSplit) -> Result<String, AllocError>
-    ensures { IfOk result (λ text. string_bytes text ≡ form_split_text_of split.now) }
+    ensures { IfOk result (λ text. string_bytes text ≡ form_split_text split.now) }
 {
     let at = split.at().to_frac().text(alloc)?;
     let form = form_text(alloc, split.form().as_slice())?;
@@ -140,7 +140,7 @@ fn form_split_text(alloc: Global, split: &FormSplit) -> Result<String, AllocErro
 }
 
 fn tree_text(alloc: Global, nodes: &[TreeNode]) -> Result<String, AllocError>
-    ensures { IfOk result (λ text. string_bytes text ≡ tree_text_of (map node_of nodes.now)) }
+    ensures { IfOk result (λ text. string_bytes text ≡ tree_text (map node_of nodes.now)) }
 {
     let mut text = String::new(alloc);
     for node in nodes {
@@ -151,7 +151,7 @@ fn tree_text(alloc: Global, nodes: &[TreeNode]) -> Result<String, AllocError>
 }
 
 fn node_text(alloc: Global, node: &TreeNode) -> Result<String, AllocError>
-    ensures { IfOk result (λ text. string_bytes text ≡ node_text_of (node_of node.now)) }
+    ensures { IfOk result (λ text. string_bytes text ≡ node_text (node_of node.now)) }
 {
     match node {
         TreeNode::Branch(split) => {
@@ -171,7 +171,7 @@ fn node_text(alloc: Global, node: &TreeNode) -> Result<String, AllocError>
 }
 
 fn weights_text(alloc: Global, weights: &Weights) -> Result<String, AllocError>
-    ensures { IfOk result (λ text. string_bytes text ≡ weights_text_of weights.now) }
+    ensures { IfOk result (λ text. string_bytes text ≡ weights_text weights.now) }
 {
     let rows = items_text(alloc, "r", weights.rows().as_slice())?;
     let columns = items_text(alloc, "c", weights.columns().as_slice())?;
@@ -180,7 +180,7 @@ fn weights_text(alloc: Global, weights: &Weights) -> Result<String, AllocError>
 }
 
 fn items_text(alloc: Global, kind: &str, items: &[Item]) -> Result<String, AllocError>
-    ensures { IfOk result (λ text. string_bytes text ≡ items_text_of kind.now items.now) }
+    ensures { IfOk result (λ text. string_bytes text ≡ items_text kind.now items.now) }
 {
     let mut text = String::new(alloc);
     for item in items {
@@ -191,7 +191,7 @@ fn items_text(alloc: Global, kind: &str, items: &[Item]) -> Result<String, Alloc
 }
 
 fn item_text(alloc: Global, kind: &str, item: Item) -> Result<String, AllocError>
-    ensures { IfOk result (λ text. string_bytes text ≡ item_text_of kind.now item) }
+    ensures { IfOk result (λ text. string_bytes text ≡ item_text kind.now item) }
 {
     let index = u64::from(item.index) + 1;
     let weight = item.weight.text(alloc)?;
@@ -199,7 +199,7 @@ fn item_text(alloc: Global, kind: &str, item: Item) -> Result<String, AllocError
 }
 
 fn form_text(alloc: Global, form: &[Entry]) -> Result<String, AllocError>
-    ensures { IfOk result (λ text. string_bytes text ≡ form_text_of form.now) }
+    ensures { IfOk result (λ text. string_bytes text ≡ form_text form.now) }
 {
     let mut text = String::new(alloc);
     for entry in form {
@@ -210,7 +210,7 @@ fn form_text(alloc: Global, form: &[Entry]) -> Result<String, AllocError>
 }
 
 fn entry_text(alloc: Global, entry: Entry) -> Result<String, AllocError>
-    ensures { IfOk result (λ text. string_bytes text ≡ entry_text_of entry) }
+    ensures { IfOk result (λ text. string_bytes text ≡ entry_text entry) }
 {
     let index = u64::from(entry.column) + 1;
     let coefficient = entry.coefficient.text(alloc)?;

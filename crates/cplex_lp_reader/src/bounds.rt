@@ -7,7 +7,7 @@ ghost use Rattle.cplex_lp_reader.specs.Grammar.{signed};
 ghost use Rattle.cplex_lp_reader.specs.declared.place.Place.TheVariants as place;
 ghost use Rattle.cplex_lp_reader.specs.declared.place.Limit.TheVariants.{Finite};
 ghost use Rattle.cplex_lp_reader.specs.Declaration.{at_place};
-ghost use Rattle.cplex_lp_reader.specs.Bounds.{is_infinity as is_infinity_word, infinite as infinite_limit, is_possible as is_possible_bound, turned as turned_relation, bound_word as word_of_bound, with_right_bound as with_bound_on_right, at_bound_start as start_of_bound, at_bound_left as left_of_bound, at_bound_relation as relation_of_bound, at_bound_name as name_of_bound, at_bound_compared as compared_bound, at_bound_named as named_bound, at_bound_right as right_of_bound, at_general as general_column, at_binary as binary_column};
+ghost use Rattle.cplex_lp_reader.specs.Bounds.{is_infinity, infinite, is_possible, turned, bound_word, with_right_bound, at_bound_start, at_bound_left, at_bound_relation, at_bound_name, at_bound_compared, at_bound_named, at_bound_right, at_general, at_binary};
 
 use crate::columns::mention_changed;
 use crate::declared_column::ColumnChange;
@@ -23,13 +23,13 @@ use crate::token::{Relation, Token, TokenKind};
 
 // `inf` and `infinity`, in any case of letters.
 fn is_infinity(text: &str) -> bool
-    ensures { result ≡ is_infinity_word text.now }
+    ensures { result ≡ is_infinity text.now }
 {
     is_word(text, "inf") || is_word(text, "infinity")
 }
 
 fn infinite(sign: Sign) -> Limit
-    ensures { result ≡ infinite_limit sign }
+    ensures { result ≡ infinite sign }
 {
     match sign {
         Sign::Unsigned => Limit::PlusInfinity,
@@ -40,7 +40,7 @@ fn infinite(sign: Sign) -> Limit
 
 // No lower bound is +inf and no upper bound -inf.
 fn is_possible(relation: Relation, limit: &Limit) -> bool
-    ensures { result ≡ is_possible_bound relation limit.now }
+    ensures { result ≡ is_possible relation limit.now }
 {
     match limit {
         Limit::Finite(_) => true,
@@ -57,7 +57,7 @@ fn is_possible(relation: Relation, limit: &Limit) -> bool
 
 // The relation read from its other side.
 fn turned(relation: Relation) -> Relation
-    ensures { result ≡ turned_relation relation }
+    ensures { result ≡ turned relation }
 {
     match relation {
         Relation::AtMost => Relation::AtLeast,
@@ -75,7 +75,7 @@ fn bound_word<'a>(
     token: &Token<'a>,
 ) -> Result<(), LpError>
     requires { IsWithinInstance profile.now }
-    ensures { Follows result draft.new (word_of_bound profile.now draft.old token.now) }
+    ensures { Follows result draft.new (bound_word profile.now draft.old token.now) }
 {
     if is_infinity(token.text()) {
         draft.set_place(Place::BoundRelation(Limit::PlusInfinity));
@@ -100,7 +100,7 @@ pub(crate) fn at_bound_start<'a>(
     token: &Token<'a>,
 ) -> Result<(), LpError>
     requires { IsWithinInstance profile.now }
-    ensures { Follows result draft.new (start_of_bound token.now.kind profile.now draft.old token.now) }
+    ensures { Follows result draft.new (at_bound_start token.now.kind profile.now draft.old token.now) }
 {
     match token.kind() {
         TokenKind::Word => bound_word(profile, draft, token),
@@ -119,7 +119,7 @@ pub(crate) fn at_bound_start<'a>(
 
 // `inf` after signs.
 fn left_infinity(draft: &mut Draft, sign: Sign, token: &Token) -> Result<(), LpError>
-    ensures { Follows result draft.new (left_of_bound TokenKind.Word draft.old sign token.now) }
+    ensures { Follows result draft.new (at_bound_left TokenKind.Word draft.old sign token.now) }
 {
     if is_infinity(token.text()) {
         draft.set_place(Place::BoundRelation(infinite(sign)));
@@ -131,7 +131,7 @@ fn left_infinity(draft: &mut Draft, sign: Sign, token: &Token) -> Result<(), LpE
 
 // The number on the left has signs alone.
 pub(crate) fn at_bound_left(draft: &mut Draft, sign: Sign, token: &Token) -> Result<(), LpError>
-    ensures { Follows result draft.new (left_of_bound token.now.kind draft.old sign token.now) }
+    ensures { Follows result draft.new (at_bound_left token.now.kind draft.old sign token.now) }
 {
     match token.kind() {
         TokenKind::Plus => {
@@ -155,7 +155,7 @@ fn left_relation(
     relation: Relation,
     token: &Token,
 ) -> Result<(), LpError>
-    ensures { Follows result draft.new (relation_of_bound (TokenKind.Compared relation) draft.old limit token.now) }
+    ensures { Follows result draft.new (at_bound_relation (TokenKind.Compared relation) draft.old limit token.now) }
 {
     if is_possible(turned(relation), &limit) {
         draft.set_place(Place::BoundName(limit, relation));
@@ -170,7 +170,7 @@ pub(crate) fn at_bound_relation(
     limit: Limit,
     token: &Token,
 ) -> Result<(), LpError>
-    ensures { Follows result draft.new (relation_of_bound token.now.kind draft.old limit token.now) }
+    ensures { Follows result draft.new (at_bound_relation token.now.kind draft.old limit token.now) }
 {
     match token.kind() {
         TokenKind::Compared(relation) => left_relation(draft, limit, relation, token),
@@ -189,7 +189,7 @@ fn name_word<'a>(
     token: &Token<'a>,
 ) -> Result<(), LpError>
     requires { IsWithinInstance profile.now }
-    ensures { Follows result draft.new (name_of_bound TokenKind.Word profile.now draft.old limit relation token.now) }
+    ensures { Follows result draft.new (at_bound_name TokenKind.Word profile.now draft.old limit relation token.now) }
 {
     if is_infinity(token.text()) {
         Err(misplaced(token))
@@ -208,7 +208,7 @@ pub(crate) fn at_bound_name<'a>(
     token: &Token<'a>,
 ) -> Result<(), LpError>
     requires { IsWithinInstance profile.now }
-    ensures { Follows result draft.new (name_of_bound token.now.kind profile.now draft.old limit relation token.now) }
+    ensures { Follows result draft.new (at_bound_name token.now.kind profile.now draft.old limit relation token.now) }
 {
     match token.kind() {
         TokenKind::Word => name_word(profile, draft, limit, relation, token),
@@ -224,7 +224,7 @@ pub(crate) fn at_bound_compared<'a>(
     token: &Token<'a>,
 ) -> Result<(), LpError>
     requires { IsWithinInstance profile.now }
-    ensures { Follows result draft.new (compared_bound token.now.kind profile.now draft.old column token.now) }
+    ensures { Follows result draft.new (at_bound_compared token.now.kind profile.now draft.old column token.now) }
 {
     match token.kind() {
         TokenKind::Compared(relation) => {
@@ -243,7 +243,7 @@ fn named_word<'a>(
     token: &Token<'a>,
 ) -> Result<(), LpError>
     requires { IsWithinInstance profile.now }
-    ensures { Follows result draft.new (named_bound TokenKind.Word profile.now draft.old column token.now) }
+    ensures { Follows result draft.new (at_bound_named TokenKind.Word profile.now draft.old column token.now) }
 {
     if is_word(token.text(), "free") {
         draft.change_column(column, ColumnChange::Freed);
@@ -262,7 +262,7 @@ pub(crate) fn at_bound_named<'a>(
     token: &Token<'a>,
 ) -> Result<(), LpError>
     requires { IsWithinInstance profile.now }
-    ensures { Follows result draft.new (named_bound token.now.kind profile.now draft.old column token.now) }
+    ensures { Follows result draft.new (at_bound_named token.now.kind profile.now draft.old column token.now) }
 {
     match token.kind() {
         TokenKind::Word => named_word(profile, draft, column, token),
@@ -279,7 +279,7 @@ fn with_right_bound(
     limit: Limit,
     token: &Token,
 ) -> Result<(), LpError>
-    ensures { Follows result draft.new (with_bound_on_right draft.old column relation limit token.now) }
+    ensures { Follows result draft.new (with_right_bound draft.old column relation limit token.now) }
 {
     if is_possible(relation, &limit) {
         draft.change_column(column, ColumnChange::Bounded(relation, limit));
@@ -297,7 +297,7 @@ fn right_literal(
     sign: Sign,
     token: &Token,
 ) -> Result<(), LpError>
-    ensures { Follows result draft.new (then_do (λ v. with_bound_on_right draft.old column relation (Finite (signed sign v)) token.now) (number_of token.now)) }
+    ensures { Follows result draft.new (then_do (λ v. with_right_bound draft.old column relation (Finite (signed sign v)) token.now) (number_of token.now)) }
 {
     let value = number_of_token(token)?;
     let limit = Limit::Finite(sign.signed(value));
@@ -312,7 +312,7 @@ fn right_infinity(
     sign: Sign,
     token: &Token,
 ) -> Result<(), LpError>
-    ensures { Follows result draft.new (right_of_bound TokenKind.Word draft.old column relation sign token.now) }
+    ensures { Follows result draft.new (at_bound_right TokenKind.Word draft.old column relation sign token.now) }
 {
     if is_infinity(token.text()) {
         with_right_bound(draft, column, relation, infinite(sign), token)
@@ -329,7 +329,7 @@ pub(crate) fn at_bound_right(
     sign: Sign,
     token: &Token,
 ) -> Result<(), LpError>
-    ensures { Follows result draft.new (right_of_bound token.now.kind draft.old column relation sign token.now) }
+    ensures { Follows result draft.new (at_bound_right token.now.kind draft.old column relation sign token.now) }
 {
     match token.kind() {
         TokenKind::Plus => {
@@ -354,7 +354,7 @@ pub(crate) fn at_general<'a>(
     token: &Token<'a>,
 ) -> Result<(), LpError>
     requires { IsWithinInstance profile.now }
-    ensures { Follows result draft.new (general_column token.now.kind profile.now draft.old token.now) }
+    ensures { Follows result draft.new (at_general token.now.kind profile.now draft.old token.now) }
 {
     match token.kind() {
         TokenKind::Word => mention_changed(
@@ -374,7 +374,7 @@ pub(crate) fn at_binary<'a>(
     token: &Token<'a>,
 ) -> Result<(), LpError>
     requires { IsWithinInstance profile.now }
-    ensures { Follows result draft.new (binary_column token.now.kind profile.now draft.old token.now) }
+    ensures { Follows result draft.new (at_binary token.now.kind profile.now draft.old token.now) }
 {
     match token.kind() {
         TokenKind::Word => mention_changed(

@@ -9,7 +9,7 @@ ghost use Rattle.cplex_lp_reader.specs.Grammar.{signed};
 ghost use Rattle.cplex_lp_reader.specs.declared.place.Place.TheVariants as place;
 ghost use Rattle.cplex_lp_reader.specs.declared.place.TermPlace.TheVariants.{Factor};
 ghost use Rattle.cplex_lp_reader.specs.Declaration.{at_place};
-ghost use Rattle.cplex_lp_reader.specs.Constraints.{row_opened, unnamed_row as row_without_name, unnamed_row_at as row_without_name_at, row_term as term_of_row, row_begun as begun_of_row, row_factor as factor_of_row, row_done as done_of_row, in_row_terms as in_form_of_row, may_follow as may_follow_left, at_row_name as name_of_row, at_row_start as start_of_row, at_row_colon as colon_of_row, at_row_first as first_of_row, at_row_number as number_of_row, at_row_right as right_of_row, row_closed, with_right};
+ghost use Rattle.cplex_lp_reader.specs.Constraints.{row_opened, unnamed_row, unnamed_row_at, row_term, row_begun, row_factor, row_done, in_row_terms, may_follow, at_row_name, at_row_start, at_row_colon, at_row_first, at_row_number, at_row_right, row_closed, with_right};
 
 use crate::columns::mention;
 use crate::draft::Draft;
@@ -75,7 +75,7 @@ fn unnamed_row(
     line: usize,
 ) -> Result<(), LpError>
     requires { IsWithinInstance profile.now }
-    ensures { Follows result draft.new (row_without_name profile.now line draft.old) }
+    ensures { Follows result draft.new (unnamed_row profile.now line draft.old) }
 {
     let name = default_name(alloc, draft.row_count())?;
     open_row(alloc, profile, draft, line, name)
@@ -90,7 +90,7 @@ fn unnamed_row_at(
     line: usize,
 ) -> Result<(), LpError>
     requires { IsWithinInstance profile.now }
-    ensures { Follows result draft.new (row_without_name_at place profile.now line draft.old) }
+    ensures { Follows result draft.new (unnamed_row_at place profile.now line draft.old) }
 {
     unnamed_row(alloc, profile, draft, line)?;
     draft.set_place(place);
@@ -107,7 +107,7 @@ fn row_term<'a>(
     token: &Token<'a>,
 ) -> Result<(), LpError>
     requires { IsWithinInstance profile.now }
-    ensures { Follows result draft.new (term_of_row profile.now value token.now draft.old) }
+    ensures { Follows result draft.new (row_term profile.now value token.now draft.old) }
 {
     let column = draft.place_of(token.text());
     mention(profile, draft, token)?;
@@ -130,7 +130,7 @@ fn row_begun<'a>(
     token: &Token<'a>,
 ) -> Result<(), LpError>
     requires { IsWithinInstance profile.now }
-    ensures { Follows result draft.new (begun_of_row token.now.kind profile.now draft.old sign token.now) }
+    ensures { Follows result draft.new (row_begun token.now.kind profile.now draft.old sign token.now) }
 {
     match token.kind() {
         TokenKind::Plus => {
@@ -155,7 +155,7 @@ fn row_factor<'a>(
     token: &Token<'a>,
 ) -> Result<(), LpError>
     requires { IsWithinInstance profile.now }
-    ensures { Follows result draft.new (factor_of_row token.now.kind profile.now draft.old value token.now) }
+    ensures { Follows result draft.new (row_factor token.now.kind profile.now draft.old value token.now) }
 {
     match token.kind() {
         TokenKind::Word => row_term(profile, draft, value, token),
@@ -165,7 +165,7 @@ fn row_factor<'a>(
 
 // Two relations have the same direction, and neither is `=`.
 fn may_follow(left: Option<Relation>, relation: Relation) -> bool
-    ensures { result ≡ may_follow_left left relation }
+    ensures { result ≡ may_follow left relation }
 {
     match left {
         None => true,
@@ -183,7 +183,7 @@ fn may_follow(left: Option<Relation>, relation: Relation) -> bool
 
 // The relation before the number on the row's right.
 fn row_relation(draft: &mut Draft, relation: Relation, token: &Token) -> Result<(), LpError>
-    ensures { Follows result draft.new (done_of_row (TokenKind.Compared relation) draft.old token.now) }
+    ensures { Follows result draft.new (row_done (TokenKind.Compared relation) draft.old token.now) }
 {
     if may_follow(draft.row_left(), relation) {
         draft.set_place(Place::RowRight(relation, Sign::Unsigned));
@@ -195,7 +195,7 @@ fn row_relation(draft: &mut Draft, relation: Relation, token: &Token) -> Result<
 
 // After a term.
 fn row_done(draft: &mut Draft, token: &Token) -> Result<(), LpError>
-    ensures { Follows result draft.new (done_of_row token.now.kind draft.old token.now) }
+    ensures { Follows result draft.new (row_done token.now.kind draft.old token.now) }
 {
     match token.kind() {
         TokenKind::Plus => {
@@ -218,7 +218,7 @@ pub(crate) fn in_row_terms<'a>(
     token: &Token<'a>,
 ) -> Result<(), LpError>
     requires { IsWithinInstance profile.now }
-    ensures { Follows result draft.new (in_form_of_row place profile.now draft.old token.now) }
+    ensures { Follows result draft.new (in_row_terms place profile.now draft.old token.now) }
 {
     match place {
         TermPlace::Begun(sign) => row_begun(profile, draft, sign, token),
@@ -252,7 +252,7 @@ fn unnamed_term<'a>(
     token: &Token<'a>,
 ) -> Result<(), LpError>
     requires { IsWithinInstance profile.now }
-    ensures { Follows result draft.new (then_do (term_of_row profile.now one_ℚ token.now) (row_without_name profile.now token.now.line draft.old)) }
+    ensures { Follows result draft.new (then_do (row_term profile.now one_ℚ token.now) (unnamed_row profile.now token.now.line draft.old)) }
 {
     unnamed_row(alloc, profile, draft, token.line())?;
     row_term(profile, draft, Frac::whole(1), token)
@@ -267,7 +267,7 @@ fn at_row_name<'a>(
     rest: &[Token],
 ) -> Result<(), LpError>
     requires { IsWithinInstance profile.now }
-    ensures { Follows result draft.new (name_of_row profile.now draft.old token.now rest.now) }
+    ensures { Follows result draft.new (at_row_name profile.now draft.old token.now rest.now) }
 {
     if is_before_colon(rest) {
         row_name(alloc, profile, draft, token)
@@ -284,7 +284,7 @@ fn unnamed_literal(
     token: &Token,
 ) -> Result<(), LpError>
     requires { IsWithinInstance profile.now }
-    ensures { Follows result draft.new (then_do (λ v. row_without_name_at (place.RowNumber v) profile.now token.now.line draft.old) (number_of token.now)) }
+    ensures { Follows result draft.new (then_do (λ v. unnamed_row_at (place.RowNumber v) profile.now token.now.line draft.old) (number_of token.now)) }
 {
     let value = number_of_token(token)?;
     unnamed_row_at(alloc, profile, draft, Place::RowNumber(value), token.line())
@@ -298,7 +298,7 @@ pub(crate) fn at_row_start<'a>(
     rest: &[Token],
 ) -> Result<(), LpError>
     requires { IsWithinInstance profile.now }
-    ensures { Follows result draft.new (start_of_row token.now.kind profile.now draft.old token.now rest.now) }
+    ensures { Follows result draft.new (at_row_start token.now.kind profile.now draft.old token.now rest.now) }
 {
     match token.kind() {
         TokenKind::Word => at_row_name(alloc, profile, draft, token, rest),
@@ -316,7 +316,7 @@ pub(crate) fn at_row_start<'a>(
 }
 
 pub(crate) fn at_row_colon(draft: &mut Draft, token: &Token) -> Result<(), LpError>
-    ensures { Follows result draft.new (colon_of_row draft.old token.now) }
+    ensures { Follows result draft.new (at_row_colon draft.old token.now) }
 {
     if token.kind().is_colon() {
         draft.set_place(Place::RowFirst(Sign::Unsigned));
@@ -342,7 +342,7 @@ pub(crate) fn at_row_first<'a>(
     token: &Token<'a>,
 ) -> Result<(), LpError>
     requires { IsWithinInstance profile.now }
-    ensures { Follows result draft.new (first_of_row token.now.kind profile.now draft.old sign token.now) }
+    ensures { Follows result draft.new (at_row_first token.now.kind profile.now draft.old sign token.now) }
 {
     match token.kind() {
         TokenKind::Plus => {
@@ -367,7 +367,7 @@ pub(crate) fn at_row_number<'a>(
     token: &Token<'a>,
 ) -> Result<(), LpError>
     requires { IsWithinInstance profile.now }
-    ensures { Follows result draft.new (number_of_row token.now.kind profile.now draft.old value token.now) }
+    ensures { Follows result draft.new (at_row_number token.now.kind profile.now draft.old value token.now) }
 {
     match token.kind() {
         TokenKind::Word => row_term(profile, draft, value, token),
@@ -437,7 +437,7 @@ pub(crate) fn at_row_right(
     token: &Token,
 ) -> Result<(), LpError>
     requires { IsWithinInstance profile.now }
-    ensures { Follows result draft.new (right_of_row token.now.kind profile.now draft.old relation sign token.now) }
+    ensures { Follows result draft.new (at_row_right token.now.kind profile.now draft.old relation sign token.now) }
 {
     match token.kind() {
         TokenKind::Plus => {

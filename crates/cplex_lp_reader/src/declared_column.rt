@@ -1,7 +1,7 @@
 // Columns of a declaration.
 ghost use Rattle.std.specs.Prelude.{◌≡◌};
 ghost use Rattle.cplex_lp_reader.specs.Declaration.{new_column};
-ghost use Rattle.cplex_lp_reader.specs.Bounds.{bound_of as bound_of_limit, bounded, freed, made_integer, made_binary, changed};
+ghost use Rattle.cplex_lp_reader.specs.Bounds.{bound_of, bounded, freed, made_integer, made_binary, changed};
 
 use crate::place::Limit;
 use crate::token::Relation;
@@ -122,7 +122,7 @@ impl<'a> DeclaredColumn<'a> {
 
 // An infinite bound is none.
 fn bound_of(limit: &Limit) -> Option<Frac>
-    ensures { result ≡ bound_of_limit limit.now }
+    ensures { result ≡ bound_of limit.now }
 {
     match limit {
         Limit::MinusInfinity => None,

@@ -9,7 +9,7 @@ ghost use Rattle.cplex_lp_reader.specs.Consistent.{HasForm, are_terms};
 ghost use Rattle.cplex_lp_reader.specs.declared.place.Place.TheVariants as place;
 ghost use Rattle.cplex_lp_reader.specs.declared.place.TermPlace.TheVariants.{Done};
 ghost use Rattle.cplex_lp_reader.specs.Declaration.{nothing_declared, at_place, added, entries_of, place_in, new_row, new_column, with_column, with_changed};
-ghost use Rattle.cplex_lp_reader.specs.Constraints.{is_row, blank_row, entry_count as entries_of_rows, with_left, with_right, filled};
+ghost use Rattle.cplex_lp_reader.specs.Constraints.{is_row, blank_row, entry_count, with_left, with_right, filled};
 ghost use Rattle.cplex_lp_reader.specs.Bounds.{changed};
 
 use crate::column_table::ColumnTable;
@@ -155,7 +155,7 @@ impl<'a> Draft<'a> {
     }
 
     pub(crate) fn entry_count(&self) -> usize
-        ensures value { result ≡ entries_of_rows self.now.rows }
+        ensures value { result ≡ entry_count self.now.rows }
         ensures few { result ≤ 2_000_000 }
     {
         self.rows.entry_count()
@@ -171,7 +171,7 @@ impl<'a> Draft<'a> {
         ensures value { result.now ≡ self.now.rows }
         ensures new { AreNew (map (λ (r : Row). r.name) self.now.rows) }
         ensures few { length self.now.rows ≤ 100_000 }
-        ensures entries { entries_of_rows self.now.rows ≤ 2_000_000 }
+        ensures entries { entry_count self.now.rows ≤ 2_000_000 }
         ensures forms { All (HasForm (length self.now.columns)) self.now.rows }
     {
         self.rows.as_slice()
@@ -247,7 +247,7 @@ impl<'a> Draft<'a> {
     // It is read to its end, and has these entries.
     pub(crate) fn close_row(&mut self, entries: Vec<Entry>)
         requires entries { entries.items ≡ entries_of self.old.open_row.form }
-        requires room { entries_of_rows self.old.rows + length entries.items ≤ 2_000_000 }
+        requires room { entry_count self.old.rows + length entries.items ≤ 2_000_000 }
         ensures { self.new ≡ record self.old { rows = with_changed (length self.old.rows - 1) (filled self.old.open_row) self.old.rows; place = place.RowStart } }
     {
         self.rows

@@ -1,7 +1,7 @@
 // The words and marks of a line.
 ghost use Rattle.std.specs.Prelude.{◌≡◌, ℕ, IsTrue, ◌+◌, ◌^◌, ◌<◌, ◌≤◌, ◌∷◌, length, drop};
 ghost use Rattle.std.specs.List.{position};
-ghost use Rattle.cplex_lp_reader.specs.Lexemes.{is_blank as blank, is_low_mark as low_mark, is_high_mark as high_mark, is_name_byte as name_byte, begins_name as name_begins, is_no_digit, is_no_name_byte, digits as digits_at_start, name_bytes as name_bytes_at_start, raised as raised_by, point_length as length_of_point, is_sign as sign_byte, is_exponent_mark as exponent_mark, after_mark as after_exponent_mark, exponent_length as length_of_exponent, places_length as length_of_places, mantissa_length as length_of_mantissa, literal_length as length_of_literal, relation_at as relation_here, mark_at as mark_here, lexeme_at as lexeme_here, next_is as next_byte_is, mark as mark_of, compared as compared_by, equality_at as equality_here, literal_or_mark as literal_or_mark_here};
+ghost use Rattle.cplex_lp_reader.specs.Lexemes.{is_blank, is_low_mark, is_high_mark, is_name_byte, begins_name, is_no_digit, is_no_name_byte, digits, name_bytes, raised, point_length, is_sign, is_exponent_mark, after_mark, exponent_length, places_length, mantissa_length, literal_length, relation_at, mark_at, lexeme_at, next_is, mark, compared, equality_at, literal_or_mark};
 
 use crate::token::{Relation, TokenKind};
 
@@ -15,45 +15,45 @@ pub(crate) struct Lexeme {
 // ---- bytes
 
 fn is_blank(b: u8) -> bool
-    ensures { result ≡ blank b }
+    ensures { result ≡ is_blank b }
 {
     b == b' ' || b == b'\t'
 }
 
 // ! " # $ % & ' ( ) , . /
 fn is_low_mark(b: u8) -> bool
-    ensures { result ≡ low_mark b }
+    ensures { result ≡ is_low_mark b }
 {
     (b' ' < b && b < b'*') || (b == b',' || (b == b'.' || b == b'/'))
 }
 
 // ; ? @ _ ` { | } ~
 fn is_high_mark(b: u8) -> bool
-    ensures { result ≡ high_mark b }
+    ensures { result ≡ is_high_mark b }
 {
     b == b';' || (b == b'?' || (b == b'@' || (b == b'_' || (b == b'`' || (b'z' < b && b < 127)))))
 }
 
 fn is_name_byte(b: u8) -> bool
-    ensures { result ≡ name_byte b }
+    ensures { result ≡ is_name_byte b }
 {
     b.is_ascii_alphanumeric() || (is_low_mark(b) || is_high_mark(b))
 }
 
 fn begins_name(b: u8) -> bool
-    ensures { result ≡ name_begins b }
+    ensures { result ≡ begins_name b }
 {
     is_name_byte(b) && !(b.is_ascii_digit() || b == b'.')
 }
 
 fn is_sign(b: u8) -> bool
-    ensures { result ≡ sign_byte b }
+    ensures { result ≡ is_sign b }
 {
     b == b'+' || b == b'-'
 }
 
 fn is_exponent_mark(b: u8) -> bool
-    ensures { result ≡ exponent_mark b }
+    ensures { result ≡ is_exponent_mark b }
 {
     b == b'e' || b == b'E'
 }
@@ -74,7 +74,7 @@ fn first_no_name_byte(text: &[u8]) -> Option<usize>
 
 // How many digits stand at the start.
 fn digits(text: &[u8]) -> usize
-    ensures value { result ≡ digits_at_start text.now }
+    ensures value { result ≡ digits text.now }
     ensures within { result ≤ length text.now }
 {
     match first_no_digit(text) {
@@ -85,7 +85,7 @@ fn digits(text: &[u8]) -> usize
 
 // How many bytes of a name stand at the start.
 fn name_bytes(text: &[u8]) -> usize
-    ensures value { result ≡ name_bytes_at_start text.now }
+    ensures value { result ≡ name_bytes text.now }
     ensures within { result ≤ length text.now }
 {
     match first_no_name_byte(text) {
@@ -104,7 +104,7 @@ pub(crate) fn after(text: &[u8], count: usize) -> &[u8]
 
 // The length of an exponent after its mark.
 fn after_mark(text: &[u8]) -> usize
-    ensures value { result ≡ after_exponent_mark text.now }
+    ensures value { result ≡ after_mark text.now }
     ensures within { result ≤ length text.now + 1 }
 {
     match text {
@@ -122,13 +122,13 @@ fn after_mark(text: &[u8]) -> usize
 // So many digits with what is before them, where there are digits.
 fn raised(before: usize, count: usize) -> usize
     requires { before + count < 2 ^ 64 }
-    ensures { result ≡ raised_by before count }
+    ensures { result ≡ raised before count }
 {
     if count == 0 { 0 } else { before + count }
 }
 
 fn exponent_length(text: &[u8]) -> usize
-    ensures value { result ≡ length_of_exponent text.now }
+    ensures value { result ≡ exponent_length text.now }
     ensures within { result ≤ length text.now }
 {
     match text {
@@ -146,7 +146,7 @@ fn exponent_length(text: &[u8]) -> usize
 // The length of a point and so many digits after it: one side has a digit.
 fn point_length(whole: usize, places: usize) -> usize
     requires { places < 2 ^ 63 }
-    ensures { result ≡ length_of_point whole places }
+    ensures { result ≡ point_length whole places }
 {
     if whole == 0 && places == 0 {
         0
@@ -157,7 +157,7 @@ fn point_length(whole: usize, places: usize) -> usize
 
 // The length of a point with digits after it, where so many stand before it.
 fn places_length(whole: usize, text: &[u8]) -> usize
-    ensures value { result ≡ length_of_places whole text.now }
+    ensures value { result ≡ places_length whole text.now }
     ensures within { result ≤ length text.now }
 {
     match text {
@@ -173,7 +173,7 @@ fn places_length(whole: usize, text: &[u8]) -> usize
 }
 
 fn mantissa_length(text: &[u8]) -> usize
-    ensures value { result ≡ length_of_mantissa text.now }
+    ensures value { result ≡ mantissa_length text.now }
     ensures within { result ≤ length text.now }
 {
     let whole = digits(text);
@@ -182,7 +182,7 @@ fn mantissa_length(text: &[u8]) -> usize
 
 // The length of the longest number at the start without sign; 0 where there is none.
 fn literal_length(text: &[u8]) -> usize
-    ensures value { result ≡ length_of_literal text.now }
+    ensures value { result ≡ literal_length text.now }
     ensures within { result ≤ length text.now }
 {
     let mantissa = mantissa_length(text);
@@ -196,7 +196,7 @@ fn literal_length(text: &[u8]) -> usize
 // ---- what stands at the start of a text
 
 fn mark(size: usize, kind: TokenKind) -> Lexeme
-    ensures value { result ≡ mark_of size kind }
+    ensures value { result ≡ mark size kind }
     ensures size { result.size ≡ size }
 {
     Lexeme {
@@ -206,7 +206,7 @@ fn mark(size: usize, kind: TokenKind) -> Lexeme
 }
 
 fn next_is(wanted: u8, text: &[u8]) -> bool
-    ensures value { result ≡ next_byte_is wanted text.now }
+    ensures value { result ≡ next_is wanted text.now }
     ensures more { IsTrue result → 1 ≤ length text.now }
 {
     match text {
@@ -217,7 +217,7 @@ fn next_is(wanted: u8, text: &[u8]) -> bool
 
 // A relation, of one byte or of two.
 fn compared(relation: Relation, two: bool) -> Lexeme
-    ensures value { result ≡ compared_by relation two }
+    ensures value { result ≡ compared relation two }
     ensures some { 0 < result.size }
     ensures within { (n : ℕ) → (IsTrue two → 1 ≤ n) → result.size ≤ 1 + n }
 {
@@ -226,7 +226,7 @@ fn compared(relation: Relation, two: bool) -> Lexeme
 
 // `=`, `=<` and `=>`.
 fn equality_at(rest: &[u8]) -> Lexeme
-    ensures value { result ≡ equality_here rest.now }
+    ensures value { result ≡ equality_at rest.now }
     ensures some { 0 < result.size }
     ensures within { result.size ≤ 1 + length rest.now }
 {
@@ -241,7 +241,7 @@ fn equality_at(rest: &[u8]) -> Lexeme
 
 // `<` and `<=`, `>` and `>=`, those of `=`, and a byte that begins nothing.
 fn relation_at(first: u8, rest: &[u8]) -> Lexeme
-    ensures value { result ≡ relation_here first rest.now }
+    ensures value { result ≡ relation_at first rest.now }
     ensures some { 0 < result.size }
     ensures within { result.size ≤ 1 + length rest.now }
 {
@@ -257,7 +257,7 @@ fn relation_at(first: u8, rest: &[u8]) -> Lexeme
 }
 
 fn mark_at(first: u8, rest: &[u8]) -> Lexeme
-    ensures value { result ≡ mark_here first rest.now }
+    ensures value { result ≡ mark_at first rest.now }
     ensures some { 0 < result.size }
     ensures within { result.size ≤ 1 + length rest.now }
 {
@@ -275,7 +275,7 @@ fn mark_at(first: u8, rest: &[u8]) -> Lexeme
 // A literal, or else a mark.
 fn literal_or_mark(first: u8, rest: &[u8], text: &[u8]) -> Lexeme
     requires { text.now ≡ first ∷ rest.now }
-    ensures value { result ≡ literal_or_mark_here (first ∷ rest.now) first rest.now }
+    ensures value { result ≡ literal_or_mark (first ∷ rest.now) first rest.now }
     ensures some { 0 < result.size }
     ensures within { result.size ≤ 1 + length rest.now }
 {
@@ -289,7 +289,7 @@ fn literal_or_mark(first: u8, rest: &[u8], text: &[u8]) -> Lexeme
 
 // What stands at the start of a text.
 pub(crate) fn lexeme_at(text: &[u8]) -> Lexeme
-    ensures value { result ≡ lexeme_here text.now }
+    ensures value { result ≡ lexeme_at text.now }
     ensures some { 0 < result.size }
     ensures within { 0 < length text.now → result.size ≤ length text.now }
 {

@@ -4,7 +4,7 @@ ghost use Rattle.std.specs.Option.{option_map};
 ghost use Rattle.std.specs.List.{slice_split, position};
 ghost use Rattle.std.specs.Str.{is_utf8};
 ghost use Rattle.std.specs.Str.Lines.{lines_of_parts, strip_carriage_return};
-ghost use Rattle.cplex_lp_reader.specs.Tokens.{lines_of, is_comment_mark, without_comment as text_without_comment, kept_text as text_kept};
+ghost use Rattle.cplex_lp_reader.specs.Tokens.{lines_of, is_comment_mark, without_comment, kept_text};
 
 use std::alloc::{AllocError, Global};
 
@@ -62,7 +62,7 @@ fn as_text(line: &[u8]) -> Option<&str>
 
 // A text; a byte that isn't UTF-8 is kept without text.
 pub(crate) fn kept_text(bytes: &[u8]) -> &str
-    ensures { result.now ≡ text_kept bytes.now }
+    ensures { result.now ≡ kept_text bytes.now }
 {
     match as_text(bytes) {
         Some(text) => text,
@@ -78,7 +78,7 @@ fn comment_mark(line: &[u8]) -> Option<usize>
 
 // What stands before a comment.
 pub(crate) fn without_comment(line: &[u8]) -> &[u8]
-    ensures { result.now ≡ text_without_comment line.now }
+    ensures { result.now ≡ without_comment line.now }
 {
     match comment_mark(line) {
         Some(place) => &line[..place],

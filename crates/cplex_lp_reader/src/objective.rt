@@ -5,7 +5,7 @@ ghost use Rattle.cplex_lp_reader.specs.Profile.{IsWithinInstance};
 ghost use Rattle.cplex_lp_reader.specs.Follows.{Follows};
 ghost use Rattle.cplex_lp_reader.specs.Steps.{then_do, number_of};
 ghost use Rattle.cplex_lp_reader.specs.Grammar.{signed};
-ghost use Rattle.cplex_lp_reader.specs.Objective.{objective_term as term_of_objective, with_constant as with_one_more_constant, objective_number as number_of_objective, objective_begun as begun_of_objective, objective_factor as factor_of_objective, objective_done as done_of_objective, in_objective as in_form_of_objective, at_objective_start as start_of_objective, at_objective_colon as colon_of_objective};
+ghost use Rattle.cplex_lp_reader.specs.Objective.{objective_term, with_constant, objective_number, objective_begun, objective_factor, objective_done, in_objective, at_objective_start, at_objective_colon};
 
 use crate::columns::mention;
 use crate::draft::Draft;
@@ -27,7 +27,7 @@ fn objective_term<'a>(
     token: &Token<'a>,
 ) -> Result<(), LpError>
     requires { IsWithinInstance profile.now }
-    ensures { Follows result draft.new (term_of_objective profile.now draft.old value token.now) }
+    ensures { Follows result draft.new (objective_term profile.now draft.old value token.now) }
 {
     let column = draft.place_of(token.text());
     mention(profile, draft, token)?;
@@ -35,7 +35,7 @@ fn objective_term<'a>(
 }
 
 fn with_constant(draft: &mut Draft, value: Frac, token: &Token) -> Result<(), LpError>
-    ensures { Follows result draft.new (with_one_more_constant draft.old value token.now) }
+    ensures { Follows result draft.new (with_constant draft.old value token.now) }
 {
     let sum = sum_at(token.line(), draft.constant(), value)?;
     draft.set_constant(sum);
@@ -49,7 +49,7 @@ fn objective_number(
     rest: &[Token],
     value: Frac,
 ) -> Result<(), LpError>
-    ensures { Follows result draft.new (number_of_objective draft.old token.now rest.now value) }
+    ensures { Follows result draft.new (objective_number draft.old token.now rest.now value) }
 {
     if is_before_name(rest) {
         draft.set_place(Place::Objective(TermPlace::Factor(value)));
@@ -65,7 +65,7 @@ fn objective_literal(
     token: &Token,
     rest: &[Token],
 ) -> Result<(), LpError>
-    ensures { Follows result draft.new (then_do (λ v. number_of_objective draft.old token.now rest.now (signed sign v)) (number_of token.now)) }
+    ensures { Follows result draft.new (then_do (λ v. objective_number draft.old token.now rest.now (signed sign v)) (number_of token.now)) }
 {
     let value = number_of_token(token)?;
     objective_number(draft, token, rest, sign.signed(value))
@@ -80,7 +80,7 @@ fn objective_begun<'a>(
     rest: &[Token],
 ) -> Result<(), LpError>
     requires { IsWithinInstance profile.now }
-    ensures { Follows result draft.new (begun_of_objective token.now.kind profile.now draft.old sign token.now rest.now) }
+    ensures { Follows result draft.new (objective_begun token.now.kind profile.now draft.old sign token.now rest.now) }
 {
     match token.kind() {
         TokenKind::Plus => {
@@ -105,7 +105,7 @@ fn objective_factor<'a>(
     token: &Token<'a>,
 ) -> Result<(), LpError>
     requires { IsWithinInstance profile.now }
-    ensures { Follows result draft.new (factor_of_objective token.now.kind profile.now draft.old value token.now) }
+    ensures { Follows result draft.new (objective_factor token.now.kind profile.now draft.old value token.now) }
 {
     match token.kind() {
         TokenKind::Word => objective_term(profile, draft, value, token),
@@ -115,7 +115,7 @@ fn objective_factor<'a>(
 
 // After a term.
 fn objective_done(draft: &mut Draft, token: &Token) -> Result<(), LpError>
-    ensures { Follows result draft.new (done_of_objective token.now.kind draft.old token.now) }
+    ensures { Follows result draft.new (objective_done token.now.kind draft.old token.now) }
 {
     match token.kind() {
         TokenKind::Plus => {
@@ -138,7 +138,7 @@ pub(crate) fn in_objective<'a>(
     rest: &[Token],
 ) -> Result<(), LpError>
     requires { IsWithinInstance profile.now }
-    ensures { Follows result draft.new (in_form_of_objective place profile.now draft.old token.now rest.now) }
+    ensures { Follows result draft.new (in_objective place profile.now draft.old token.now rest.now) }
 {
     match place {
         TermPlace::Begun(sign) => objective_begun(profile, draft, sign, token, rest),
@@ -157,7 +157,7 @@ pub(crate) fn at_objective_start<'a>(
     rest: &[Token],
 ) -> Result<(), LpError>
     requires { IsWithinInstance profile.now }
-    ensures { Follows result draft.new (start_of_objective profile.now draft.old token.now rest.now) }
+    ensures { Follows result draft.new (at_objective_start profile.now draft.old token.now rest.now) }
 {
     if token.kind().is_name() && is_before_colon(rest) {
         draft.name_objective(token.text());
@@ -168,7 +168,7 @@ pub(crate) fn at_objective_start<'a>(
 }
 
 pub(crate) fn at_objective_colon(draft: &mut Draft, token: &Token) -> Result<(), LpError>
-    ensures { Follows result draft.new (colon_of_objective draft.old token.now) }
+    ensures { Follows result draft.new (at_objective_colon draft.old token.now) }
 {
     if token.kind().is_colon() {
         draft.set_place(Place::Objective(TermPlace::Begun(Sign::Unsigned)));

@@ -1,7 +1,7 @@
 // Where in the grammar a text stands.
 ghost use Rattle.std.specs.Prelude.{◌≡◌};
-ghost use Rattle.cplex_lp_reader.specs.Grammar.{after_plus as sign_after_plus, after_minus as sign_after_minus, signed as signed_number};
-ghost use Rattle.cplex_lp_reader.specs.CplexLp.{ends_objective as objective_may_end, ends_section as section_may_end, is_start as is_at_start, is_ended as is_past_end};
+ghost use Rattle.cplex_lp_reader.specs.Grammar.{after_plus, after_minus, signed};
+ghost use Rattle.cplex_lp_reader.specs.CplexLp.{ends_objective, ends_section, is_start, is_ended};
 
 use crate::token::Relation;
 use fraction::Frac;
@@ -17,7 +17,7 @@ pub(crate) enum Sign {
 impl Sign {
     // With a plus more.
     pub(crate) fn after_plus(self) -> Sign
-        ensures { result ≡ sign_after_plus self }
+        ensures { result ≡ after_plus self }
     {
         match self {
             Sign::Unsigned => Sign::Plus,
@@ -28,7 +28,7 @@ impl Sign {
 
     // With a minus more, which turns it.
     pub(crate) fn after_minus(self) -> Sign
-        ensures { result ≡ sign_after_minus self }
+        ensures { result ≡ after_minus self }
     {
         match self {
             Sign::Unsigned => Sign::Minus,
@@ -39,7 +39,7 @@ impl Sign {
 
     // A number with this sign.
     pub(crate) fn signed(self, value: Frac) -> Frac
-        ensures { result ≡ signed_number self value }
+        ensures { result ≡ signed self value }
     {
         match self {
             Sign::Unsigned => value,
@@ -116,7 +116,7 @@ pub(crate) enum Place {
 impl Place {
     // The objective is read to its end, if no more of it comes.
     pub(crate) fn ends_objective(self) -> bool
-        ensures { result ≡ objective_may_end self }
+        ensures { result ≡ ends_objective self }
     {
         match self {
             Place::ObjectiveStart => true,
@@ -128,7 +128,7 @@ impl Place {
 
     // A section after the objective is read to its end, if no more of it comes.
     pub(crate) fn ends_section(self) -> bool
-        ensures { result ≡ section_may_end self }
+        ensures { result ≡ ends_section self }
     {
         match self {
             Place::RowStart => true,
@@ -142,7 +142,7 @@ impl Place {
     }
 
     pub(crate) fn is_start(self) -> bool
-        ensures { result ≡ is_at_start self }
+        ensures { result ≡ is_start self }
     {
         match self {
             Place::Start => true,
@@ -151,7 +151,7 @@ impl Place {
     }
 
     pub(crate) fn is_ended(self) -> bool
-        ensures { result ≡ is_past_end self }
+        ensures { result ≡ is_ended self }
     {
         match self {
             Place::Ended => true,

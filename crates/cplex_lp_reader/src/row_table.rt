@@ -3,7 +3,7 @@ ghost use Rattle.std.specs.Prelude.{◌≡◌, ◌+◌, ◌-◌, ◌<◌, ◌≤
 ghost use Rattle.milp.specs.Problem.{Row};
 ghost use Rattle.cplex_lp_reader.specs.Names.{AreNew};
 ghost use Rattle.cplex_lp_reader.specs.Declaration.{with_changed};
-ghost use Rattle.cplex_lp_reader.specs.Constraints.{is_row, blank_row, entry_count as entries_of_rows};
+ghost use Rattle.cplex_lp_reader.specs.Constraints.{is_row, blank_row, entry_count};
 
 use crate::row::DeclaredRow;
 use crate::row_names::RowNames;
@@ -53,7 +53,7 @@ impl RowTable {
     }
 
     pub(crate) fn entry_count(&self) -> usize
-        ensures value { result ≡ entries_of_rows self.now }
+        ensures value { result ≡ entry_count self.now }
         ensures few { result ≤ 2_000_000 }
     {
         self.count
@@ -64,7 +64,7 @@ impl RowTable {
         ensures value { result.now ≡ self.now }
         ensures new { AreNew (map (λ (r : Row). r.name) self.now) }
         ensures few { length self.now ≤ 100_000 }
-        ensures entries { entries_of_rows self.now ≤ 2_000_000 }
+        ensures entries { entry_count self.now ≤ 2_000_000 }
     {
         &self.rows
     }
@@ -97,7 +97,7 @@ impl RowTable {
         upper: Option<Frac>,
         entries: Vec<Entry>,
     )
-        requires { entries_of_rows self.old + length entries.items ≤ 2_000_000 }
+        requires { entry_count self.old + length entries.items ≤ 2_000_000 }
         ensures { self.new ≡ with_changed (length self.old - 1) (λ (r : Row). record r { lower = lower; upper = upper; entries = entries.items }) self.old }
     {
         let rows = self.rows.len();

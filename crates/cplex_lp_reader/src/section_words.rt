@@ -1,61 +1,61 @@
 // The words that begin sections.
 ghost use Rattle.std.specs.Prelude.{◌≡◌};
-ghost use Rattle.cplex_lp_reader.specs.Tokens.{is_word as is_one_word, begins_minimum as minimum_begins, begins_maximum as maximum_begins, begins_rows as rows_begin, begins_bounds as bounds_begin, begins_general as general_begins, begins_integer as integer_begins, begins_binary as binary_begins, section_of as section_of_word, begins_constraints as constraints_begin, begins_with_section as section_at_start, begins_with_two_words as two_words_at_start, with_first_as, without_second, with_section};
+ghost use Rattle.cplex_lp_reader.specs.Tokens.{is_word, begins_minimum, begins_maximum, begins_rows, begins_bounds, begins_general, begins_integer, begins_binary, section_of, begins_constraints, begins_with_section, begins_with_two_words, with_first_as, without_second, with_section};
 
 use crate::token::{Section, Token};
 
 // A text is this word, in any case of letters.
 pub(crate) fn is_word(text: &str, word: &str) -> bool
-    ensures { result ≡ is_one_word text.now word.now }
+    ensures { result ≡ is_word text.now word.now }
 {
     text.eq_ignore_ascii_case(word)
 }
 
 fn begins_minimum(text: &str) -> bool
-    ensures { result ≡ minimum_begins text.now }
+    ensures { result ≡ begins_minimum text.now }
 {
     is_word(text, "minimize") || (is_word(text, "minimum") || is_word(text, "min"))
 }
 
 fn begins_maximum(text: &str) -> bool
-    ensures { result ≡ maximum_begins text.now }
+    ensures { result ≡ begins_maximum text.now }
 {
     is_word(text, "maximize") || (is_word(text, "maximum") || is_word(text, "max"))
 }
 
 fn begins_rows(text: &str) -> bool
-    ensures { result ≡ rows_begin text.now }
+    ensures { result ≡ begins_rows text.now }
 {
     is_word(text, "st") || (is_word(text, "s.t.") || is_word(text, "st."))
 }
 
 fn begins_bounds(text: &str) -> bool
-    ensures { result ≡ bounds_begin text.now }
+    ensures { result ≡ begins_bounds text.now }
 {
     is_word(text, "bounds") || is_word(text, "bound")
 }
 
 fn begins_general(text: &str) -> bool
-    ensures { result ≡ general_begins text.now }
+    ensures { result ≡ begins_general text.now }
 {
     is_word(text, "general") || (is_word(text, "generals") || is_word(text, "gen"))
 }
 
 fn begins_integer(text: &str) -> bool
-    ensures { result ≡ integer_begins text.now }
+    ensures { result ≡ begins_integer text.now }
 {
     is_word(text, "integer") || (is_word(text, "integers") || is_word(text, "int"))
 }
 
 fn begins_binary(text: &str) -> bool
-    ensures { result ≡ binary_begins text.now }
+    ensures { result ≡ begins_binary text.now }
 {
     is_word(text, "binary") || (is_word(text, "binaries") || is_word(text, "bin"))
 }
 
 // The section that one word begins.
 fn section_of(text: &str) -> Option<Section>
-    ensures { result ≡ section_of_word text.now }
+    ensures { result ≡ section_of text.now }
 {
     if begins_minimum(text) {
         Some(Section::Minimize)
@@ -80,14 +80,14 @@ fn section_of(text: &str) -> Option<Section>
 
 // `subject to`, `such that`
 fn begins_constraints(first: &str, second: &str) -> bool
-    ensures { result ≡ constraints_begin first.now second.now }
+    ensures { result ≡ begins_constraints first.now second.now }
 {
     (is_word(first, "subject") && is_word(second, "to"))
         || (is_word(first, "such") && is_word(second, "that"))
 }
 
 fn begins_with_section(tokens: &[Token]) -> Option<Section>
-    ensures { result ≡ section_at_start tokens.now }
+    ensures { result ≡ begins_with_section tokens.now }
 {
     match tokens {
         [] => None,
@@ -102,7 +102,7 @@ fn begins_with_section(tokens: &[Token]) -> Option<Section>
 }
 
 fn begins_with_two_words(tokens: &[Token]) -> bool
-    ensures { result ≡ two_words_at_start tokens.now }
+    ensures { result ≡ begins_with_two_words tokens.now }
 {
     match tokens {
         [first, second, ..] => {

@@ -2,7 +2,7 @@
 ghost use Rattle.std.specs.Prelude.{◌≡◌};
 ghost use Rattle.cplex_lp_reader.specs.Profile.{IsWithinInstance};
 ghost use Rattle.cplex_lp_reader.specs.Follows.{Follows};
-ghost use Rattle.cplex_lp_reader.specs.CplexLp.{entered as entered_section, entered_integers as entered_integer_section, directed as directed_objective, at_section as at_section_words, in_section as in_section_at, by_kind, with_token, at_end as at_end_of_text};
+ghost use Rattle.cplex_lp_reader.specs.CplexLp.{entered, entered_integers, directed, at_section, in_section, by_kind, with_token, at_end};
 
 use crate::bounds::{
     at_binary, at_bound_compared, at_bound_left, at_bound_name, at_bound_named, at_bound_relation,
@@ -26,7 +26,7 @@ use std::alloc::Global;
 
 // Another section begins, if it may.
 fn enter(draft: &mut Draft, may: bool, next: Place, token: &Token) -> Result<(), LpError>
-    ensures { Follows result draft.new (entered_section may next draft.old token.now) }
+    ensures { Follows result draft.new (entered may next draft.old token.now) }
 {
     if may {
         draft.set_place(next);
@@ -43,7 +43,7 @@ fn enter_integers(
     next: Place,
     token: &Token,
 ) -> Result<(), LpError>
-    ensures { Follows result draft.new (entered_integer_section profile.now next draft.old token.now) }
+    ensures { Follows result draft.new (entered_integers profile.now next draft.old token.now) }
 {
     if !draft.place().ends_section() {
         return Err(misplaced(token));
@@ -57,7 +57,7 @@ fn enter_integers(
 
 // The objective comes first.
 fn direct(draft: &mut Draft, direction: Direction, token: &Token) -> Result<(), LpError>
-    ensures { Follows result draft.new (directed_objective direction draft.old token.now) }
+    ensures { Follows result draft.new (directed direction draft.old token.now) }
 {
     if draft.place().is_start() {
         draft.begin_objective(direction);
@@ -73,7 +73,7 @@ fn at_section(
     section: Section,
     token: &Token,
 ) -> Result<(), LpError>
-    ensures { Follows result draft.new (at_section_words section profile.now draft.old token.now) }
+    ensures { Follows result draft.new (at_section section profile.now draft.old token.now) }
 {
     match section {
         Section::Minimize => direct(draft, Direction::Min, token),
@@ -106,7 +106,7 @@ fn in_section<'a>(
     rest: &[Token],
 ) -> Result<(), LpError>
     requires { IsWithinInstance profile.now }
-    ensures { Follows result draft.new (in_section_at draft.old.place profile.now draft.old token.now rest.now) }
+    ensures { Follows result draft.new (in_section draft.old.place profile.now draft.old token.now rest.now) }
 {
     match draft.place() {
         Place::Start => Err(misplaced(token)),
@@ -173,7 +173,7 @@ pub(crate) fn read_token<'a>(
 
 // A missing `end` is accepted; another fault at the text's end is at the line after the last.
 pub(crate) fn at_end(draft: &mut Draft, line: usize) -> Result<(), LpError>
-    ensures { Follows result draft.new (at_end_of_text line draft.old) }
+    ensures { Follows result draft.new (at_end line draft.old) }
 {
     if draft.place().is_ended() {
         return Ok(());

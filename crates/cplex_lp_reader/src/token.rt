@@ -1,7 +1,7 @@
 // The tokens of a text.
 ghost use Rattle.std.specs.Prelude.{◌≡◌};
-ghost use Rattle.cplex_lp_reader.specs.Tokens.{as_section as as_section_words, is_name as is_name_kind};
-ghost use Rattle.cplex_lp_reader.specs.Grammar.{is_colon as is_colon_kind, is_before_colon as colon_is_next, is_before_name as name_is_next};
+ghost use Rattle.cplex_lp_reader.specs.Tokens.{as_section, is_name};
+ghost use Rattle.cplex_lp_reader.specs.Grammar.{is_colon, is_before_colon, is_before_name};
 
 use std::marker::Model;
 
@@ -41,7 +41,7 @@ pub(crate) enum TokenKind {
 
 impl TokenKind {
     pub(crate) fn is_name(self) -> bool
-        ensures { result ≡ is_name_kind self }
+        ensures { result ≡ is_name self }
     {
         match self {
             TokenKind::Word => true,
@@ -50,7 +50,7 @@ impl TokenKind {
     }
 
     pub(crate) fn is_colon(self) -> bool
-        ensures { result ≡ is_colon_kind self }
+        ensures { result ≡ is_colon self }
     {
         match self {
             TokenKind::Colon => true,
@@ -102,7 +102,7 @@ impl<'a> Token<'a> {
 
     // It is made the words of a section.
     pub(crate) fn make_section(&mut self, section: Section)
-        ensures { self.new ≡ as_section_words section self.old }
+        ensures { self.new ≡ as_section section self.old }
     {
         self.kind = TokenKind::SectionWords(section);
     }
@@ -110,7 +110,7 @@ impl<'a> Token<'a> {
 
 // A colon comes next.
 pub(crate) fn is_before_colon(rest: &[Token]) -> bool
-    ensures { result ≡ colon_is_next rest.now }
+    ensures { result ≡ is_before_colon rest.now }
 {
     match rest {
         [] => false,
@@ -120,7 +120,7 @@ pub(crate) fn is_before_colon(rest: &[Token]) -> bool
 
 // A name comes next.
 pub(crate) fn is_before_name(rest: &[Token]) -> bool
-    ensures { result ≡ name_is_next rest.now }
+    ensures { result ≡ is_before_name rest.now }
 {
     match rest {
         [] => false,

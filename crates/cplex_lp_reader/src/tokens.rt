@@ -1,6 +1,6 @@
 // The tokens of a text.
 ghost use Rattle.std.specs.Prelude.{◌≡◌, map, IfOk};
-ghost use Rattle.cplex_lp_reader.specs.Tokens.{tokens_of_line as tokens_of_one_line, tokens_of_lines as tokens_of_all_lines};
+ghost use Rattle.cplex_lp_reader.specs.Tokens.{tokens_of_line, tokens_of_lines};
 
 use crate::lines::without_comment;
 use crate::scan::scan;
@@ -9,7 +9,7 @@ use crate::token::Token;
 use std::alloc::{AllocError, Global};
 
 fn tokens_of_line(alloc: Global, line: usize, text: &[u8]) -> Result<Vec<Token<'_>>, AllocError>
-    ensures { IfOk result (λ tokens. tokens.items ≡ tokens_of_one_line line text.now) }
+    ensures { IfOk result (λ tokens. tokens.items ≡ tokens_of_line line text.now) }
 {
     let mut tokens = scan(alloc, line, without_comment(text))?;
     mark_section(&mut tokens);
@@ -21,7 +21,7 @@ pub(crate) fn tokens_of_lines<'a>(
     alloc: Global,
     lines: &[&'a [u8]],
 ) -> Result<Vec<Token<'a>>, AllocError>
-    ensures { IfOk result (λ tokens. tokens.items ≡ tokens_of_all_lines 1 (map (λ l. l.now) lines.now)) }
+    ensures { IfOk result (λ tokens. tokens.items ≡ tokens_of_lines 1 (map (λ l. l.now) lines.now)) }
 {
     let mut all = Vec::new(alloc);
     for i in 0..lines.len() {

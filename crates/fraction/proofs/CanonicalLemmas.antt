@@ -59,10 +59,6 @@ quotient_whole text e = ap quotient_in (one_piece is_slash text e)
 
 -- ---- numbers up to the limit
 
-map_map : {A B C : Type 0} (f : B → C) (g : A → B) (h : A → C) (o : Option A) → ((a : A) → f (g a) ≡ h a) → option_map f (option_map g o) ≡ option_map h o
-map_map f g h None e = refl
-map_map f g h (Some a) e = ap (λ x. Some x) (e a)
-
 if_map : {A B : Type 0} (f : A → B) (b : Bool) (x y : Option A) → option_map f (if b then x else y) ≡ (if b then option_map f x else option_map f y)
 if_map f true x y = refl
 if_map f false x y = refl
@@ -127,7 +123,3 @@ fraction_kept (Some q) k h =
     let same : kept_quotient q ≡ k = cc in
     ap (λ (x : Quotient). fraction_of (record { negative = x.negative; numerator = x.numerator; denominator = x.denominator })) (sym same)
     ∙ cases_kept q.negative q.numerator q.denominator (nat_le q.numerator part_max) (nat_le q.denominator part_max) refl refl
-
-pub fraction_none : (o : Option Written) → option_map kept_quotient o ≡ None → Err NotANumber ≡ fraction_or_fault o
-fraction_none None h = refl
-fraction_none (Some q) h = cc

@@ -135,9 +135,3 @@ digits_small (c ∷ cs) n h short = let below : n < (0 + 1) * 10 ^ 18 = digits_b
 digits_value : (sign : ℤ → ℤ) → IsSign sign → (ds : List ℕ) (n : ℕ) → digits_of ds ≡ Some n → length ds ≤ 18 → signed_value sign (literal_of ds) ≡ Ok (whole (sign (pos n)))
 digits_value sign is ds n h short =
     ap (signed_value sign) (literal_digits ds n h) ∙ decimal_value sign is (length ds) n (digits_small ds n h short) (n == 0) refl
-
-pub plus_value : (ds : List ℕ) (n : ℕ) → digits_of ds ≡ Some n → length ds ≤ 18 → signed_value (λ z. z) (literal_of ds) ≡ Ok (whole (pos n))
-plus_value ds n h short = digits_value (λ z. z) plus ds n h short
-
-pub minus_value : (ds : List ℕ) (n : ℕ) → digits_of ds ≡ Some n → length ds ≤ 18 → signed_value neg_ℤ (literal_of ds) ≡ Ok (whole (neg_ℤ (pos n)))
-minus_value ds n h short = digits_value neg_ℤ minus ds n h short

@@ -215,21 +215,6 @@ pub exponent_near : (cs : List ℕ) (w : ℤ) → clipped_exponent_of cs ≡ Som
 exponent_near [] w h = absurd cc
 exponent_near (c ∷ cs) w h = near_by (c == 45) (c == 43) c cs w h
 
-digits_none : (f g : ℕ → ℤ) (o : Option ℕ) → option_map f (option_map (clipped exponent_end) o) ≡ None → option_map g o ≡ None
-digits_none f g None h = refl
-digits_none f g (Some n) h = cc
-
-none_by : (minus plus : Bool) (c : ℕ) (cs : List ℕ)
-    → (if minus then option_map (λ n. neg_ℤ (pos n)) (clipped_digits_of exponent_end cs) else if plus then option_map pos (clipped_digits_of exponent_end cs) else option_map pos (clipped_digits_of exponent_end (c ∷ cs))) ≡ None
-    → (if minus then option_map (λ n. neg_ℤ (pos n)) (digits_of cs) else if plus then option_map pos (digits_of cs) else option_map pos (digits_of (c ∷ cs))) ≡ None
-none_by true plus c cs h = digits_none _ _ (digits_of cs) h
-none_by false true c cs h = digits_none _ _ (digits_of cs) h
-none_by false false c cs h = digits_none _ _ (digits_of (c ∷ cs)) h
-
-pub exponent_none : (cs : List ℕ) → clipped_exponent_of cs ≡ None → exponent_of cs ≡ None
-exponent_none [] h = refl
-exponent_none (c ∷ cs) h = none_by (c == 45) (c == 43) c cs h
-
 -- ---- powers
 
 within_past : (m : ℕ) (x : ℤ) → 38 < unsigned_abs x → power_within m x ≡ Err TooWide
@@ -305,9 +290,6 @@ signed_power sign (Some d) p h =
 power_none : (exponent : Option ℤ) (o : Option Written) → None ≡ option_map kept_mantissa o → Err NotANumber ≡ power_of (option_and_then (decimal_with exponent) o)
 power_none exponent None h = refl
 power_none exponent (Some a) h = absurd (not_some (kept_mantissa a) (sym h))
-
-pub no_exponent : (raised : List ℕ) (o : Option Written) → clipped_exponent_of raised ≡ None → Err NotANumber ≡ power_of (option_and_then (decimal_with (exponent_of raised)) o)
-no_exponent raised o h = sym (ap power_of (ap (λ e. option_and_then (decimal_with e) o) (exponent_none raised h) ∙ without_exponent o))
 
 pub no_mantissa : (exponent : Option ℤ) (text : List ℕ) → option_map kept_mantissa (mantissa_of text) ≡ None → Err NotANumber ≡ power_of (option_and_then (decimal_with exponent) (mantissa_of text))
 no_mantissa exponent text h = power_none exponent (mantissa_of text) (sym h)

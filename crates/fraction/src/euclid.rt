@@ -1,7 +1,7 @@
 // Greatest common divisors by halving and differences, and the order of two quotients.
 ghost use Rattle.std.specs.Prelude.{◌≡◌, ℕ, ◌*◌, ◌%◌, ◌<◌, ◌≤◌};
 ghost use Rattle.std.specs.Ordering.{nat_cmp};
-ghost use Rattle.integer.specs.Gcd.{gcd as gcd_of};
+ghost use Rattle.integer.specs.Gcd.{gcd};
 
 use std::cmp::Ordering;
 
@@ -10,7 +10,7 @@ const WORD_MAX: u128 = u64::MAX as u128;
 // The greatest common divisor of a and b, which is 0 only for two zeros. It goes on in words as soon
 // as a number fits one.
 pub fn gcd(a: u128, b: u128) -> u128
-    ensures { result ≡ gcd_of a b }
+    ensures { result ≡ gcd a b }
 {
     if a == 1 || b == 1 {
         return 1;
@@ -25,7 +25,7 @@ pub fn gcd(a: u128, b: u128) -> u128
 }
 
 fn gcd_with_word(a: u128, b: u64) -> u128
-    ensures { result ≡ gcd_of a b }
+    ensures { result ≡ gcd a b }
 {
     if b == 0 {
         a
@@ -37,7 +37,7 @@ fn gcd_with_word(a: u128, b: u64) -> u128
 }
 
 fn gcd_long(a: u128, b: u128) -> u128
-    ensures { result ≡ gcd_of a b }
+    ensures { result ≡ gcd a b }
 {
     if a == 0 {
         b
@@ -53,7 +53,7 @@ fn gcd_long(a: u128, b: u128) -> u128
 // As `gcd_odd`, until a number fits a word.
 fn gcd_odd_long(a: u128, b: u128) -> u128
     requires { a % 2 ≡ 1 }
-    ensures { result ≡ gcd_of a b }
+    ensures { result ≡ gcd a b }
 {
     let mut x = a;
     let mut y = b;
@@ -74,13 +74,13 @@ fn odd_part_long(n: u128) -> u128
     requires { 0 < n }
     ensures odd { result % 2 ≡ 1 }
     ensures small { result ≤ n }
-    ensures same { (x : ℕ) → x % 2 ≡ 1 → gcd_of x result ≡ gcd_of x n }
+    ensures same { (x : ℕ) → x % 2 ≡ 1 → gcd x result ≡ gcd x n }
 {
     n >> n.trailing_zeros()
 }
 
 fn gcd_words(a: u64, b: u64) -> u64
-    ensures { result ≡ gcd_of a b }
+    ensures { result ≡ gcd a b }
 {
     if a == 0 {
         b
@@ -96,7 +96,7 @@ fn gcd_words(a: u64, b: u64) -> u64
 // The greatest common divisor of an odd number and another, by differences of odd numbers.
 fn gcd_odd(a: u64, b: u64) -> u64
     requires { a % 2 ≡ 1 }
-    ensures value { result ≡ gcd_of a b }
+    ensures value { result ≡ gcd a b }
     ensures small { result ≤ a }
 {
     let mut x = a;
@@ -118,7 +118,7 @@ fn odd_part(n: u64) -> u64
     requires { 0 < n }
     ensures odd { result % 2 ≡ 1 }
     ensures small { result ≤ n }
-    ensures same { (x : ℕ) → x % 2 ≡ 1 → gcd_of x result ≡ gcd_of x n }
+    ensures same { (x : ℕ) → x % 2 ≡ 1 → gcd x result ≡ gcd x n }
 {
     n >> n.trailing_zeros()
 }

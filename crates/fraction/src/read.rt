@@ -3,8 +3,8 @@ ghost use Rattle.std.specs.Prelude.{◌≡◌, ℕ, ℤ, pos, neg_ℤ, ◌+◌, 
 ghost use Rattle.std.specs.Option.{option_map, option_and_then};
 ghost use Rattle.std.specs.List.{position};
 ghost use Rattle.fraction.specs.Fits.{part_max};
-ghost use Rattle.fraction.specs.Literal.{is_point, is_exponent_mark, mantissa_of, exponent_of, mantissa_with as mantissa_round, decimal_with, literal_of, read_of, signed_value, scaled as scaled_value};
-ghost use Rattle.fraction.specs.Reading.{significant_end, exponent_end, kept, with_digit as with_one_digit, kept_on, clipped_exponent_of, kept_mantissa, power_with, power_of, value_of, sign_of};
+ghost use Rattle.fraction.specs.Literal.{is_point, is_exponent_mark, mantissa_of, exponent_of, mantissa_with, decimal_with, literal_of, read_of, signed_value, scaled};
+ghost use Rattle.fraction.specs.Reading.{significant_end, exponent_end, kept, with_digit, kept_on, clipped_exponent_of, kept_mantissa, power_with, power_of, value_of, sign_of};
 
 use crate::digits::{after, digits_up_to};
 use crate::frac::{Frac, scaled};
@@ -104,7 +104,7 @@ impl Power {
     fn value(self, negative: bool) -> Result<Frac, ReadFault>
         requires number { self.number ≤ part_max }
         requires exponent { unsigned_abs self.exponent ≤ 38 }
-        ensures { result ≡ value_of (scaled_value (sign_of negative (pos self.number)) self.exponent) }
+        ensures { result ≡ value_of (scaled (sign_of negative (pos self.number)) self.exponent) }
     {
         let number = self.number as i128;
         let number = if negative { -number } else { number };
@@ -153,7 +153,7 @@ fn read_mantissa(text: &[u8]) -> Option<Mantissa>
 
 fn mantissa_with(digits: &[u8], places: &[u8]) -> Option<Mantissa>
     requires { length digits.now + length places.now < 2 ^ 64 }
-    ensures { result ≡ option_map kept_mantissa (mantissa_round (digits.now ++ places.now) (length places.now)) }
+    ensures { result ≡ option_map kept_mantissa (mantissa_with (digits.now ++ places.now) (length places.now)) }
 {
     if digits.len() + places.len() == 0 {
         return None;
@@ -174,7 +174,7 @@ impl Digits {
     // The digits with one more.
     fn with_digit(self, digit: u8) -> Digits
         requires { self.zeros + 1 < 2 ^ 64 }
-        ensures { result ≡ with_one_digit self digit }
+        ensures { result ≡ with_digit self digit }
     {
         if digit > 0 {
             Digits {

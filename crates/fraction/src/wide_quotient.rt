@@ -1,6 +1,6 @@
 // Products that may be too large for a fraction, and their sums with fractions.
 ghost use Rattle.std.specs.Prelude.{◌≡◌, ℕ, ℤ, pos, unsigned_abs, ◌+ℤ◌, ◌*ℤ◌, ◌*◌, ◌/◌, ◌+◌, ◌^◌, ◌<◌, ◌≤◌, IsTrue, SomeIff};
-ghost use Rattle.integer.specs.Gcd.{gcd as gcd_of};
+ghost use Rattle.integer.specs.Gcd.{gcd};
 ghost use Rattle.integer.specs.Lowest.{IsLowest};
 ghost use Rattle.rational.specs.Rational.{Rational, over, ◌+ℚ◌, ◌*ℚ◌};
 ghost use Rattle.fraction.specs.Fits.{part_max, fits};
@@ -120,7 +120,7 @@ fn scaled(number: Wide, factor: u128) -> Wide
 fn common_divisor(number: Wide, other: u128) -> u128
     requires positive { 0 < other }
     requires small { other ≤ part_max }
-    ensures value { result ≡ gcd_of number other }
+    ensures value { result ≡ gcd number other }
     ensures positive { 0 < result }
     ensures small { result ≤ part_max }
 {
@@ -147,8 +147,8 @@ fn signed_sum(left_negative: bool, left: Wide, right_negative: bool, right: Wide
 fn reduced(negative: bool, numerator: Wide, denominator: Wide, common: u128) -> Option<Frac>
     requires positive { 0 < common }
     requires small { common ≤ part_max }
-    requires lowest { IsLowest (signed negative (numerator / gcd_of numerator common)) (denominator / gcd_of numerator common) }
-    ensures { SomeIff result (IsTrue (fits (over (signed negative (numerator / gcd_of numerator common)) (denominator / gcd_of numerator common)))) (over (signed negative (numerator / gcd_of numerator common)) (denominator / gcd_of numerator common)) }
+    requires lowest { IsLowest (signed negative (numerator / gcd numerator common)) (denominator / gcd numerator common) }
+    ensures { SomeIff result (IsTrue (fits (over (signed negative (numerator / gcd numerator common)) (denominator / gcd numerator common)))) (over (signed negative (numerator / gcd numerator common)) (denominator / gcd numerator common)) }
 {
     let shared = common_divisor(numerator, common);
     let (size, _) = numerator.divided_by(shared);

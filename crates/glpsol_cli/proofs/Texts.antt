@@ -72,47 +72,9 @@ module _ (words : List (List ℕ)) (told : ToldNames) (name : List ℕ) (files_r
   load_cause (Undecided bases) h = absurd h
   load_cause (Refused part) h = absurd h
 
-pub load_early : (told : Option (Option (List ℕ))) (name : List ℕ) (files_rose : Type 0) (answer : Answer) → IsLoadFault told name files_rose answer → IsEarly answer
-load_early told name files_rose (Optimal d) h = absurd h
-load_early told name files_rose (Infeasible d) h = absurd h
-load_early told name files_rose (Unbounded d) h = absurd h
-load_early told name files_rose (WriteFault Out (Some d)) h = absurd h
-load_early told name files_rose (WriteFault Out None) h = absurd h
-load_early told name files_rose (WriteFault (File other) (Some d)) h = absurd h
-load_early told name files_rose (WriteFault (File other) None) h = absurd h
-load_early told name files_rose (NoMemory (Some d)) h = absurd h
-load_early told name files_rose (NoMemory None) h = tt
-load_early told name files_rose Translated h = absurd h
-load_early told name files_rose Accepted h = absurd h
-load_early told name files_rose Usage h = absurd h
-load_early told name files_rose (Missing other) h = tt
-load_early told name files_rose (OpenFault other) h = tt
-load_early told name files_rose (ReadFault other) h = tt
-load_early told name files_rose (TooLong other) h = tt
-load_early told name files_rose (BadFile fault) h = absurd h
-load_early told name files_rose (BadCertificate fault) h = absurd h
-load_early told name files_rose (Overflow (AtNode n) e) h = absurd h
-load_early told name files_rose (Overflow (InPart part) e) h = absurd h
-load_early told name files_rose (Undecided bases) h = absurd h
-load_early told name files_rose (Refused part) h = absurd h
-
 -- why there is no work, after the model's text
 pub work_cause : (words : List (List ℕ)) (told : ToldNames) (files_rose since_first : Type 0) → (files_rose → since_first) → (s : Settings) → settings_of words ≡ Some s → IsThere (told s.model)
     → (task : Task) → s.task ≡ task → (answer : Answer) → IsWorkFault told task files_rose answer → Cause words told since_first ⊥ answer
 work_cause words told files_rose since_first rose s asks there (CheckCertificate name) is answer h = load_cause words told name files_rose since_first rose (IsInTurn.of_certificate s asks there is) answer h
 work_cause words told files_rose since_first rose s asks there (Solve outputs) is answer h = absurd h
 work_cause words told files_rose since_first rose s asks there Translate is answer h = absurd h
-
-pub work_early : (told : ToldNames) (task : Task) (files_rose : Type 0) (answer : Answer) → IsWorkFault told task files_rose answer → IsEarly answer
-work_early told (CheckCertificate name) files_rose answer h = load_early (told name) name files_rose answer h
-work_early told (Solve outputs) files_rose answer h = absurd h
-work_early told Translate files_rose answer h = absurd h
-
--- why the words give no settings
-pub settings_cause : (words : List (List ℕ)) (told : ToldNames) (files_rose : Type 0) (answer : Answer) → (answer ≡ NoMemory None) ⊎ ((answer ≡ Usage) × (settings_of words ≡ None)) → Cause words told files_rose ⊥ answer
-settings_cause words told files_rose answer (inl e) = subst (Cause words told files_rose ⊥) (sym e) tt
-settings_cause words told files_rose answer (inr h) = subst (Cause words told files_rose ⊥) (sym h.0) h.1
-
-pub settings_early : (words : List (List ℕ)) (answer : Answer) → (answer ≡ NoMemory None) ⊎ ((answer ≡ Usage) × (settings_of words ≡ None)) → IsEarly answer
-settings_early words answer (inl e) = subst IsEarly (sym e) tt
-settings_early words answer (inr h) = subst IsEarly (sym h.0) tt

@@ -77,12 +77,6 @@ taken_back left before e lists more all split range old is =
     omega (arith, there, size) in
     (in_front, ap (without_form before) is ∙ sym (without_form-snoc before e lists) ∙ sym (ap (λ (es : List Entry). without_form es lists) split) ∙ old)
 
-pub last_in_range : (left before : List Entry) (e : Entry) (n : ℕ) → left ≡ before ++ e ∷ [] → All (λ (d : Entry). d.column < n) left → e.column < n
-last_in_range left before e n split range =
-    let inside : All (λ (d : Entry). d.column < n) (before ++ e ∷ []) = subst (λ (es : List Entry). All (λ (d : Entry). d.column < n) es) split range in
-    let P : Entry → Type 0 = λ x. x.column < n in
-    subst P (get_or-append_seam before e [] e) (inside (length before) e (omega (arith, length-append before (e ∷ []))))
-
 pub next_in_range : (i k : ℕ) (es : List Entry) (e : Entry) (old lists : List (List ColumnEntry)) → All (λ (d : Entry). d.column < length old) es → k < length es → e ≡ get_or es k e → lists ≡ with_form i (take k es) old → e.column < length lists
 next_in_range i k es e old lists range lt is now =
     let size : length lists ≡ length old = ap length now ∙ length-with_form i (take k es) old in

@@ -2,7 +2,7 @@
 ghost use Rattle.std.specs.Prelude.{◌≡◌, ◌+◌, ◌<◌, ◌≤◌, [], ◌∷◌, ◌++◌, length, IsTrue, false, true, OnOk, OnErr, IfOk, IfErr, codes};
 ghost use Rattle.rational.specs.Rational.{zero_ℚ};
 ghost use Rattle.milp.specs.declared.Direction.TheVariants.{Min};
-ghost use Rattle.instance.specs.WellFormed.{has_column as column_has_name, has_row as row_has_name, are_entries, entry_count, IsWellFormed};
+ghost use Rattle.instance.specs.WellFormed.{has_column, has_row, are_entries, entry_count, IsWellFormed};
 
 use crate::by_column::EntriesByColumn;
 use crate::{Column, Entries, Instance, Name, Row};
@@ -74,14 +74,14 @@ impl Builder {
 
     /// A column has this name. The call goes over all columns, so a reader of many keeps an index of its own.
     pub fn has_column(&self, name: &str) -> bool
-        ensures { result ≡ column_has_name name.now self.now.columns }
+        ensures { result ≡ has_column name.now self.now.columns }
     {
         has_column(&self.columns, name)
     }
 
     /// A row has this name. The call goes over all rows, as `has_column` does over columns.
     pub fn has_row(&self, name: &str) -> bool
-        ensures { result ≡ row_has_name name.now self.now.rows }
+        ensures { result ≡ has_row name.now self.now.rows }
     {
         has_row(&self.rows, name)
     }
@@ -89,7 +89,7 @@ impl Builder {
     /// One more column, and its place. `TooMany` comes exactly where the limit is reached; the column comes back
     /// with each fault.
     pub fn column(&mut self, column: Column) -> Result<u32, (Column, BuildFault)>
-        requires { column_has_name column.name self.old.columns ≡ false }
+        requires { has_column column.name self.old.columns ≡ false }
         ensures ok { OnOk result (self.new ≡ record self.old { columns = self.old.columns ++ column ∷ [] }) }
         ensures place { IfOk result (λ place. place ≡ length self.old.columns) }
         ensures room { IfOk result (λ _. length self.old.columns < MAX_COLUMNS) }
@@ -113,7 +113,7 @@ impl Builder {
     /// One more row, and its place. `TooMany` comes exactly where a limit is reached; the row comes back with each
     /// fault.
     pub fn row(&mut self, row: Row) -> Result<u32, (Row, BuildFault)>
-        requires name { row_has_name row.name self.old.rows ≡ false }
+        requires name { has_row row.name self.old.rows ≡ false }
         requires entries { IsTrue (are_entries (length self.old.columns) row.entries) }
         ensures ok { OnOk result (self.new ≡ record self.old { rows = self.old.rows ++ row ∷ [] }) }
         ensures place { IfOk result (λ place. place ≡ length self.old.rows) }
@@ -178,7 +178,7 @@ impl Builder {
 }
 
 fn has_column(columns: &[Column], name: &str) -> bool
-    ensures { result ≡ column_has_name name.now columns.now }
+    ensures { result ≡ has_column name.now columns.now }
 {
     for column in columns {
         if column.name().as_str() == name {
@@ -189,7 +189,7 @@ fn has_column(columns: &[Column], name: &str) -> bool
 }
 
 fn has_row(rows: &[Row], name: &str) -> bool
-    ensures { result ≡ row_has_name name.now rows.now }
+    ensures { result ≡ has_row name.now rows.now }
 {
     for row in rows {
         if row.name().as_str() == name {

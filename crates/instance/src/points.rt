@@ -5,8 +5,8 @@ ghost use Rattle.rational.specs.Rational.{zero_ℚ};
 ghost use Rattle.milp.specs.Form.{Entry as FormEntry, sum_at};
 ghost use Rattle.milp.specs.Problem.{Row as RowOf};
 ghost use Rattle.milp.specs.Points.{objective_value, Feasible};
-ghost use Rattle.verdicts.specs.Compare.{is_at_most, is_whole as is_whole_number};
-ghost use Rattle.verdicts.specs.Proves.{lies_above, lies_below, meets_columns as columns_met};
+ghost use Rattle.verdicts.specs.Compare.{is_at_most, is_whole};
+ghost use Rattle.verdicts.specs.Proves.{lies_above, lies_below, meets_columns};
 ghost use Rattle.instance.specs.WellFormed.{are_entries};
 ghost use Rattle.instance.specs.Sums.{step_answer, sum_answer, form_of, value_answer, rows_answer, meets_answer};
 
@@ -55,7 +55,7 @@ pub fn meets(instance: &Instance, point: &Point) -> Result<bool, NoFit>
 
 // The numbers are as many as the columns, inside their bounds, and whole where they are.
 fn meets_columns(columns: &[Column], x: &[Frac]) -> bool
-    ensures { result ≡ columns_met false columns.now x.now }
+    ensures { result ≡ meets_columns false columns.now x.now }
 {
     let mut i = 0;
     while i < columns.len() {
@@ -121,7 +121,7 @@ fn at_most(a: Frac, b: Frac) -> bool
 }
 
 fn is_whole(v: Frac) -> bool
-    ensures { result ≡ is_whole_number v }
+    ensures { result ≡ is_whole v }
 {
     v.parts().1 == 1
 }

@@ -35,9 +35,6 @@ mul_add a b c = omega (arith, ints, ap (λ n. up a * n) (sum_is_lem b c), ap (λ
 pub add_mul : (a b c : ℤ) → (a +ℤ b) *ℤ c ≡ a *ℤ c +ℤ b *ℤ c
 add_mul a b c = omega (arith, ints, ap (λ n. n * up c) (sum_is_lem a b), ap (λ n. n * down c) (sum_is_lem a b))
 
-pub pos-mul : (a b : ℕ) → pos (a * b) ≡ pos a *ℤ pos b
-pos-mul a b = refl
-
 pub mul_pos-mono : (a b : ℤ) (k : ℕ) → a ≤ℤ b → (a *ℤ pos k) ≤ℤ (b *ℤ pos k)
 mul_pos-mono a b k h = omega (arith, ints, mul-le-mul_right k (le_out a b h))
 

@@ -295,10 +295,6 @@ same-columns : (columns : List Column) (rows : List Row) (objective : Option Dec
 same-columns columns rows None = refl
 same-columns columns rows (Some objective) = refl
 
-same-rows : (columns : List Column) (rows : List Row) (objective : Option DeclaredRow) → (problem_with columns rows objective).rows ≡ rows
-same-rows columns rows None = refl
-same-rows columns rows (Some objective) = refl
-
 element-of-all : {X : Type 0} (P : X → Type 0) (xs : List X) → All P xs → (j : ℕ) → IfSome (slice_get xs j) P
 element-of-all P [] a j = tt
 element-of-all P (x ∷ xs) a zero = All-head P x xs a

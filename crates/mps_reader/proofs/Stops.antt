@@ -13,14 +13,3 @@ use Rattle.mps_reader.specs.Follows.{Follows, number_or_fault, range_or_fault}
 pub stops : (e : LineError) (middle new : Declaration) (answer : Result Declaration FaultKind) (f : Declaration → Result Declaration FaultKind) → Follows (Err e) middle answer → Follows (Err e) new (then_do f answer)
 stops (Fault kind) middle new answer f h = rw h refl
 stops NoMemory middle new answer f h = h
-
-pub number-stops : (e : LineError) (new : Declaration) (answer : Result Rational ReadFault) (f : Rational → Result Declaration FaultKind) → Err e ≡ number_or_fault answer → Follows (Err e) new (with_number f answer)
-number-stops (Fault kind) new (Ok value) f h = cc
-number-stops (Fault kind) new (Err fault) f h = cc
-number-stops NoMemory new answer f h = tt
-
-pub range-stops : (e : LineError) (new : Declaration) (answer : Result RowRange FaultKind) (f : RowRange → Result Declaration FaultKind) → Err e ≡ range_or_fault answer → Follows (Err e) new (then_do f answer)
-range-stops (Fault kind) new (Ok range) f h = cc
-range-stops (Fault kind) new (Err fault) f h = cc
-range-stops NoMemory new (Ok range) f h = tt
-range-stops NoMemory new (Err fault) f h = tt

@@ -1,7 +1,7 @@
 // Bounds of columns.
 ghost use Rattle.std.specs.Prelude.{◌≡◌};
 ghost use Rattle.std.specs.Option.{option_map};
-ghost use Rattle.mps_reader.specs.RhsRangesBounds.{bound_kind_of, has_value as kind_has_value, makes_integer as kind_makes_integer};
+ghost use Rattle.mps_reader.specs.RhsRangesBounds.{bound_kind_of, has_value, makes_integer};
 
 // LO, UP, FX, LI, UI, FR, MI, PL and BV.
 #[derive(Clone, Copy)]
@@ -46,7 +46,7 @@ impl BoundKind {
 
     // A number belongs to it.
     pub(crate) fn has_value(self) -> bool
-        ensures { result ≡ kind_has_value self }
+        ensures { result ≡ has_value self }
     {
         match self {
             BoundKind::Lower
@@ -61,7 +61,7 @@ impl BoundKind {
 
     // It makes its column an integer one.
     pub(crate) fn makes_integer(self) -> bool
-        ensures { result ≡ kind_makes_integer self }
+        ensures { result ≡ makes_integer self }
     {
         match self {
             BoundKind::IntegerLower | BoundKind::IntegerUpper | BoundKind::Binary => true,

@@ -2,7 +2,7 @@
 ghost use Rattle.std.specs.Prelude.{◌≡◌, map, None, Some};
 ghost use Rattle.std.specs.Option.{option_map};
 ghost use Rattle.mps_reader.specs.Follows.{Follows, number_or_fault};
-ghost use Rattle.mps_reader.specs.RhsRangesBounds.{bound_line as bound_line_of, bound_of_kind as bound_line_of_kind, bound_with_fields, bound_on_column as bound_on, bound_value as value_of_bound, with_bound as with_bound_on};
+ghost use Rattle.mps_reader.specs.RhsRangesBounds.{bound_line, bound_of_kind, bound_with_fields, bound_on_column, bound_value, with_bound};
 
 use crate::bound::BoundKind;
 use crate::draft::Draft;
@@ -18,7 +18,7 @@ pub(crate) fn bound_line<'a>(
     draft: &mut Draft<'a>,
     fields: &[&'a str],
 ) -> Result<(), LineError>
-    ensures { Follows result draft.new (bound_line_of profile.now draft.old (map (λ f. f.now) fields.now)) }
+    ensures { Follows result draft.new (bound_line profile.now draft.old (map (λ f. f.now) fields.now)) }
 {
     match fields {
         [] => Err(LineError::Fault(FaultKind::BadLine)),
@@ -36,7 +36,7 @@ fn bound_of_kind<'a>(
     kind: BoundKind,
     fields: &[&'a str],
 ) -> Result<(), LineError>
-    ensures { Follows result draft.new (bound_line_of_kind profile.now draft.old (Some kind) (map (λ f. f.now) fields.now)) }
+    ensures { Follows result draft.new (bound_of_kind profile.now draft.old (Some kind) (map (λ f. f.now) fields.now)) }
 {
     match fields {
         [set, column, number] => {
@@ -84,7 +84,7 @@ fn bound_on_column(
     column: &str,
     number: Option<&str>,
 ) -> Result<(), LineError>
-    ensures { Follows result draft.new (bound_on profile.now draft.old kind (record { set = None; column = column.now; number = option_map (λ n. n.now) number.entry })) }
+    ensures { Follows result draft.new (bound_on_column profile.now draft.old kind (record { set = None; column = column.now; number = option_map (λ n. n.now) number.entry })) }
 {
     if !draft.has_column(column) {
         return Err(LineError::Fault(FaultKind::Unknown));
@@ -95,7 +95,7 @@ fn bound_on_column(
 
 // A number that isn't there isn't used.
 fn bound_value(number: Option<&str>) -> Result<Frac, LineError>
-    ensures { result ≡ number_or_fault (value_of_bound (option_map (λ n. n.now) number.entry)) }
+    ensures { result ≡ number_or_fault (bound_value (option_map (λ n. n.now) number.entry)) }
 {
     match number {
         None => Ok(Frac::whole(0)),
@@ -111,7 +111,7 @@ fn with_bound(
     column: &str,
     value: Frac,
 ) -> Result<(), LineError>
-    ensures { Follows result draft.new (with_bound_on profile.now draft.old kind column.now value) }
+    ensures { Follows result draft.new (with_bound profile.now draft.old kind column.now value) }
 {
     if kind.makes_integer() && !profile.takes_integers {
         return Err(LineError::Fault(FaultKind::IntegersNotYet));

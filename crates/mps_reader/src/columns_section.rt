@@ -5,7 +5,7 @@ ghost use Rattle.mps_reader.specs.Profile.{IsWithinInstance};
 ghost use Rattle.mps_reader.specs.Follows.{Follows};
 ghost use Rattle.mps_reader.specs.Steps.{then_do, with_number};
 ghost use Rattle.fraction.specs.Literal.{read_of};
-ghost use Rattle.mps_reader.specs.RowsAndColumns.{marker_of as marker_of_word, begins_with_marker as begins_with_marker_word, is_marker as is_marker_line, with_integers, turned, marker_line as marker_line_of, at_column as at_column_name, with_entry as with_value, at_value as at_value_field, at_row as at_row_named, at_entry as at_first_fields, after_pair as after_two, at_second_entry as at_more_fields, at_entries as at_all_fields, column_line as column_line_of};
+ghost use Rattle.mps_reader.specs.RowsAndColumns.{marker_of, begins_with_marker, is_marker, with_integers, turned, marker_line, at_column, with_entry, at_value, at_row, at_entry, after_pair, at_second_entry, at_entries, column_line};
 
 use crate::draft::Draft;
 use crate::error::LineError;
@@ -22,7 +22,7 @@ pub(crate) fn column_line<'a>(
     fields: &[&'a str],
 ) -> Result<(), LineError>
     requires { IsWithinInstance profile.now }
-    ensures { Follows result draft.new (column_line_of profile.now draft.old (map (λ f. f.now) fields.now)) }
+    ensures { Follows result draft.new (column_line profile.now draft.old (map (λ f. f.now) fields.now)) }
 {
     match fields {
         [] => Err(LineError::Fault(FaultKind::BadLine)),
@@ -37,7 +37,7 @@ fn named_line<'a>(
     fields: &[&'a str],
 ) -> Result<(), LineError>
     requires { IsWithinInstance profile.now }
-    ensures { Follows result draft.new (column_line_of profile.now draft.old (name.now ∷ map (λ f. f.now) fields.now)) }
+    ensures { Follows result draft.new (column_line profile.now draft.old (name.now ∷ map (λ f. f.now) fields.now)) }
 {
     if is_marker(draft, fields) {
         marker_line(profile, draft, fields)
@@ -53,7 +53,7 @@ fn entry_line<'a>(
     fields: &[&'a str],
 ) -> Result<(), LineError>
     requires { IsWithinInstance profile.now }
-    ensures { Follows result draft.new (then_do (at_all_fields profile.now (map (λ f. f.now) fields.now)) (at_column_name profile.now draft.old name.now)) }
+    ensures { Follows result draft.new (then_do (at_entries profile.now (map (λ f. f.now) fields.now)) (at_column profile.now draft.old name.now)) }
 {
     at_column(profile, draft, name)?;
     at_entries(profile, draft, fields)
@@ -63,7 +63,7 @@ fn entry_line<'a>(
 
 // Whether INTORG, which begins integer columns, or INTEND, which ends them.
 fn marker_of(word: &str) -> Option<bool>
-    ensures { result ≡ marker_of_word word.now }
+    ensures { result ≡ marker_of word.now }
 {
     if word == "'INTORG'" {
         Some(true)
@@ -75,7 +75,7 @@ fn marker_of(word: &str) -> Option<bool>
 }
 
 fn begins_with_marker(fields: &[&str]) -> bool
-    ensures { result ≡ begins_with_marker_word (map (λ f. f.now) fields.now) }
+    ensures { result ≡ begins_with_marker (map (λ f. f.now) fields.now) }
 {
     match fields {
         [] => false,
@@ -85,7 +85,7 @@ fn begins_with_marker(fields: &[&str]) -> bool
 
 // By the fields after the first; where a row is named 'MARKER', only a whole marker is one.
 fn is_marker(draft: &Draft, fields: &[&str]) -> bool
-    ensures { result ≡ is_marker_line draft.now (map (λ f. f.now) fields.now) }
+    ensures { result ≡ is_marker draft.now (map (λ f. f.now) fields.now) }
 {
     match fields {
         [] => false,
@@ -96,7 +96,7 @@ fn is_marker(draft: &Draft, fields: &[&str]) -> bool
 }
 
 fn marker_line(profile: &Profile, draft: &mut Draft, fields: &[&str]) -> Result<(), LineError>
-    ensures { Follows result draft.new (marker_line_of profile.now draft.old (map (λ f. f.now) fields.now)) }
+    ensures { Follows result draft.new (marker_line profile.now draft.old (map (λ f. f.now) fields.now)) }
 {
     match fields {
         [_, marker, rest @ ..] => match marker_of(marker) {
@@ -126,7 +126,7 @@ fn turn(profile: &Profile, draft: &mut Draft, begins: bool, rest: &[&str]) -> Re
 // A new name begins a column, and the name of the current one goes on with it.
 fn at_column<'a>(profile: &Profile, draft: &mut Draft<'a>, name: &'a str) -> Result<(), LineError>
     requires { IsWithinInstance profile.now }
-    ensures { Follows result draft.new (at_column_name profile.now draft.old name.now) }
+    ensures { Follows result draft.new (at_column profile.now draft.old name.now) }
 {
     if draft.has_column(name) {
         if draft.is_current(name) {
@@ -148,7 +148,7 @@ fn at_entries<'a>(
     fields: &[&'a str],
 ) -> Result<(), LineError>
     requires { IsWithinInstance profile.now }
-    ensures { Follows result draft.new (at_all_fields profile.now (map (λ f. f.now) fields.now) draft.old) }
+    ensures { Follows result draft.new (at_entries profile.now (map (λ f. f.now) fields.now) draft.old) }
 {
     at_entry(profile, draft, fields)?;
     at_second_entry(profile, draft, after_pair(fields))
@@ -156,7 +156,7 @@ fn at_entries<'a>(
 
 // The fields after a row and its number.
 fn after_pair<'a, 'b>(fields: &'b [&'a str]) -> &'b [&'a str]
-    ensures { map (λ f. f.now) result.now ≡ after_two (map (λ f. f.now) fields.now) }
+    ensures { map (λ f. f.now) result.now ≡ after_pair (map (λ f. f.now) fields.now) }
 {
     match fields {
         [_, _, rest @ ..] => rest,
@@ -171,7 +171,7 @@ fn at_second_entry<'a>(
     fields: &[&'a str],
 ) -> Result<(), LineError>
     requires { IsWithinInstance profile.now }
-    ensures { Follows result draft.new (at_more_fields profile.now (map (λ f. f.now) fields.now) draft.old) }
+    ensures { Follows result draft.new (at_second_entry profile.now (map (λ f. f.now) fields.now) draft.old) }
 {
     if fields.is_empty() {
         return Ok(());
@@ -190,7 +190,7 @@ fn at_entry<'a>(
     fields: &[&'a str],
 ) -> Result<(), LineError>
     requires { IsWithinInstance profile.now }
-    ensures { Follows result draft.new (at_first_fields profile.now draft.old (map (λ f. f.now) fields.now)) }
+    ensures { Follows result draft.new (at_entry profile.now draft.old (map (λ f. f.now) fields.now)) }
 {
     match fields {
         [] => Err(LineError::Fault(FaultKind::BadLine)),
@@ -201,7 +201,7 @@ fn at_entry<'a>(
 // What the last column has in a row, which it may have once.
 fn at_row(profile: &Profile, draft: &mut Draft, row: &str, fields: &[&str]) -> Result<(), LineError>
     requires { IsWithinInstance profile.now }
-    ensures { Follows result draft.new (at_row_named profile.now draft.old (row_named draft.old row.now) row.now (map (λ f. f.now) fields.now)) }
+    ensures { Follows result draft.new (at_row profile.now draft.old (row_named draft.old row.now) row.now (map (λ f. f.now) fields.now)) }
 {
     let Some(found) = draft.row(row) else {
         return Err(LineError::Fault(FaultKind::Unknown));
@@ -221,7 +221,7 @@ fn at_value(
     requires profile { IsWithinInstance profile.now }
     requires there { is_row draft.old row.now ≡ true }
     requires once { IfSome (row_named draft.old row.now) (λ r. r.latest ≢ length draft.old.columns) }
-    ensures { Follows result draft.new (at_value_field profile.now draft.old row.now (map (λ f. f.now) fields.now)) }
+    ensures { Follows result draft.new (at_value profile.now draft.old row.now (map (λ f. f.now) fields.now)) }
 {
     match fields {
         [] => Err(LineError::Fault(FaultKind::BadLine)),
@@ -233,7 +233,7 @@ fn at_number(profile: &Profile, draft: &mut Draft, row: &str, number: &str) -> R
     requires profile { IsWithinInstance profile.now }
     requires there { is_row draft.old row.now ≡ true }
     requires once { IfSome (row_named draft.old row.now) (λ r. r.latest ≢ length draft.old.columns) }
-    ensures { Follows result draft.new (with_number (with_value profile.now draft.old row.now) (read_of number.now)) }
+    ensures { Follows result draft.new (with_number (with_entry profile.now draft.old row.now) (read_of number.now)) }
 {
     let value = read_number(number)?;
     with_entry(profile, draft, row, value)
@@ -243,7 +243,7 @@ fn with_entry(profile: &Profile, draft: &mut Draft, row: &str, value: Frac) -> R
     requires profile { IsWithinInstance profile.now }
     requires there { is_row draft.old row.now ≡ true }
     requires once { IfSome (row_named draft.old row.now) (λ r. r.latest ≢ length draft.old.columns) }
-    ensures { Follows result draft.new (with_value profile.now draft.old row.now value) }
+    ensures { Follows result draft.new (with_entry profile.now draft.old row.now value) }
 {
     if !draft.is_objective(row) && !is_zero(value) && draft.entry_count() >= profile.entries {
         return Err(LineError::Fault(FaultKind::TooMany));

@@ -5,9 +5,9 @@ ghost use Rattle.std.specs.List.{All};
 ghost use Rattle.mps_reader.specs.Names.{AreNew};
 ghost use Rattle.mps_reader.specs.Consistent.{IsGiven};
 ghost use Rattle.milp.specs.Problem.{Column};
-ghost use Rattle.mps_reader.specs.Declaration.{DeclaredRow as RowOf, nothing_declared, row_named, is_row, is_objective_named, is_row_named, is_column, is_column_named, with_row, with_first_changed, new_row, entry_count as count_of_entries, is_zero as is_zero_number};
+ghost use Rattle.mps_reader.specs.Declaration.{DeclaredRow as RowOf, nothing_declared, row_named, is_row, is_objective_named, is_row_named, is_column, is_column_named, with_row, with_first_changed, new_row, entry_count as count_of_entries, is_zero};
 ghost use Rattle.mps_reader.specs.RowsAndColumns.{given, new_column, is_the_name};
-ghost use Rattle.mps_reader.specs.RhsRangesBounds.{rhs_added, range_added, bounded, is_of_first_set, is_same_set as are_sets_same, with_set};
+ghost use Rattle.mps_reader.specs.RhsRangesBounds.{rhs_added, range_added, bounded, is_of_first_set, is_same_set, with_set};
 ghost use Rattle.mps_reader.specs.FreeMps.{in_section};
 
 use crate::bound::BoundKind;
@@ -150,7 +150,7 @@ impl<'a> Draft<'a> {
     pub(crate) fn give(&mut self, name: &str, value: Frac) -> Result<(), AllocError>
         requires there { is_row self.old name.now ≡ true }
         requires once { IfSome (row_named self.old name.now) (λ r. r.latest ≢ length self.old.columns) }
-        requires room { is_objective_named name.now self.old.objective ≡ false → is_zero_number value ≡ false → count_of_entries self.old.rows < 2_000_000 }
+        requires room { is_objective_named name.now self.old.objective ≡ false → is_zero value ≡ false → count_of_entries self.old.rows < 2_000_000 }
         ensures { OnOk result (self.new ≡ with_row (given (length self.old.columns) value) name.now self.old) }
     {
         let columns = self.columns.len();
@@ -293,7 +293,7 @@ impl<'a> Draft<'a> {
 }
 
 fn is_same_set(first: Option<&str>, set: Option<&str>) -> bool
-    ensures { result ≡ are_sets_same (option_map (λ s. s.now) first.entry) (option_map (λ s. s.now) set.entry) }
+    ensures { result ≡ is_same_set (option_map (λ s. s.now) first.entry) (option_map (λ s. s.now) set.entry) }
 {
     match first {
         None => set.is_none(),

@@ -4,7 +4,7 @@ ghost use Rattle.std.specs.List.{list_all};
 ghost use Rattle.mps_reader.specs.Lines.{is_blank};
 ghost use Rattle.mps_reader.specs.Profile.{IsWithinInstance};
 ghost use Rattle.mps_reader.specs.Follows.{Follows};
-ghost use Rattle.mps_reader.specs.FreeMps.{at_section as at_new_section, after_word as fields_after, header_line as header_line_of, data_line as data_line_of, is_comment as is_comment_line, is_passed_over as is_without_meaning, text_line as text_line_of, with_line as with_any_line};
+ghost use Rattle.mps_reader.specs.FreeMps.{at_section, after_word, header_line, data_line, is_comment, is_passed_over, text_line, with_line};
 
 use crate::bounds_section::bound_line;
 use crate::columns_section::column_line;
@@ -26,7 +26,7 @@ pub(crate) fn read_line<'a>(
     line: &'a [u8],
 ) -> Result<(), LineError>
     requires { IsWithinInstance profile.now }
-    ensures { Follows result draft.new (with_any_line profile.now draft.old line.now) }
+    ensures { Follows result draft.new (with_line profile.now draft.old line.now) }
 {
     if draft.section().is_ended() || is_passed_over(line) {
         return Ok(());
@@ -35,7 +35,7 @@ pub(crate) fn read_line<'a>(
 }
 
 fn is_comment(line: &[u8]) -> bool
-    ensures { result ≡ is_comment_line line.now }
+    ensures { result ≡ is_comment line.now }
 {
     match line {
         [] => false,
@@ -51,7 +51,7 @@ fn is_blank_line(line: &[u8]) -> bool
 
 // Comments and lines of blanks.
 fn is_passed_over(line: &[u8]) -> bool
-    ensures { result ≡ is_without_meaning line.now }
+    ensures { result ≡ is_passed_over line.now }
 {
     is_comment(line) || is_blank_line(line)
 }
@@ -63,7 +63,7 @@ fn text_line<'a>(
     line: &'a [u8],
 ) -> Result<(), LineError>
     requires { IsWithinInstance profile.now }
-    ensures { Follows result draft.new (text_line_of profile.now draft.old line.now) }
+    ensures { Follows result draft.new (text_line profile.now draft.old line.now) }
 {
     let Some(text) = as_text(line) else {
         return Err(LineError::Fault(FaultKind::BadLine));
@@ -79,7 +79,7 @@ fn text_line<'a>(
 // ---- headers
 
 fn header_line(draft: &mut Draft, fields: &[&str]) -> Result<(), LineError>
-    ensures { Follows result draft.new (header_line_of draft.old (map (λ f. f.now) fields.now)) }
+    ensures { Follows result draft.new (header_line draft.old (map (λ f. f.now) fields.now)) }
 {
     match fields {
         [] => Err(LineError::Fault(FaultKind::BadSection)),
@@ -92,7 +92,7 @@ fn header_line(draft: &mut Draft, fields: &[&str]) -> Result<(), LineError>
 
 // What follows NAME isn't looked at, and nothing follows another header's word.
 fn at_section(draft: &mut Draft, section: Section, rest: &[&str]) -> Result<(), LineError>
-    ensures { Follows result draft.new (at_new_section draft.old (Some section) (map (λ f. f.now) rest.now)) }
+    ensures { Follows result draft.new (at_section draft.old (Some section) (map (λ f. f.now) rest.now)) }
 {
     if !draft.section().may_be_followed(section) {
         return Err(LineError::Fault(FaultKind::BadSection));
@@ -105,7 +105,7 @@ fn at_section(draft: &mut Draft, section: Section, rest: &[&str]) -> Result<(), 
 }
 
 fn has_more(section: Section, rest: &[&str]) -> bool
-    ensures { IsTrue result ↔ (0 < length (fields_after section (map (λ f. f.now) rest.now))) }
+    ensures { IsTrue result ↔ (0 < length (after_word section (map (λ f. f.now) rest.now))) }
 {
     match section {
         Section::NameLine => false,
@@ -123,7 +123,7 @@ fn data_line<'a>(
     fields: &[&'a str],
 ) -> Result<(), LineError>
     requires { IsWithinInstance profile.now }
-    ensures { Follows result draft.new (data_line_of profile.now draft.old.section draft.old (map (λ f. f.now) fields.now)) }
+    ensures { Follows result draft.new (data_line profile.now draft.old.section draft.old (map (λ f. f.now) fields.now)) }
 {
     match draft.section() {
         Section::Start | Section::NameLine => Err(LineError::Fault(FaultKind::BadLine)),

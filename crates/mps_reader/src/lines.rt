@@ -4,7 +4,7 @@ ghost use Rattle.std.specs.Option.{option_map};
 ghost use Rattle.std.specs.List.{slice_split};
 ghost use Rattle.std.specs.Str.{is_utf8};
 ghost use Rattle.std.specs.Str.Lines.{lines_of_parts, strip_carriage_return};
-ghost use Rattle.mps_reader.specs.Lines.{lines_of, fields_of, tabbed_fields, is_header as header};
+ghost use Rattle.mps_reader.specs.Lines.{lines_of, fields_of, tabbed_fields, is_header};
 
 use std::alloc::{AllocError, Global};
 
@@ -52,7 +52,7 @@ fn without_return(line: &[u8]) -> &[u8]
 
 // Whether a line is a header.
 pub(crate) fn is_header(line: &[u8]) -> bool
-    ensures { result ≡ header line.now }
+    ensures { result ≡ is_header line.now }
 {
     match line {
         [] => false,

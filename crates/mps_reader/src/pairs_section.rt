@@ -5,7 +5,7 @@ ghost use Rattle.fraction.specs.Literal.{read_of};
 ghost use Rattle.mps_reader.specs.Steps.{then_do, with_number};
 ghost use Rattle.mps_reader.specs.Follows.{Follows, range_or_fault};
 ghost use Rattle.mps_reader.specs.Declaration.{with_row};
-ghost use Rattle.mps_reader.specs.RhsRangesBounds.{step_of, pairs_line, pair_line as pair_line_of, rhs_pair as rhs_of_pair, range_pair as range_of_pair, range_below as bounds_below, range_above as bounds_above, range_of as bounds_of, range_added, is_below_zero as is_negative};
+ghost use Rattle.mps_reader.specs.RhsRangesBounds.{step_of, pairs_line, pair_line, rhs_pair, range_pair, range_below, range_above, range_of, range_added, is_below_zero};
 
 use crate::draft::Draft;
 use crate::error::LineError;
@@ -27,7 +27,7 @@ pub(crate) fn pair_line<'a>(
     draft: &mut Draft<'a>,
     fields: &[&'a str],
 ) -> Result<(), LineError>
-    ensures { Follows result draft.new (pair_line_of section draft.old (map (λ f. f.now) fields.now)) }
+    ensures { Follows result draft.new (pair_line section draft.old (map (λ f. f.now) fields.now)) }
 {
     match fields {
         [row, number] => set_pairs(section, draft, None, (row, number), None),
@@ -79,7 +79,7 @@ fn pair(section: PairSection, draft: &mut Draft, row: &str, number: &str) -> Res
 }
 
 fn rhs_pair(draft: &mut Draft, row: &str, number: &str) -> Result<(), LineError>
-    ensures { Follows result draft.new (rhs_of_pair draft.old (record { row = row.now; number = number.now })) }
+    ensures { Follows result draft.new (rhs_pair draft.old (record { row = row.now; number = number.now })) }
 {
     let Some(found) = draft.row(row) else {
         return Err(LineError::Fault(FaultKind::Unknown));
@@ -96,7 +96,7 @@ fn rhs_pair(draft: &mut Draft, row: &str, number: &str) -> Result<(), LineError>
 
 // No N row has a range.
 fn range_pair(draft: &mut Draft, row: &str, number: &str) -> Result<(), LineError>
-    ensures { Follows result draft.new (range_of_pair draft.old (record { row = row.now; number = number.now })) }
+    ensures { Follows result draft.new (range_pair draft.old (record { row = row.now; number = number.now })) }
 {
     let Some(found) = draft.row(row) else {
         return Err(LineError::Fault(FaultKind::Unknown));
@@ -119,7 +119,7 @@ fn range_number(
     rhs: Frac,
     number: &str,
 ) -> Result<(), LineError>
-    ensures { Follows result draft.new (with_number (λ value. then_do (λ range. Ok (with_row (range_added range) row.now draft.old)) (bounds_of kind rhs value)) (read_of number.now)) }
+    ensures { Follows result draft.new (with_number (λ value. then_do (λ range. Ok (with_row (range_added range) row.now draft.old)) (range_of kind rhs value)) (read_of number.now)) }
 {
     let value = read_number(number)?;
     with_range(draft, row, kind, rhs, value)
@@ -132,7 +132,7 @@ fn with_range(
     rhs: Frac,
     value: Frac,
 ) -> Result<(), LineError>
-    ensures { Follows result draft.new (then_do (λ range. Ok (with_row (range_added range) row.now draft.old)) (bounds_of kind rhs value)) }
+    ensures { Follows result draft.new (then_do (λ range. Ok (with_row (range_added range) row.now draft.old)) (range_of kind rhs value)) }
 {
     let range = range_of(kind, rhs, value)?;
     draft.set_range(row, range);
@@ -141,7 +141,7 @@ fn with_range(
 
 // The bounds that a range gives a row of this kind and right-hand side.
 fn range_of(kind: RowKind, rhs: Frac, range: Frac) -> Result<RowRange, LineError>
-    ensures { result ≡ range_or_fault (bounds_of kind rhs range) }
+    ensures { result ≡ range_or_fault (range_of kind rhs range) }
 {
     match kind {
         RowKind::Objective | RowKind::Free => Err(LineError::Fault(FaultKind::BadLine)),
@@ -158,7 +158,7 @@ fn range_of(kind: RowKind, rhs: Frac, range: Frac) -> Result<RowRange, LineError
 }
 
 fn range_below(rhs: Frac, range: Frac) -> Result<RowRange, LineError>
-    ensures { result ≡ range_or_fault (bounds_below rhs range) }
+    ensures { result ≡ range_or_fault (range_below rhs range) }
 {
     match rhs.sub(range.abs()) {
         Ok(lower) => Ok(RowRange { lower, upper: rhs }),
@@ -167,7 +167,7 @@ fn range_below(rhs: Frac, range: Frac) -> Result<RowRange, LineError>
 }
 
 fn range_above(rhs: Frac, range: Frac) -> Result<RowRange, LineError>
-    ensures { result ≡ range_or_fault (bounds_above rhs range) }
+    ensures { result ≡ range_or_fault (range_above rhs range) }
 {
     match rhs.add(range.abs()) {
         Ok(upper) => Ok(RowRange { lower: rhs, upper }),
@@ -176,7 +176,7 @@ fn range_above(rhs: Frac, range: Frac) -> Result<RowRange, LineError>
 }
 
 fn is_below_zero(value: Frac) -> bool
-    ensures { result ≡ is_negative value }
+    ensures { result ≡ is_below_zero value }
 {
     value.parts().0 < 0
 }

@@ -1,6 +1,6 @@
 // How far the reader goes.
 ghost use Rattle.std.specs.Prelude.{◌≡◌};
-ghost use Rattle.mps_reader.specs.Profile.{reader_profile as profile_of_reader, IsWithinInstance};
+ghost use Rattle.mps_reader.specs.Profile.{reader_profile, IsWithinInstance};
 
 // Limits, and what isn't taken yet.
 #[derive(Clone, Copy)]
@@ -14,7 +14,7 @@ pub(crate) struct Profile {
 
 // Today's reader.
 pub(crate) fn reader_profile() -> Profile
-    ensures value { result ≡ profile_of_reader }
+    ensures value { result ≡ reader_profile }
     ensures within { IsWithinInstance result }
 {
     Profile {

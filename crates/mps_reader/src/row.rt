@@ -1,7 +1,7 @@
 // Rows of a declaration.
 ghost use Rattle.std.specs.Prelude.{◌≡◌, ◌<◌, ◌≤◌, ◌^◌, IsTrue, OnOk, OnErr};
 ghost use Rattle.instance.specs.WellFormed.{are_entries};
-ghost use Rattle.mps_reader.specs.Declaration.{new_row, is_zero as is_zero_number, is_free as is_free_kind};
+ghost use Rattle.mps_reader.specs.Declaration.{new_row, is_zero, is_free};
 ghost use Rattle.mps_reader.specs.RowsAndColumns.{given, row_kind_of};
 ghost use Rattle.mps_reader.specs.Finished.{row_lower, row_upper};
 ghost use Rattle.mps_reader.specs.RhsRangesBounds.{rhs_added, range_added, rhs_of};
@@ -41,7 +41,7 @@ impl RowKind {
 
     // No bound stands on the row's value.
     pub(crate) fn is_free(self) -> bool
-        ensures { result ≡ is_free_kind self }
+        ensures { result ≡ is_free self }
     {
         match self {
             RowKind::Objective | RowKind::Free => true,
@@ -202,7 +202,7 @@ impl<'a> DeclaredRow<'a> {
 }
 
 pub(crate) fn is_zero(value: Frac) -> bool
-    ensures { result ≡ is_zero_number value }
+    ensures { result ≡ is_zero value }
 {
     value.parts().0 == 0
 }

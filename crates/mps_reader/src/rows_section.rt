@@ -1,10 +1,10 @@
 // The lines of ROWS.
 ghost use Rattle.std.specs.Prelude.{◌≡◌, false, map, Some};
-ghost use Rattle.mps_reader.specs.Declaration.{is_row, new_row as blank_row};
+ghost use Rattle.mps_reader.specs.Declaration.{is_row, new_row};
 ghost use Rattle.mps_reader.specs.Steps.{at_end};
 ghost use Rattle.mps_reader.specs.Profile.{IsWithinInstance};
 ghost use Rattle.mps_reader.specs.Follows.{Follows};
-ghost use Rattle.mps_reader.specs.RowsAndColumns.{row_line as row_line_of, row_of_kind as row_line_of_kind, with_new_row as one_more_row};
+ghost use Rattle.mps_reader.specs.RowsAndColumns.{row_line, row_of_kind, with_new_row};
 
 use crate::draft::Draft;
 use crate::error::LineError;
@@ -21,7 +21,7 @@ pub(crate) fn row_line<'a>(
     fields: &[&'a str],
 ) -> Result<(), LineError>
     requires { IsWithinInstance profile.now }
-    ensures { Follows result draft.new (row_line_of profile.now draft.old (map (λ f. f.now) fields.now)) }
+    ensures { Follows result draft.new (row_line profile.now draft.old (map (λ f. f.now) fields.now)) }
 {
     match fields {
         [] => Err(LineError::Fault(FaultKind::BadLine)),
@@ -40,7 +40,7 @@ fn row_of_kind<'a>(
     fields: &[&'a str],
 ) -> Result<(), LineError>
     requires { IsWithinInstance profile.now }
-    ensures { Follows result draft.new (row_line_of_kind profile.now draft.old (Some kind) (map (λ f. f.now) fields.now)) }
+    ensures { Follows result draft.new (row_of_kind profile.now draft.old (Some kind) (map (λ f. f.now) fields.now)) }
 {
     match fields {
         [] => Err(LineError::Fault(FaultKind::BadLine)),
@@ -63,7 +63,7 @@ fn new_objective<'a>(
     name: &'a str,
     rest: &[&str],
 ) -> Result<(), LineError>
-    ensures { Follows result draft.new (at_end (map (λ f. f.now) rest.now) (record draft.old { objective = Some (blank_row name.now RowKind.Objective) })) }
+    ensures { Follows result draft.new (at_end (map (λ f. f.now) rest.now) (record draft.old { objective = Some (new_row name.now RowKind.Objective) })) }
 {
     if !rest.is_empty() {
         return Err(LineError::Fault(FaultKind::BadLine));
@@ -83,7 +83,7 @@ fn new_row<'a>(
 ) -> Result<(), LineError>
     requires profile { IsWithinInstance profile.now }
     requires new { is_row draft.old name.now ≡ false }
-    ensures { Follows result draft.new (one_more_row profile.now draft.old name.now kind (map (λ f. f.now) rest.now)) }
+    ensures { Follows result draft.new (with_new_row profile.now draft.old name.now kind (map (λ f. f.now) rest.now)) }
 {
     if draft.row_count() >= profile.rows {
         return Err(LineError::Fault(FaultKind::TooMany));

@@ -1,7 +1,7 @@
 // The sections of a text.
 ghost use Rattle.std.specs.Prelude.{◌≡◌, ◌≤◌};
-ghost use Rattle.mps_reader.specs.Declaration.{rank as rank_of, furthest as furthest_after, may_follow as may_follow_section};
-ghost use Rattle.mps_reader.specs.FreeMps.{section_of, is_ended as is_last};
+ghost use Rattle.mps_reader.specs.Declaration.{rank, furthest, may_follow};
+ghost use Rattle.mps_reader.specs.FreeMps.{section_of, is_ended};
 
 // The sections in their order; `Start` is before the first header, and `Ended` after the last one.
 #[derive(Clone, Copy)]
@@ -41,7 +41,7 @@ impl Section {
     }
 
     fn rank(self) -> u8
-        ensures { result ≡ rank_of self }
+        ensures { result ≡ rank self }
     {
         match self {
             Section::Start => 0,
@@ -57,7 +57,7 @@ impl Section {
 
     // The last of the sections that may come next: ROWS and COLUMNS may not be left out.
     fn furthest(self) -> Section
-        ensures { result ≡ furthest_after self }
+        ensures { result ≡ furthest self }
     {
         match self {
             Section::Start | Section::NameLine => Section::Rows,
@@ -69,13 +69,13 @@ impl Section {
 
     // The section `next` may come after it.
     pub(crate) fn may_be_followed(self, next: Section) -> bool
-        ensures { result ≡ may_follow_section self next }
+        ensures { result ≡ may_follow self next }
     {
         self.rank() < next.rank() && next.rank() <= self.furthest().rank()
     }
 
     pub(crate) fn is_ended(self) -> bool
-        ensures { result ≡ is_last self }
+        ensures { result ≡ is_ended self }
     {
         match self {
             Section::Ended => true,

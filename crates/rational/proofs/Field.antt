@@ -220,11 +220,6 @@ inv_right a b h = sym (mul_assoc (inv_ℚ a) a b) ∙ ap (λ y. y *ℚ b) (mul_c
 pub inv_far : (a b : Rational) → ¬ (a.numerator ≡ pos 0) → a *ℚ (b *ℚ inv_ℚ a) ≡ b
 inv_far a b h = ap (λ y. a *ℚ y) (mul_comm b (inv_ℚ a)) ∙ inv_left a b h
 
--- closed numbers compute
-worked : (over (pos 6) 4 +ℚ over (negsuc 0) 3).numerator ≡ pos 7
-unfolding ◌+ℚ◌ over gcd gcd_within
-worked = refl
-
 pub ruleset field_units = (add-zero, zero-add, mul-zero, zero-mul, mul-one, one-mul)
 
 pub ruleset signs = (neg_mul, mul_neg, neg_add, neg_neg, add-neg, cancel_left, cancel_right)

@@ -20,12 +20,6 @@ above (negsuc n) d h =
     let f : negsuc n <ℤ neg_ℤ (pos (n / d * d)) = omega (arith, ints) in
     rw (k, Z.neg_mul) f
 
-pub floor_le : (a : Rational) → whole (floor_ℚ a) ≤ℚ a
-floor_le a = record { cross = Z.le_by _ _ _ _ refl (Z.mul-one a.numerator) (under a.numerator a.denominator a.lowest.positive) }
-
-pub lt-floor : (a : Rational) → a <ℚ whole (floor_ℚ a +ℤ pos 1)
-lt-floor a = record { cross = Z.lt_by _ _ _ _ (Z.mul-one a.numerator) refl (above a.numerator a.denominator a.lowest.positive) }
-
 -- each whole number is on one side of the split at t
 pub split : (n t : ℤ) → (whole n ≤ℚ whole t) ⊎ (whole (t +ℤ pos 1) ≤ℚ whole n)
 split n t = by_lt_z t n (λ h. inr (record { cross = right n t h })) (λ h. inl (record { cross = left n t h }))

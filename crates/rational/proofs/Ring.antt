@@ -15,29 +15,11 @@ cancel_right a b = omega (arith, ints)
 
 ruleset signs = (Z.neg_mul, Z.mul_neg, Z.neg_add, Z.neg_neg, Z.add_neg, cancel_left, cancel_right)
 
-squares : (a b : ℤ) → (a -ℤ b) *ℤ (a +ℤ b) ≡ a *ℤ a -ℤ b *ℤ b
-squares a b = simp (ring, signs)
-
 pivot : (a b c d e : ℤ) → (a *ℤ d -ℤ b *ℤ c) *ℤ e +ℤ b *ℤ (c *ℤ e) ≡ a *ℤ (e *ℤ d)
 pivot a b c d e = simp (ring, signs, Z.units)
 
-pivot2 : (a b c d e f : ℤ) → (a *ℤ d -ℤ b *ℤ c) *ℤ e +ℤ (b *ℤ (c *ℤ e) -ℤ f *ℤ a) ≡ a *ℤ (e *ℤ d) -ℤ a *ℤ f
-pivot2 a b c d e f = simp (ring, signs, Z.units)
-
-by_cc : (a b c : Rational) → a ≡ b +ℚ c → c ≡ zero_ℚ → a ≡ b
-by_cc a b c e f = cc (Q.add-zero b)
-
-by_grind : (a b c : Rational) → a ≡ b +ℚ c → c ≡ zero_ℚ → a ≡ b
-by_grind a b c e f = grind (arith, field_units)
-
 move : (a b c : Rational) → a ≡ b +ℚ c → a -ℚ c ≡ b
 move a b c e = rw e (simp (Q.add_assoc, Q.add-neg, field_units))
-
-squares_q : (a b : Rational) → (a -ℚ b) *ℚ (a +ℚ b) ≡ a *ℚ a -ℚ b *ℚ b
-squares_q a b = simp (field, Q.signs)
-
-pivot_q : (a b c d e f : Rational) → (a *ℚ d -ℚ b *ℚ c) *ℚ e +ℚ (b *ℚ (c *ℚ e) -ℚ f *ℚ a) ≡ a *ℚ (e *ℚ d) -ℚ a *ℚ f
-pivot_q a b c d e f = simp (field, Q.signs, field_units)
 
 -- a row of a dictionary solved for another column
 solved : (a b x y z : Rational) → ¬ (a.numerator ≡ pos 0) → z ≡ a *ℚ x +ℚ b *ℚ y → x ≡ inv_ℚ a *ℚ z -ℚ (inv_ℚ a *ℚ b) *ℚ y

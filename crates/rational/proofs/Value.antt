@@ -18,9 +18,6 @@ pub record IsValue (q : Rational) (n : ℤ) (d : ℤ) : Type 0 where
   pub positive : pos 0 <ℤ d
   pub cross : q.numerator *ℤ d ≡ n *ℤ pos q.denominator
 
-at_most_from_below : (k : ℤ) → pos 0 <ℤ k → pos 0 ≤ℤ k
-at_most_from_below k h = omega (arith, ints)
-
 pub some_pos : (n : ℕ) → pos 0 ≤ℤ pos n
 some_pos n = omega (arith, ints)
 
@@ -82,15 +79,6 @@ value_le p q n m d e v w le =
     let k : ((p.numerator *ℤ pos q.denominator) *ℤ (d *ℤ e)) ≤ℤ ((q.numerator *ℤ pos p.denominator) *ℤ (d *ℤ e)) =
     rw (l, r) (mul-mono _ _ (pos (p.denominator * q.denominator)) (some_pos (p.denominator * q.denominator)) le) in
     record { cross = mul-cancel _ _ (d *ℤ e) (IsPositive-mul d e v.positive w.positive) k }
-
-pub le_value : (p q : Rational) (n m d e : ℤ) → IsValue p n d → IsValue q m e → p ≤ℚ q → (n *ℤ e) ≤ℤ (m *ℤ d)
-le_value p q n m d e v w le =
-    let l = left_scaled p.numerator n (pos p.denominator) d e (pos q.denominator) v.cross in
-    let r = right_scaled q.numerator m (pos p.denominator) d e (pos q.denominator) w.cross in
-    let some : pos 0 ≤ℤ (d *ℤ e) = at_most_from_below (d *ℤ e) (IsPositive-mul d e v.positive w.positive) in
-    let k : ((n *ℤ e) *ℤ (pos p.denominator *ℤ pos q.denominator)) ≤ℤ ((m *ℤ d) *ℤ (pos p.denominator *ℤ pos q.denominator)) =
-    rw (← l, ← r) (mul-mono _ _ (d *ℤ e) some le.cross) in
-    mul-cancel _ _ (pos p.denominator *ℤ pos q.denominator) (IsPositive-mul (pos p.denominator) (pos q.denominator) (IsPositive-denominator p) (IsPositive-denominator q)) k
 
 -- a value in other terms
 pub value_also : (q : Rational) (n m d e : ℤ) → IsValue q n d → pos 0 <ℤ e → n *ℤ e ≡ m *ℤ d → IsValue q m e

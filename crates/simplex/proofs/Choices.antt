@@ -37,12 +37,6 @@ above_upper None a e = absurd (clash e)
     clash k = cc
 above_upper (Some u) a e = (u, refl, at_most_false a u e)
 
-not_below : (o : Option Rational) (a l : Rational) → lies_above o a ≡ true → o ≡ Some l → ¬ (a <ℚ l)
-not_below o a l e f h = let P : Option Rational → Type 0 = λ k. lies_above k a ≡ true in Q.lt-not-le a l h (at_most_true l a (subst P f e))
-
-not_above : (o : Option Rational) (a u : Rational) → lies_below o a ≡ true → o ≡ Some u → ¬ (u <ℚ a)
-not_above o a u e f h = let P : Option Rational → Type 0 = λ k. lies_below k a ≡ true in Q.lt-not-le u a h (at_most_true a u (subst P f e))
-
 -- ---- one variable
 
 passed_some : (s : System) (x : ℕ → Rational) (v : ℕ) (b : Bounds) (a : Rational) (p : Place) → slice_get s.bounds v ≡ Some b → a ≡ x v → passed_bound b a ≡ Some p
@@ -66,32 +60,10 @@ passed_some s x v b a p e f h = go (lies_above b.lower a) refl (lies_below b.upp
     go true k false l m = let P : Place → Type 0 = HasPassed s x v in (subst P (same_some AtUpper p m) (at_high l), inr (at_high l))
     go true k true l m = absurd (none_some m)
 
-passed_none : (s : System) (x : ℕ → Rational) (v : ℕ) (b : Bounds) (a : Rational) → slice_get s.bounds v ≡ Some b → a ≡ x v → passed_bound b a ≡ None → ¬ (HasPassed s x v AtLower ⊎ HasPassed s x v AtUpper)
-passed_none s x v b a e f h = go (lies_above b.lower a) refl (lies_below b.upper a) refl h
-  where
-    some_none : (q : Place) → ¬ (Some q ≡ None)
-    some_none q k = cc
-
-    go : (t : Bool) → lies_above b.lower a ≡ t → (u : Bool) → lies_below b.upper a ≡ u → (if t then (if u then None else Some AtUpper) else Some AtLower) ≡ None → ¬ (HasPassed s x v AtLower ⊎ HasPassed s x v AtUpper)
-    go false k u l m n = some_none AtLower m
-    go true k false l m n = some_none AtUpper m
-    go true k true l m (inl n) = not_below b.lower a n.0 k (sym (lower_at s v b e) ∙ n.1) (let P : Rational → Type 0 = λ t. t <ℚ n.0 in subst P (sym f) n.2)
-    go true k true l m (inr n) = not_above b.upper a n.0 l (sym (upper_at s v b e) ∙ n.1) (let P : Rational → Type 0 = λ t. n.0 <ℚ t in subst P (sym f) n.2)
-
 pub outside_some : (s : System) (places : List Place) (x : ℕ → Rational) (v : ℕ) (b : Bounds) (a : Rational) (o : Option Place) → slice_get s.bounds v ≡ Some b → a ≡ x v → is_basic (place_of places v) ≡ true → o ≡ passed_bound b a
     → IfSome o (λ p. IsOutside s places x v × HasPassed s x v p)
 outside_some s places x v b a None e f g h = tt
 outside_some s places x v b a (Some p) e f g h = let r = passed_some s x v b a p e f (sym h) in (record { basic = basic_test (place_of places v) g; outside = r.1 }, r.0)
-
-pub outside_none : (s : System) (places : List Place) (x : ℕ → Rational) (v : ℕ) (b : Bounds) (a : Rational) (o : Option Place) → slice_get s.bounds v ≡ Some b → a ≡ x v → o ≡ passed_bound b a
-    → o ≡ None → ¬ (IsOutside s places x v)
-outside_none s places x v b a o e f h k out = passed_none s x v b a e f (sym h ∙ k) out.outside
-
-pub resting_not_outside : (s : System) (places : List Place) (x : ℕ → Rational) (v : ℕ) → is_basic (place_of places v) ≡ false → ¬ (IsOutside s places x v)
-resting_not_outside s places x v e out = clash (sym (ap is_basic out.basic) ∙ e)
-  where
-    clash : ¬ (true ≡ false)
-    clash k = cc
 
 pub none_outside : (s : System) (places : List Place) (x : ℕ → Rational) (n m : ℕ) → length places ≡ n → n ≤ m → ((k : ℕ) → k < m → ¬ (IsOutside s places x k)) → (v : ℕ) → ¬ (IsOutside s places x v)
 none_outside s places x n m e l h v out = h v (let k = basic_known places v out.basic in omega arith) out
@@ -105,13 +77,6 @@ one_more P v h n k l p = elim (ℕ_discrete k v) [
 
 -- ---- moves inside bounds
 
-rise_true : (s : System) (x : ℕ → Rational) (v : ℕ) (b : Bounds) (a : Rational) → upper_of s v ≡ b.upper → a ≡ x v → can_rise b a ≡ true → CanRise s x v
-rise_true s x v b a e f h = let P : Option Rational → Type 0 = λ o. IfSome o (λ u. x v <ℚ u) in subst P (sym e) (go b.upper h)
-  where
-    go : (o : Option Rational) → can_rise (record { lower = None; upper = o }) a ≡ true → IfSome o (λ u. x v <ℚ u)
-    go None k = tt
-    go (Some u) k = let R : Rational → Type 0 = λ t. t <ℚ u in subst R f (less_true a u k)
-
 rise_false : (s : System) (x : ℕ → Rational) (v : ℕ) (b : Bounds) (a : Rational) → upper_of s v ≡ b.upper → a ≡ x v → can_rise b a ≡ false → ¬ (CanRise s x v)
 rise_false s x v b a e f h k = let P : Option Rational → Type 0 = λ o. IfSome o (λ u. x v <ℚ u) in go b.upper h (subst P e k)
   where
@@ -122,13 +87,6 @@ rise_false s x v b a e f h k = let P : Option Rational → Type 0 = λ o. IfSome
     go None l m = clash l
     go (Some u) l m = Q.lt-not-le (x v) u m (let R : Rational → Type 0 = λ t. u ≤ℚ t in subst R f (less_false a u l))
 
-fall_true : (s : System) (x : ℕ → Rational) (v : ℕ) (b : Bounds) (a : Rational) → lower_of s v ≡ b.lower → a ≡ x v → can_fall b a ≡ true → CanFall s x v
-fall_true s x v b a e f h = let P : Option Rational → Type 0 = λ o. IfSome o (λ l. l <ℚ x v) in subst P (sym e) (go b.lower h)
-  where
-    go : (o : Option Rational) → can_fall (record { lower = o; upper = None }) a ≡ true → IfSome o (λ l. l <ℚ x v)
-    go None k = tt
-    go (Some l) k = let R : Rational → Type 0 = λ t. l <ℚ t in subst R f (less_true l a k)
-
 fall_false : (s : System) (x : ℕ → Rational) (v : ℕ) (b : Bounds) (a : Rational) → lower_of s v ≡ b.lower → a ≡ x v → can_fall b a ≡ false → ¬ (CanFall s x v)
 fall_false s x v b a e f h k = let P : Option Rational → Type 0 = λ o. IfSome o (λ l. l <ℚ x v) in go b.lower h (subst P e k)
   where
@@ -138,17 +96,6 @@ fall_false s x v b a e f h k = let P : Option Rational → Type 0 = λ o. IfSome
     go : (o : Option Rational) → can_fall (record { lower = o; upper = None }) a ≡ false → ¬ (IfSome o (λ l. l <ℚ x v))
     go None l m = clash l
     go (Some u) l m = Q.lt-not-le u (x v) m (let R : Rational → Type 0 = λ t. t ≤ℚ u in subst R f (less_false u a l))
-
-pub raise_true : (s : System) (x : ℕ → Rational) (v : ℕ) (b : Bounds) (a rate : Rational) → slice_get s.bounds v ≡ Some b → a ≡ x v → can_raise b a rate ≡ true → CanRaise s x v rate
-raise_true s x v b a rate e f h = go (is_less zero_ℚ rate) refl (is_less rate zero_ℚ) refl h
-  where
-    clash : ¬ (false ≡ true)
-    clash w = cc
-
-    go : (t : Bool) → is_less zero_ℚ rate ≡ t → (u : Bool) → is_less rate zero_ℚ ≡ u → (if t then can_rise b a else (if u then can_fall b a else false)) ≡ true → CanRaise s x v rate
-    go true k u l m = inl (less_true zero_ℚ rate k, rise_true s x v b a (upper_at s v b e) f m)
-    go false k true l m = inr (less_true rate zero_ℚ l, fall_true s x v b a (lower_at s v b e) f m)
-    go false k false l m = absurd (clash m)
 
 pub raise_false : (s : System) (x : ℕ → Rational) (v : ℕ) (b : Bounds) (a rate : Rational) → slice_get s.bounds v ≡ Some b → a ≡ x v → can_raise b a rate ≡ false → ¬ (CanRaise s x v rate)
 raise_false s x v b a rate e f h = go (is_less zero_ℚ rate) refl (is_less rate zero_ℚ) refl h
@@ -172,48 +119,12 @@ resting places q h e = record { known = h; not_basic = λ w. clash (sym (ap is_b
 pub is_resting : (places : List Place) (q : ℕ) → q < length places → is_basic (place_of places q) ≡ false → IsResting places q
 is_resting places q h e = resting places q h e
 
-mend_true : (s : System) (x : ℕ → Rational) (q : ℕ) (p : Place) (b : Bounds) (a rate : Rational) → slice_get s.bounds q ≡ Some b → a ≡ x q → can_mend p b a rate ≡ true → CanMend s x p q rate
-mend_true s x q Basic b a rate e f h = absurd (clash h)
-  where
-    clash : ¬ (false ≡ true)
-    clash w = cc
-mend_true s x q AtLower b a rate e f h = raise_true s x q b a rate e f h
-mend_true s x q AtUpper b a rate e f h = raise_true s x q b a (neg_ℚ rate) e f h
-mend_true s x q AtZero b a rate e f h = absurd (clash h)
-  where
-    clash : ¬ (false ≡ true)
-    clash w = cc
-
 mend_false : (s : System) (x : ℕ → Rational) (q : ℕ) (p : Place) (b : Bounds) (a rate : Rational) → slice_get s.bounds q ≡ Some b → a ≡ x q → can_mend p b a rate ≡ false → ¬ (CanMend s x p q rate)
 mend_false s x q Basic b a rate e f h = λ k. k
 mend_false s x q AtLower b a rate e f h = raise_false s x q b a rate e f h
 mend_false s x q AtUpper b a rate e f h = raise_false s x q b a (neg_ℚ rate) e f h
 mend_false s x q AtZero b a rate e f h = λ k. k
 
-pub mends_yes : (s : System) (places : List Place) (x : ℕ → Rational) (d : Dictionary) (r : ℕ) (p : Place) (q : ℕ) (b : Bounds) (a rate : Rational) (t : Bool) → q < length places → is_basic (place_of places q) ≡ false
-    → slice_get s.bounds q ≡ Some b → a ≡ x q → rate ≡ rate_of d q r → t ≡ can_mend p b a rate → t ≡ true → Mends s places x d r p q
-mends_yes s places x d r p q b a rate t known rests e f g h k = record {
-  resting = resting places q known rests;
-  can_mend = let P : Rational → Type 0 = λ m. CanMend s x p q m in subst P g (mend_true s x q p b a rate e f (sym h ∙ k));
-}
-
 pub mends_no : (s : System) (places : List Place) (x : ℕ → Rational) (d : Dictionary) (r : ℕ) (p : Place) (q : ℕ) (b : Bounds) (a rate : Rational) (t : Bool) → slice_get s.bounds q ≡ Some b → a ≡ x q → rate ≡ rate_of d q r
     → t ≡ can_mend p b a rate → t ≡ false → ¬ (Mends s places x d r p q)
 mends_no s places x d r p q b a rate t e f g h k m = mend_false s x q p b a rate e f (sym h ∙ k) (let P : Rational → Type 0 = λ n. CanMend s x p q n in subst P (sym g) (m.can_mend))
-
-pub improves_yes : (s : System) (places : List Place) (x : ℕ → Rational) (d : Dictionary) (q : ℕ) (b : Bounds) (a gain : Rational) (t : Bool) → q < length places → is_basic (place_of places q) ≡ false
-    → slice_get s.bounds q ≡ Some b → a ≡ x q → gain ≡ gain_of d q → t ≡ can_raise b a (neg_ℚ gain) → t ≡ true → Improves s places x d q
-improves_yes s places x d q b a gain t known rests e f g h k = record {
-  resting = resting places q known rests;
-  can_improve = let P : Rational → Type 0 = λ m. CanRaise s x q (neg_ℚ m) in subst P g (raise_true s x q b a (neg_ℚ gain) e f (sym h ∙ k));
-}
-
-pub improves_no : (s : System) (places : List Place) (x : ℕ → Rational) (d : Dictionary) (q : ℕ) (b : Bounds) (a gain : Rational) (t : Bool) → slice_get s.bounds q ≡ Some b → a ≡ x q → gain ≡ gain_of d q
-    → t ≡ can_raise b a (neg_ℚ gain) → t ≡ false → ¬ (Improves s places x d q)
-improves_no s places x d q b a gain t e f g h k m = raise_false s x q b a (neg_ℚ gain) e f (sym h ∙ k) (let P : Rational → Type 0 = λ n. CanRaise s x q (neg_ℚ n) in subst P (sym g) (m.can_improve))
-
-pub basic_not_mending : (s : System) (places : List Place) (x : ℕ → Rational) (d : Dictionary) (r : ℕ) (p : Place) (q : ℕ) → is_basic (place_of places q) ≡ true → ¬ (Mends s places x d r p q)
-basic_not_mending s places x d r p q e m = m.resting.not_basic (basic_test (place_of places q) e)
-
-pub basic_not_improving : (s : System) (places : List Place) (x : ℕ → Rational) (d : Dictionary) (q : ℕ) → is_basic (place_of places q) ≡ true → ¬ (Improves s places x d q)
-basic_not_improving s places x d q e m = m.resting.not_basic (basic_test (place_of places q) e)

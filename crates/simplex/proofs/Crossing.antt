@@ -26,20 +26,6 @@ crossed_yes s v b t e f g = go b.lower b.upper (lower_at s v b e) (upper_at s v 
     go (Some l) None k m h = absurd (clash h)
     go (Some l) (Some u) k m h = record { lower = l; upper = u; is_lower = k; is_upper = m; crossed = less_true u l h }
 
-pub crossed_no : (s : System) (v : ℕ) (b : Bounds) (t : Bool) → slice_get s.bounds v ≡ Some b → t ≡ are_crossed b.lower b.upper → t ≡ false → IsInOrder s v
-crossed_no s v b t e f g = rw (lower_at s v b e, upper_at s v b e) (go b.lower b.upper (sym f ∙ g))
-  where
-    go : (l u : Option Rational) → are_crossed l u ≡ false → IfSome l (λ a. IfSome u (λ c. a ≤ℚ c))
-    go None u h = tt
-    go (Some l) None h = tt
-    go (Some l) (Some u) h = less_false u l h
-
-pub one_more_in_order : (s : System) (v : ℕ) → ((k : ℕ) → k < v → IsInOrder s k) → IsInOrder s v → (k : ℕ) → k < v + 1 → IsInOrder s k
-one_more_in_order s v h n k l = elim (ℕ_discrete k v) [
-  | yes same ↦ subst (IsInOrder s) (sym same) n
-  | no differ ↦ h k (omega arith)
-]
-
 pub all_in_order : (s : System) (n : ℕ) → IsSystem s → n ≡ size s → ((k : ℕ) → k < n → IsInOrder s k) → AreBoundsInOrder s
 all_in_order s n is e h v = elim (dec_lt v n) [
   | yes below ↦ h v below

@@ -115,6 +115,3 @@ denominator_fault numbers i a old d f is e g h = record { index = i; number = a;
 
 pub number_read : (numbers : List Rational) (i : ℕ) (a : Rational) → i < length numbers → a ≡ get_or numbers i a → slice_get numbers i ≡ Some a
 number_read numbers i a h e = slice_get_read numbers (length numbers) i a refl h e
-
-pub all_denominators : (numbers : List Rational) (i m : ℕ) → length numbers ≤ i → m ≡ prefix_denominator numbers i → m ≡ common_denominator 1 numbers
-all_denominators numbers i m h e = e ∙ ap (common_denominator 1) (take_all i numbers h)

@@ -27,23 +27,6 @@ zeros zero j = refl
 zeros (suc n) zero = refl
 zeros (suc n) (suc j) = zeros n j
 
-length-zeros : (n : ℕ) → length (replicate n zero_ℚ) ≡ n
-length-zeros zero = refl
-length-zeros (suc n) = let e = length-zeros n in omega arith
-
-pub none_dense : (n : ℕ) (form : List Entry) (row : List Rational) → AllBelow n form → IsAscending 0 form → row ≡ replicate n zero_ℚ → (least : ℕ) × IsPartlyDense n form form row least
-none_dense n form row h k e = (
-  0,
-  record {
-    ascending = k;
-    below = h;
-    size = ap length e ∙ length-zeros n;
-    done = λ j l. absurd (omega arith);
-    same = λ j l. refl;
-    left = λ j l. ap (λ r. number_at r j) e ∙ zeros n j;
-  },
-)
-
 -- no coefficient before the first column
 before : (least : ℕ) (form : List Entry) (j : ℕ) → IsAscending least form → j < least → coefficient_of form j ≡ zero_ℚ
 before least [] j h k = refl
@@ -91,21 +74,6 @@ more_dense n form e rest es row is (least, p) = go (let P : List Entry → Type 
           ]
         ]
 
-pub all_dense : (n : ℕ) (form rest : List Entry) (row : List Rational) → rest ≡ [] → (least : ℕ) × IsPartlyDense n form rest row least → IsDense n form row
-all_dense n form rest row is (least, p) = go (let P : List Entry → Type 0 = λ r. IsPartlyDense n form r row least in subst P is p)
-  where
-    go : IsPartlyDense n form [] row least → IsDense n form row
-    go q = record {
-      size = q.size;
-      numbers = λ j l. elim (dec_lt j least) [
-        | yes low ↦ q.done j low
-        | no high ↦ q.left j (omega arith) ∙ sym (q.same j (omega arith))
-      ];
-    }
-
-pub entry_inside : (n : ℕ) (form : List Entry) (e : Entry) (rest rest_after : List Entry) (row : List Rational) → rest ≡ e ∷ rest_after → (least : ℕ) × IsPartlyDense n form rest row least → e.column < length row
-entry_inside n form e rest es row is (least, p) = let q : IsPartlyDense n form (e ∷ es) row least = (let P : List Entry → Type 0 = λ r. IsPartlyDense n form r row least in subst P is p) in rw (q.size) (q.below.0)
-
 -- ---- all rows
 
 pub one_more_row : (n i : ℕ) (forms : List (List Entry)) (rows : List (List Rational)) (form : List Entry) (row : List Rational) → length rows ≡ i → form ≡ get_or forms i [] → IsDense n form row
@@ -123,23 +91,7 @@ one_more_row n i forms rows form row size is one all = (length-append rows (row 
       | no m ↦ let R : List Rational → Type 0 = λ r. IsDense n (get_or forms k []) r in subst R (sym (get_or_append_left rows (row ∷ []) [] k (omega arith))) (all k (omega arith))
     ]
 
-pub form_here : (P : List Entry → Type 0) (forms : List (List Entry)) (i : ℕ) (form : List Entry) → ((k : ℕ) → IfSome (slice_get forms k) P) → slice_get forms i ≡ Some form → P form
-form_here P forms i form h e = let R : Option (List Entry) → Type 0 = λ o. IfSome o P in subst R e (h i)
-
 -- ---- positions
-
-pub none_counted : (old : List ℕ) → AreCounted old 0 old
-none_counted old = record { size = omega arith; kept = λ i h. refl; counted = λ k h. absurd (omega arith) }
-
-pub one_more_counted : (old new : List ℕ) (k : ℕ) → AreCounted old k new → AreCounted old (k + 1) (new ++ k ∷ [])
-one_more_counted old new k h = record {
-  size = length-append new (k ∷ []) ∙ (let e = h.size in omega arith);
-  kept = λ i l. get_or_append_left new (k ∷ []) 0 i (let e = h.size in omega arith) ∙ h.kept i l;
-  counted = λ m l. elim (ℕ_discrete m k) [
-    | yes at ↦ let e : length old + m ≡ length new + 0 = (let f = h.size in omega arith) in ap (λ j. get_or (new ++ k ∷ []) j 0) e ∙ get_or-append-add new (k ∷ []) 0 0 ∙ sym at
-    | no n ↦ get_or_append_left new (k ∷ []) 0 (length old + m) (let e = h.size in omega arith) ∙ h.counted m (omega arith)
-  ];
-}
 
 -- ---- the next of a list
 

@@ -21,12 +21,6 @@ use Rattle.simplex.proofs.SumLemmas.{entry_below}
 pub none_longer : (old : List Rational) → AreLonger old 0 old
 none_longer old = record { size = omega arith; kept = λ v h. refl }
 
-pub one_longer : (old new : List Rational) (k : ℕ) (a : Rational) → AreLonger old k new → AreLonger old (k + 1) (new ++ a ∷ [])
-one_longer old new k a h = record {
-  size = length-append new (a ∷ []) ∙ (let e = h.size in omega arith);
-  kept = λ v l. get_or_append_left new (a ∷ []) zero_ℚ v (let e = h.size in omega arith) ∙ h.kept v l;
-}
-
 pub one_more_number : (s : System) (values : List Rational) (i : ℕ) (b : Bounds) (a : Rational) → length values ≡ i → slice_get s.bounds i ≡ Some b → a ≡ first_number b.lower b.upper
     → ((v : ℕ) → v < i → number_at values v ≡ first_number (lower_of s v) (upper_of s v))
     → (length (values ++ a ∷ []) ≡ i + 1) × ((v : ℕ) → v < i + 1 → number_at (values ++ a ∷ []) v ≡ first_number (lower_of s v) (upper_of s v))
@@ -94,9 +88,6 @@ start_more s values n k form a h e l f g (same, all) = (length-set values (n + k
       | yes at ↦ let P : ℕ → Type 0 = λ j. number_at (set values (n + k) a) j ≡ start_point s j in subst P (sym at) (get_or-set_same values (n + k) a zero_ℚ (omega arith) ∙ value)
       | no w ↦ get_or-set_other values (n + k) v a zero_ℚ w ∙ all v (omega arith)
     ]
-
-pub start_all : (s : System) (values : List Rational) (n k : ℕ) → n ≡ s.columns → length s.forms ≤ k → (length values ≡ size s) × ((v : ℕ) → v < n + k → number_at values v ≡ start_point s v) → AreStartNumbers s values
-start_all s values n k e l (same, all) = record { size = same; numbers = λ v m. all v (omega arith) }
 
 pub start_fault : (s : System) (values : List Rational) (n k : ℕ) (form : List Entry) (e : NoFit) → IsSystem s → n ≡ s.columns → k < length s.forms → form ≡ get_or s.forms k []
     → (length values ≡ size s) × ((v : ℕ) → v < n + k → number_at values v ≡ start_point s v) → IsSumFault form (number_at values) e → IsStartFault s e

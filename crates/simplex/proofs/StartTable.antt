@@ -24,31 +24,6 @@ use Rattle.simplex.proofs.TableForms.{rate_number, gain_number, is_over_resting}
 pub none_basic : (old : List Place) → AreBasicPast old 0 old
 none_basic old = record { size = omega arith; kept = λ i h. refl; basic = λ k h. absurd (omega arith) }
 
-pub one_more_basic : (old new : List Place) (k : ℕ) → AreBasicPast old k new → AreBasicPast old (k + 1) (new ++ Basic ∷ [])
-one_more_basic old new k h = record {
-  size = length-append new (Basic ∷ []) ∙ (let e = h.size in omega arith);
-  kept = λ i l. get_or_append_left new (Basic ∷ []) AtZero i (let e = h.size in omega arith) ∙ h.kept i l;
-  basic = λ m l. elim (ℕ_discrete m k) [
-    | yes at ↦ let e : length old + m ≡ length new + 0 = (let f = h.size in omega arith) in ap (λ j. get_or (new ++ Basic ∷ []) j AtZero) e ∙ get_or-append-add new (Basic ∷ []) 0 AtZero
-    | no n ↦ get_or_append_left new (Basic ∷ []) AtZero (length old + m) (let e = h.size in omega arith) ∙ h.basic m (omega arith)
-  ];
-}
-
-pub one_more_place : (s : System) (places : List Place) (i : ℕ) (b : Bounds) (p : Place) → length places ≡ i → slice_get s.bounds i ≡ Some b → p ≡ first_place b.lower b.upper
-    → ((v : ℕ) → v < i → place_of places v ≡ first_place (lower_of s v) (upper_of s v))
-    → (length (places ++ p ∷ []) ≡ i + 1) × ((v : ℕ) → v < i + 1 → place_of (places ++ p ∷ []) v ≡ first_place (lower_of s v) (upper_of s v))
-one_more_place s places i b p size e f all = (length-append places (p ∷ []) ∙ (omega arith), each)
-  where
-    last : place_of (places ++ p ∷ []) i ≡ first_place (lower_of s i) (upper_of s i)
-    last = let g : i ≡ length places + 0 = omega arith in ap (place_of (places ++ p ∷ [])) g ∙ get_or-append-add places (p ∷ []) 0 AtZero ∙ f
-        ∙ sym (ap₂ first_place (ap (option_and_then (λ (c : Bounds). c.lower)) e) (ap (option_and_then (λ (c : Bounds). c.upper)) e))
-
-    each : (v : ℕ) → v < i + 1 → place_of (places ++ p ∷ []) v ≡ first_place (lower_of s v) (upper_of s v)
-    each v h = elim (ℕ_discrete v i) [
-      | yes at ↦ let P : ℕ → Type 0 = λ m. place_of (places ++ p ∷ []) m ≡ first_place (lower_of s m) (upper_of s m) in subst P (sym at) last
-      | no n ↦ get_or_append_left places (p ∷ []) AtZero v (omega arith) ∙ all v (omega arith)
-    ]
-
 pub start_places : (s : System) (n m : ℕ) (places new : List Place) → n ≡ s.columns → m ≡ length s.forms → length places ≡ n → ((v : ℕ) → v < n → place_of places v ≡ first_place (lower_of s v) (upper_of s v))
     → AreBasicPast places m new → IsStart s new
 start_places s n m places new e f size all h = record {

@@ -54,20 +54,6 @@ rows_fault initial now solved line column i e h n left fault = record { row = i;
 
 -- ---- all of a pivot
 
-pub rows_pivoted : (old mid : List (List Rational)) (gains new_gains empty solved : List Rational) (line column : ℕ) → line < length old
-    → IsSolved (get_or old line []) column solved → AreSubstituted (set old line empty) solved line column mid → IsSubstituted gains solved column new_gains
-    → ArePivoted old gains line column (set mid line solved) new_gains
-rows_pivoted old mid gains new_gains empty solved line column h one all objective = record {
-  count = length-set mid line solved ∙ all.count ∙ length-set old line empty;
-  solved = subst (IsSolved (get_or old line []) column) (sym here) one;
-  others = λ i k n. (let P : List Rational → List Rational → List Rational → Type 0 = λ a b c. IsSubstituted a b column c in
-      rw (here, get_or-set_other mid line i solved [] n, ← get_or-set_other old line i empty [] n) (all.others i (rw (length-set old line empty) k) n));
-  objective = let P : List Rational → Type 0 = λ b. IsSubstituted gains b column new_gains in subst P (sym here) objective;
-}
-  where
-    here : get_or (set mid line solved) line [] ≡ solved
-    here = get_or-set_same mid line solved [] (rw (all.count, length-set old line empty) h)
-
 pub rows_pivot_fault : (old : List (List Rational)) (gains empty solved : List Rational) (line column : ℕ) (e : NoFit)
     → IsSolved (get_or old line []) column solved → IsRowsFault (set old line empty) solved line column e → IsPivotedFault old gains line column e
 rows_pivot_fault old gains empty solved line column e one fault =

@@ -10,7 +10,7 @@ ghost use Rattle.basis.specs.Weights.{IsContradictory};
 ghost use Rattle.basis.specs.Numbers.{node_numbers};
 ghost use Rattle.simplex.specs.Rays.{IsFault};
 ghost use Rattle.simplex.specs.Run.{IsEnded, IsFaultOf};
-ghost use Rattle.simplex.specs.Answer.{IsRelaxed, IsNodeStop, IsStuck, source_of, stop_of as stop_for};
+ghost use Rattle.simplex.specs.Answer.{IsRelaxed, IsNodeStop, IsStuck, source_of, stop_of};
 ghost use Rattle.simplex.specs.declared.runs.End.TheVariants as EndOf;
 
 use crate::contradiction::{contradiction, contradiction_weights};
@@ -112,7 +112,7 @@ fn from_system(
 }
 
 fn stop_of(fault: Fault) -> RunFault
-    ensures { result ≡ stop_for fault }
+    ensures { result ≡ stop_of fault }
 {
     match fault {
         Fault::NoFit(fault) => RunFault::NoFit(fault),

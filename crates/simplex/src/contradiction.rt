@@ -3,8 +3,8 @@ ghost use Rattle.std.specs.Prelude.{None, negsuc, [], ◌∷◌, ◌≡◌, ◌<
 ghost use Rattle.rational.specs.Rational.{one_ℚ, whole};
 ghost use Rattle.certificate.specs.Written.{count_max};
 ghost use Rattle.basis.specs.System.{AreBoundsInOrder};
-ghost use Rattle.basis.specs.Weights.{IsContradictory, items_at, items_of, weights_of, contradiction_weights as weights_on_bounds};
-ghost use Rattle.simplex.specs.Crossed.{is_above as lies_above_upper, are_crossed as bounds_are_crossed};
+ghost use Rattle.basis.specs.Weights.{IsContradictory, items_at, items_of, weights_of, contradiction_weights};
+ghost use Rattle.simplex.specs.Crossed.{is_above, are_crossed};
 
 use crate::system::{Bounds, System};
 use certificate::{DerivedRows, Item, Items, Weights};
@@ -26,7 +26,7 @@ pub(crate) fn contradiction(system: &System) -> Option<usize>
 }
 
 fn are_crossed(bounds: Bounds) -> bool
-    ensures { result ≡ bounds_are_crossed bounds.lower bounds.upper }
+    ensures { result ≡ are_crossed bounds.lower bounds.upper }
 {
     match bounds.lower {
         None => false,
@@ -35,7 +35,7 @@ fn are_crossed(bounds: Bounds) -> bool
 }
 
 fn is_above(lower: Frac, upper: Option<Frac>) -> bool
-    ensures { result ≡ lies_above_upper lower upper }
+    ensures { result ≡ is_above lower upper }
 {
     match upper {
         None => false,
@@ -50,7 +50,7 @@ pub(crate) fn contradiction_weights(
     derived: &DerivedRows,
     v: usize,
 ) -> Result<Weights, AllocError>
-    ensures { IfOk result (λ w. w ≡ weights_of instance.now derived.now (weights_on_bounds v)) }
+    ensures { IfOk result (λ w. w ≡ weights_of instance.now derived.now (contradiction_weights v)) }
 {
     let columns = instance.columns().len();
     let rows = instance.rows().len();
@@ -63,7 +63,7 @@ pub(crate) fn contradiction_weights(
 
 // The two weights, where v is one of the `count` variables from `first` on.
 fn two_items(alloc: Global, first: usize, count: u32, v: usize) -> Result<Items, AllocError>
-    ensures { IfOk result (λ items. items ≡ items_of (weights_on_bounds v) first 0 count) }
+    ensures { IfOk result (λ items. items ≡ items_of (contradiction_weights v) first 0 count) }
 {
     if v < first {
         return Ok(Items::new(alloc));

@@ -7,7 +7,7 @@ ghost use Rattle.basis.specs.Bland.{IsOutside, HasPassed, Improves, IsLeast, Men
 ghost use Rattle.simplex.specs.Table.{dictionary_of};
 ghost use Rattle.simplex.specs.Values.{direction_of};
 ghost use Rattle.simplex.specs.Run.{IsRunFault};
-ghost use Rattle.simplex.specs.Steps.{IsAt, IsChoice, bound_at as bound_of_place};
+ghost use Rattle.simplex.specs.Steps.{IsAt, IsChoice, bound_at};
 
 use crate::choose::{first_improving, first_mending, first_outside};
 use crate::ratio::{first_reach, step_to, turned};
@@ -93,7 +93,7 @@ fn way_back(
 }
 
 fn bound_at(bounds: Bounds, place: Place) -> Option<Frac>
-    ensures { result ≡ bound_of_place bounds place }
+    ensures { result ≡ bound_at bounds place }
 {
     match place {
         Place::AtLower => bounds.lower,

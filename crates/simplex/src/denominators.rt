@@ -1,9 +1,9 @@
 // Least common denominators.
 ghost use Rattle.std.specs.Prelude.{ℕ, pos, ◌≡◌, ◌<◌, ◌≤◌, ◌*◌, ◌/◌, SomeIff, IfOk, IfErr};
-ghost use Rattle.integer.specs.Gcd.{gcd as gcd_of};
-ghost use Rattle.rational.specs.Rational.{over, whole as whole_of};
+ghost use Rattle.integer.specs.Gcd.{gcd};
+ghost use Rattle.rational.specs.Rational.{over, whole};
 ghost use Rattle.fraction.specs.Fits.{part_max};
-ghost use Rattle.basis.specs.Weights.{common_denominator as denominator_of};
+ghost use Rattle.basis.specs.Weights.{common_denominator};
 ghost use Rattle.simplex.specs.Rays.{IsShareFault, IsDenominatorFault};
 
 use fraction::{Frac, NoFit, Op};
@@ -13,7 +13,7 @@ const PART_MAX: u128 = i128::MAX as u128;
 /// The least common denominator, or the first sum of 1 over that of the numbers so far and 1 over the next number's
 /// denominator that does not fit.
 pub(crate) fn common_denominator(numbers: &[Frac]) -> Result<u128, NoFit>
-    ensures ok { IfOk result (λ m. m ≡ denominator_of 1 numbers.now) }
+    ensures ok { IfOk result (λ m. m ≡ common_denominator 1 numbers.now) }
     ensures fits { IfOk result (λ m. m ≤ part_max) }
     ensures err { IfErr result (IsDenominatorFault numbers.now) }
 {
@@ -39,7 +39,7 @@ fn common_multiple(m: u128, d: u128) -> Result<u128, NoFit>
     requires m_fits { m ≤ part_max }
     requires d_some { 0 < d }
     requires d_fits { d ≤ part_max }
-    ensures ok { IfOk result (λ l. l ≡ m * (d / gcd_of m d)) }
+    ensures ok { IfOk result (λ l. l ≡ m * (d / gcd m d)) }
     ensures some { IfOk result (λ l. 0 < l) }
     ensures fits { IfOk result (λ l. l ≤ part_max) }
     ensures err { IfErr result (IsShareFault m d) }
@@ -79,7 +79,7 @@ fn share(m: u128) -> Frac
 /// The whole number m.
 pub(crate) fn whole(m: u128) -> Frac
     requires { m ≤ part_max }
-    ensures { result ≡ whole_of (pos m) }
+    ensures { result ≡ whole (pos m) }
 {
     Frac::whole(m as i128)
 }
@@ -88,7 +88,7 @@ pub(crate) fn whole(m: u128) -> Frac
 #[tactic(auto, using(crate::proofs::Shares::divisor_some))]
 fn divisor(a: u128, b: u128) -> u128
     requires { 0 < b }
-    ensures same { result ≡ gcd_of a b }
+    ensures same { result ≡ gcd a b }
     ensures some { 0 < result }
 {
     gcd(a, b)
@@ -96,7 +96,7 @@ fn divisor(a: u128, b: u128) -> u128
 
 // Euclid's algorithm.
 fn gcd(a: u128, b: u128) -> u128
-    ensures { result ≡ gcd_of a b }
+    ensures { result ≡ gcd a b }
 {
     let mut x = a;
     let mut y = b;

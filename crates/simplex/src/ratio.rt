@@ -4,7 +4,7 @@ ghost use Rattle.rational.specs.Rational.{Rational, ◌+ℚ◌, ◌*ℚ◌};
 ghost use Rattle.milp.specs.Form.{number_at};
 ghost use Rattle.basis.specs.System.{size};
 ghost use Rattle.basis.specs.Dictionary.{IsResting};
-ghost use Rattle.simplex.specs.Ratio.{turned as turned_number, bound_ahead as bound_in_the_way, along, IsStepFault, IsLengthFault, IsReachOf, IsFirstReach, sooner_reach as sooner_reach_of, sooner_of};
+ghost use Rattle.simplex.specs.Ratio.{turned, bound_ahead, along, IsStepFault, IsLengthFault, IsReachOf, IsFirstReach, sooner_reach, sooner_of};
 ghost use Rattle.simplex.specs.Values.{direction_of};
 
 use crate::dictionary::Dictionary;
@@ -83,7 +83,7 @@ fn sooner(first: Option<Reach>, other: Option<Reach>) -> Option<Reach>
 }
 
 fn sooner_reach(first: Option<Reach>, reach: Reach) -> Reach
-    ensures { result ≡ sooner_reach_of first reach }
+    ensures { result ≡ sooner_reach first reach }
 {
     match first {
         None => reach,
@@ -129,14 +129,14 @@ pub(crate) fn change(dictionary: &Dictionary, q: usize, v: usize) -> Frac
 
 /// The number, or its negative where the mover falls.
 pub(crate) fn turned(rises: bool, a: Frac) -> Frac
-    ensures { result ≡ turned_number rises a }
+    ensures { result ≡ turned rises a }
 {
     if rises { a } else { a.neg() }
 }
 
 /// The bound in the way of a variable that changes so, and its place.
 pub(crate) fn bound_ahead(bounds: Bounds, change: Frac) -> Option<(Frac, Place)>
-    ensures { result ≡ bound_in_the_way bounds change }
+    ensures { result ≡ bound_ahead bounds change }
 {
     let zero = Frac::whole(0);
     if zero < change {

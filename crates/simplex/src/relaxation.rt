@@ -5,7 +5,7 @@ ghost use Rattle.milp.specs.Problem.{Row as RowOf};
 ghost use Rattle.milp.specs.Points.{sign_of};
 ghost use Rattle.verdicts.specs.Certificate.{Derived as DerivedOf};
 ghost use Rattle.verdicts.specs.WeightedSums.{scaled};
-ghost use Rattle.verdicts.specs.Proves.{lesser as lesser_bound, greater as greater_bound};
+ghost use Rattle.verdicts.specs.Proves.{lesser, greater};
 ghost use Rattle.search_node.specs.Sides.{side_of, sides_of};
 ghost use Rattle.basis.specs.Node.{system_of, row_bounds, derived_bounds, column_bounds as column_bounds_under, IsOverColumns};
 ghost use Rattle.simplex.specs.Bounds.{column_bounds};
@@ -109,7 +109,7 @@ fn narrowed(bounds: Bounds, split: Split, side: Side) -> Result<Bounds, NoFit>
 
 // At least the next whole number.
 fn at_least(bounds: Bounds, at: Frac) -> Result<Bounds, NoFit>
-    ensures ok { IfOk result (λ b. b ≡ record { lower = Some (greater_bound bounds.lower (at +ℚ one_ℚ)); upper = bounds.upper }) }
+    ensures ok { IfOk result (λ b. b ≡ record { lower = Some (greater bounds.lower (at +ℚ one_ℚ)); upper = bounds.upper }) }
     ensures err { IfErr result (IsNextFault at) }
 {
     let next = at.add(Frac::whole(1))?;
@@ -120,7 +120,7 @@ fn at_least(bounds: Bounds, at: Frac) -> Result<Bounds, NoFit>
 }
 
 fn lesser(bound: Option<Frac>, b: Frac) -> Frac
-    ensures { result ≡ lesser_bound bound b }
+    ensures { result ≡ lesser bound b }
 {
     match bound {
         None => b,
@@ -129,7 +129,7 @@ fn lesser(bound: Option<Frac>, b: Frac) -> Frac
 }
 
 fn greater(bound: Option<Frac>, b: Frac) -> Frac
-    ensures { result ≡ greater_bound bound b }
+    ensures { result ≡ greater bound b }
 {
     match bound {
         None => b,

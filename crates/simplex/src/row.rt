@@ -2,7 +2,7 @@
 ghost use Rattle.std.specs.Prelude.{ℕ, pos, [], length, true, ◌≡◌, ◌≢◌, ◌<◌, OnOk, IfOk, IfErr};
 ghost use Rattle.rational.specs.Rational.{Rational, neg_ℚ, ◌+ℚ◌, ◌*ℚ◌, ◌/ℚ◌};
 ghost use Rattle.milp.specs.Form.{number_at};
-ghost use Rattle.instance.specs.WellFormed.{is_zero as is_zero_number};
+ghost use Rattle.instance.specs.WellFormed.{is_zero};
 ghost use Rattle.simplex.specs.Rows.{IsSolved, IsSubstituted, IsSolvingFault, IsSubstitutionFault, IsProductOrSum, IsQuotient};
 
 use fraction::{Frac, NoFit};
@@ -127,7 +127,7 @@ pub(crate) fn mul_add(factor: Frac, a: Frac, b: Frac) -> Result<Frac, NoFit>
 }
 
 fn is_zero(a: Frac) -> bool
-    ensures { result ≡ is_zero_number a }
+    ensures { result ≡ is_zero a }
 {
     a.parts().0 == 0
 }

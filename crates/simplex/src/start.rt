@@ -1,7 +1,7 @@
 // The dictionary at the start of a run.
 ghost use Rattle.std.specs.Prelude.{ℕ, length, slice_get, ◌+◌, ◌≡◌, ◌<◌, IfOk, OnOk, IfSome};
 ghost use Rattle.verdicts.specs.WeightedSums.{AllBelow};
-ghost use Rattle.basis.specs.Bland.{IsStart, first_place as place_at_first};
+ghost use Rattle.basis.specs.Bland.{IsStart, first_place};
 ghost use Rattle.simplex.specs.Ascending.{IsAscending};
 ghost use Rattle.simplex.specs.Start.{IsDense, AreDense, AreCounted, AreBasicPast, ArePositions};
 
@@ -26,7 +26,7 @@ pub(crate) fn places_of(alloc: Global, system: &System) -> Result<Vec<Place>, Al
 }
 
 fn first_place(bounds: Bounds) -> Place
-    ensures { result ≡ place_at_first bounds.lower bounds.upper }
+    ensures { result ≡ first_place bounds.lower bounds.upper }
 {
     if bounds.lower.is_some() {
         Place::AtLower

@@ -3,9 +3,9 @@ ghost use Rattle.std.specs.Prelude.{ℕ, length, cond, ◌≡◌, ◌≤◌, ◌
 ghost use Rattle.rational.specs.Rational.{zero_ℚ};
 ghost use Rattle.certificate.specs.Written.{count_max, next_place};
 ghost use Rattle.basis.specs.Dictionary.{IsBasic, gain_of};
-ghost use Rattle.basis.specs.Weights.{items_at, items_of, weights_of, nonzero, row_weight as weight_in_row};
+ghost use Rattle.basis.specs.Weights.{items_at, items_of, weights_of, nonzero, row_weight};
 ghost use Rattle.simplex.specs.Table.{dictionary_of};
-ghost use Rattle.simplex.specs.Sources.{IsFromBasic, weight_from, weights_from as weights_of_source};
+ghost use Rattle.simplex.specs.Sources.{IsFromBasic, weight_from, weights_from};
 
 use crate::dictionary::Dictionary;
 use certificate::{DerivedRows, Item, Items, Weights};
@@ -32,7 +32,7 @@ pub(crate) fn weights(
 ) -> Result<Weights, AllocError>
     requires places { length dictionary.now.places ≡ length instance.now.columns + (length instance.now.rows + length derived.now) }
     requires basic { IsFromBasic dictionary.now.places source }
-    ensures { IfOk result (λ w. w ≡ weights_of instance.now derived.now (weights_of_source dictionary.now source)) }
+    ensures { IfOk result (λ w. w ≡ weights_of instance.now derived.now (weights_from dictionary.now source)) }
 {
     let columns = instance.columns().len();
     let rows = instance.rows().len();
@@ -59,7 +59,7 @@ fn items(
 ) -> Result<Items, AllocError>
     requires known { first + count ≤ length dictionary.now.places }
     requires basic { IsFromBasic dictionary.now.places source }
-    ensures { IfOk result (λ items. items ≡ items_of (weights_of_source dictionary.now source) first 0 count) }
+    ensures { IfOk result (λ items. items ≡ items_of (weights_from dictionary.now source) first 0 count) }
 {
     let mut items = Items::new(alloc);
     for index in 0..count {
@@ -109,7 +109,7 @@ fn gain(dictionary: &Dictionary, v: usize) -> Frac
 fn row_weight(dictionary: &Dictionary, r: usize, v: usize) -> Frac
     requires known { v < length dictionary.now.places }
     requires basic { IsBasic dictionary.now.places r }
-    ensures { result ≡ weight_in_row (dictionary_of dictionary.now) r v }
+    ensures { result ≡ row_weight (dictionary_of dictionary.now) r v }
 {
     if v == r {
         return Frac::whole(1);

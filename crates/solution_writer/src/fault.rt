@@ -1,6 +1,6 @@
 // The lines of faults.
 ghost use Rattle.std.specs.Prelude.{◌≡◌, IfOk, string_bytes};
-ghost use Rattle.solution_writer.specs.FaultLine.{operator_text as operator_text_of, named_line as named_line_of, file_line as file_line_of, overflow_line as overflow_line_of, fault_line as fault_line_of, certificate_kind_text as certificate_kind_text_of, certificate_line as certificate_line_of, part_text as part_text_of, refused_line as refused_line_of};
+ghost use Rattle.solution_writer.specs.FaultLine.{operator_text, named_line, file_line, overflow_line, fault_line, certificate_kind_text, certificate_line, part_text, refused_line};
 
 use cert_check::Part;
 use certificate::{CertFault, FaultKind};
@@ -40,7 +40,7 @@ pub enum Fault<'a> {
 
 /// The line of a fault.
 pub fn fault_line(alloc: Global, fault: &Fault<'_>) -> Result<String, AllocError>
-    ensures { IfOk result (λ text. string_bytes text ≡ fault_line_of fault.now) }
+    ensures { IfOk result (λ text. string_bytes text ≡ fault_line fault.now) }
 {
     match fault {
         Fault::Usage => "usage: glpsol (--freemps|--lp) FILE [options]\n".to_string(alloc),
@@ -59,14 +59,14 @@ pub fn fault_line(alloc: Global, fault: &Fault<'_>) -> Result<String, AllocError
 }
 
 fn named_line(alloc: Global, what: &str, name: &Name) -> Result<String, AllocError>
-    ensures { IfOk result (λ text. string_bytes text ≡ named_line_of what.now name.now) }
+    ensures { IfOk result (λ text. string_bytes text ≡ named_line what.now name.now) }
 {
     let name = name.as_str();
     format!(in alloc; "{what}: {name}\n")
 }
 
 fn file_line(alloc: Global, fault: FileFault) -> Result<String, AllocError>
-    ensures { IfOk result (λ text. string_bytes text ≡ file_line_of fault) }
+    ensures { IfOk result (λ text. string_bytes text ≡ file_line fault) }
 {
     let FileFault { line, kind } = fault;
     let kind = kind.as_str();
@@ -74,7 +74,7 @@ fn file_line(alloc: Global, fault: FileFault) -> Result<String, AllocError>
 }
 
 fn certificate_line(alloc: Global, fault: CertFault) -> Result<String, AllocError>
-    ensures { IfOk result (λ text. string_bytes text ≡ certificate_line_of fault) }
+    ensures { IfOk result (λ text. string_bytes text ≡ certificate_line fault) }
 {
     let CertFault { line, kind } = fault;
     let kind = certificate_kind_text(kind);
@@ -82,7 +82,7 @@ fn certificate_line(alloc: Global, fault: CertFault) -> Result<String, AllocErro
 }
 
 fn certificate_kind_text(kind: FaultKind) -> &'static str
-    ensures { result.now ≡ certificate_kind_text_of kind }
+    ensures { result.now ≡ certificate_kind_text kind }
 {
     match kind {
         FaultKind::BadLine => "BadLine",
@@ -93,14 +93,14 @@ fn certificate_kind_text(kind: FaultKind) -> &'static str
 }
 
 fn refused_line(alloc: Global, part: Part) -> Result<String, AllocError>
-    ensures { IfOk result (λ text. string_bytes text ≡ refused_line_of part) }
+    ensures { IfOk result (λ text. string_bytes text ≡ refused_line part) }
 {
     let part = part_text(alloc, part)?;
     format!(in alloc; "refused: {part}\n")
 }
 
 fn part_text(alloc: Global, part: Part) -> Result<String, AllocError>
-    ensures { IfOk result (λ text. string_bytes text ≡ part_text_of part) }
+    ensures { IfOk result (λ text. string_bytes text ≡ part_text part) }
 {
     match part {
         Part::Size => "size".to_string(alloc),
@@ -113,7 +113,7 @@ fn part_text(alloc: Global, part: Part) -> Result<String, AllocError>
 }
 
 fn overflow_line(alloc: Global, fault: NoFit) -> Result<String, AllocError>
-    ensures { IfOk result (λ text. string_bytes text ≡ overflow_line_of fault) }
+    ensures { IfOk result (λ text. string_bytes text ≡ overflow_line fault) }
 {
     let a = fault.a.text(alloc)?;
     let op = operator_text(fault.op);
@@ -122,7 +122,7 @@ fn overflow_line(alloc: Global, fault: NoFit) -> Result<String, AllocError>
 }
 
 fn operator_text(op: Op) -> &'static str
-    ensures { result.now ≡ operator_text_of op }
+    ensures { result.now ≡ operator_text op }
 {
     match op {
         Op::Add => "+",

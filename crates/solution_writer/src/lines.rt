@@ -1,6 +1,6 @@
 // The lines of columns and rows.
 ghost use Rattle.std.specs.Prelude.{◌≡◌, IfOk, length, string_bytes};
-ghost use Rattle.solution_writer.specs.Report.{head_line as head_line_of, column_line as column_line_of, column_lines as column_lines_of, ray_line as ray_line_of, ray_lines as ray_lines_of, row_line as row_line_of};
+ghost use Rattle.solution_writer.specs.Report.{head_line, column_line, column_lines, ray_line, ray_lines, row_line};
 
 use fraction::Frac;
 use instance::{Column, Name};
@@ -8,7 +8,7 @@ use std::alloc::{AllocError, Global};
 
 /// The word OPTIMAL, and the objective with its value.
 pub fn head_line(alloc: Global, name: &Name, value: Frac) -> Result<String, AllocError>
-    ensures { IfOk result (λ text. string_bytes text ≡ head_line_of name.now value) }
+    ensures { IfOk result (λ text. string_bytes text ≡ head_line name.now value) }
 {
     let name = name.as_str();
     let value = value.text(alloc)?;
@@ -18,7 +18,7 @@ pub fn head_line(alloc: Global, name: &Name, value: Frac) -> Result<String, Allo
 /// Each column with its number.
 pub fn column_lines(alloc: Global, columns: &[Column], point: &[Frac]) -> Result<String, AllocError>
     requires { length point.now ≡ length columns.now }
-    ensures { IfOk result (λ text. string_bytes text ≡ column_lines_of columns.now point.now) }
+    ensures { IfOk result (λ text. string_bytes text ≡ column_lines columns.now point.now) }
 {
     let mut text = String::new(alloc);
     for (i, column) in columns.iter().enumerate() {
@@ -29,7 +29,7 @@ pub fn column_lines(alloc: Global, columns: &[Column], point: &[Frac]) -> Result
 }
 
 fn column_line(alloc: Global, name: &Name, number: Frac) -> Result<String, AllocError>
-    ensures { IfOk result (λ text. string_bytes text ≡ column_line_of name.now number) }
+    ensures { IfOk result (λ text. string_bytes text ≡ column_line name.now number) }
 {
     let name = name.as_str();
     let number = number.text(alloc)?;
@@ -45,7 +45,7 @@ pub fn ray_lines(
 ) -> Result<String, AllocError>
     requires point { length point.now ≡ length columns.now }
     requires ray { length ray.now ≡ length columns.now }
-    ensures { IfOk result (λ text. string_bytes text ≡ ray_lines_of columns.now point.now ray.now) }
+    ensures { IfOk result (λ text. string_bytes text ≡ ray_lines columns.now point.now ray.now) }
 {
     let mut text = String::new(alloc);
     for (i, column) in columns.iter().enumerate() {
@@ -56,7 +56,7 @@ pub fn ray_lines(
 }
 
 fn ray_line(alloc: Global, name: &Name, number: Frac, step: Frac) -> Result<String, AllocError>
-    ensures { IfOk result (λ text. string_bytes text ≡ ray_line_of name.now number step) }
+    ensures { IfOk result (λ text. string_bytes text ≡ ray_line name.now number step) }
 {
     let name = name.as_str();
     let number = number.text(alloc)?;
@@ -66,7 +66,7 @@ fn ray_line(alloc: Global, name: &Name, number: Frac, step: Frac) -> Result<Stri
 
 /// A row with the value of its form.
 pub fn row_line(alloc: Global, name: &Name, value: Frac) -> Result<String, AllocError>
-    ensures { IfOk result (λ text. string_bytes text ≡ row_line_of name.now value) }
+    ensures { IfOk result (λ text. string_bytes text ≡ row_line name.now value) }
 {
     let name = name.as_str();
     let value = value.text(alloc)?;

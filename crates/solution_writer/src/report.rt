@@ -4,7 +4,7 @@ ghost use Rattle.std.specs.Option.{option_map};
 ghost use Rattle.rational.specs.Rational.{zero_ℚ};
 ghost use Rattle.milp.specs.Form.{sum_at};
 ghost use Rattle.instance.specs.Sums.{sum_answer, form_of};
-ghost use Rattle.solution_writer.specs.Report.{optimal_at as optimal_at_of, unbounded_at as unbounded_at_of, row_lines as row_lines_of, optimal_report as optimal_report_of, unbounded_report as unbounded_report_of, solved_report as solved_report_of, translated_report as translated_report_of, accepted_report as accepted_report_of, RowsFit, IsReportable};
+ghost use Rattle.solution_writer.specs.Report.{optimal_at, unbounded_at, row_lines, optimal_report, unbounded_report, solved_report, translated_report, accepted_report, RowsFit, IsReportable};
 
 use crate::lines::{column_lines, head_line, ray_lines, row_line};
 use certificate::{Certificate, Verdict};
@@ -22,7 +22,7 @@ pub fn solved_report(
     certificate: &Certificate,
 ) -> Result<String, AllocError>
     requires sizes { IsReportable problem.now certificate.now }
-    ensures { IfOk result (λ text. string_bytes text ≡ solved_report_of problem.now certificate.now) }
+    ensures { IfOk result (λ text. string_bytes text ≡ solved_report problem.now certificate.now) }
 {
     match certificate.verdict() {
         Verdict::Optimal => optimal_at(alloc, problem, certificate.value(), certificate.point()),
@@ -39,7 +39,7 @@ fn optimal_at(
 ) -> Result<String, AllocError>
     requires size { IfSome (option_map (λ p. p.now) point) (λ x. length x ≡ length problem.now.columns) }
     requires rows { IfSome (option_map (λ p. p.now) point) (λ x. RowsFit x problem.now.rows) }
-    ensures { IfOk result (λ text. string_bytes text ≡ optimal_at_of problem.now value (option_map (λ p. p.now) point.entry)) }
+    ensures { IfOk result (λ text. string_bytes text ≡ optimal_at problem.now value (option_map (λ p. p.now) point.entry)) }
 {
     match value {
         None => Ok(String::new(alloc)),
@@ -58,7 +58,7 @@ fn optimal_report(
 ) -> Result<String, AllocError>
     requires size { length point.now ≡ length problem.now.columns }
     requires rows { RowsFit point.now problem.now.rows }
-    ensures { IfOk result (λ text. string_bytes text ≡ optimal_report_of problem.now value point.now) }
+    ensures { IfOk result (λ text. string_bytes text ≡ optimal_report problem.now value point.now) }
 {
     let mut text = head_line(alloc, problem.objective_name(), value)?;
     let columns = column_lines(alloc, problem.columns(), point.as_slice())?;
@@ -71,7 +71,7 @@ fn optimal_report(
 fn row_lines(alloc: Global, problem: &Instance, point: &Point) -> Result<String, AllocError>
     requires size { length point.now ≡ length problem.now.columns }
     requires rows { RowsFit point.now problem.now.rows }
-    ensures { IfOk result (λ text. string_bytes text ≡ row_lines_of point.now problem.now.rows) }
+    ensures { IfOk result (λ text. string_bytes text ≡ row_lines point.now problem.now.rows) }
 {
     let _columns = problem.columns();
     let rows = problem.rows();
@@ -105,7 +105,7 @@ fn unbounded_at(
 ) -> Result<String, AllocError>
     requires point { IfSome (option_map (λ p. p.now) point) (λ x. length x ≡ length problem.now.columns) }
     requires ray { IfSome (option_map (λ r. r.now) ray) (λ r. length r ≡ length problem.now.columns) }
-    ensures { IfOk result (λ text. string_bytes text ≡ unbounded_at_of problem.now (option_map (λ p. p.now) point.entry) (option_map (λ r. r.now) ray.entry)) }
+    ensures { IfOk result (λ text. string_bytes text ≡ unbounded_at problem.now (option_map (λ p. p.now) point.entry) (option_map (λ r. r.now) ray.entry)) }
 {
     match point {
         None => Ok(String::new(alloc)),
@@ -124,7 +124,7 @@ fn unbounded_report(
 ) -> Result<String, AllocError>
     requires point { length point.now ≡ length problem.now.columns }
     requires ray { length ray.now ≡ length problem.now.columns }
-    ensures { IfOk result (λ text. string_bytes text ≡ unbounded_report_of problem.now point.now ray.now) }
+    ensures { IfOk result (λ text. string_bytes text ≡ unbounded_report problem.now point.now ray.now) }
 {
     let mut text = "UNBOUNDED\n".to_string(alloc)?;
     let lines = ray_lines(alloc, problem.columns(), point.as_slice(), ray.as_slice())?;
@@ -134,7 +134,7 @@ fn unbounded_report(
 
 /// The report of a problem that was only read: its numbers of rows and columns.
 pub fn translated_report(alloc: Global, problem: &Instance) -> Result<String, AllocError>
-    ensures { IfOk result (λ text. string_bytes text ≡ translated_report_of problem.now) }
+    ensures { IfOk result (λ text. string_bytes text ≡ translated_report problem.now) }
 {
     let rows = problem.rows().len();
     let columns = problem.columns().len();
@@ -143,7 +143,7 @@ pub fn translated_report(alloc: Global, problem: &Instance) -> Result<String, Al
 
 /// The report of a certificate that was accepted.
 pub fn accepted_report(alloc: Global) -> Result<String, AllocError>
-    ensures { IfOk result (λ text. string_bytes text ≡ accepted_report_of) }
+    ensures { IfOk result (λ text. string_bytes text ≡ accepted_report) }
 {
     "ACCEPTED\n".to_string(alloc)
 }

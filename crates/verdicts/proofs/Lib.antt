@@ -11,5 +11,4 @@ pub mod Law
 pub mod Steps
 pub mod Converse
 pub mod Trees
-pub mod OneLeaf
 mod Examples

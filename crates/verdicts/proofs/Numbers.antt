@@ -37,9 +37,6 @@ neg_whole t = same_parts _ _ refl refl
 pub minus_one-mul : (a : Rational) → whole (negsuc 0) *ℚ a ≡ neg_ℚ a
 minus_one-mul a = ap (λ m. m *ℚ a) (neg_whole (pos 1)) ∙ Q.neg_mul one_ℚ a ∙ ap neg_ℚ (Q.one-mul a)
 
-pub lt-le_trans : (a b c : Rational) → a <ℚ b → c ≤ℚ a → b ≤ℚ c → {X : Type 0} → X
-lt-le_trans a b c h g k = absurd (Q.lt-not-le a b h (Q.le_trans b c a k g))
-
 -- ---- whole numbers
 
 pub whole-numerator : (a : Rational) → IsWhole a → whole a.numerator ≡ a

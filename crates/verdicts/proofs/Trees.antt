@@ -20,9 +20,6 @@ tree_then p goal ds (Divided s low high) sides places rest h g k =
     let after : first_failing (node_tests p goal ds (k + 1) ((Low s ∷ sides) ∷ (High s ∷ sides) ∷ places) nodes) ≡ None = rw (append_assoc (preorder low) (preorder high) rest) (low_then (k + 1)) in
     from_passing (record { part = Part.Node k; passes = node_passes p goal ds sides (Branch s) }) (node_tests p goal ds (k + 1) ((Low s ∷ sides) ∷ (High s ∷ sides) ∷ places) nodes) h.0 after
 
-pub tree_passes : (p : Problem) (goal : Option Rational) (ds : List Derived) (t : Tree) → TreePasses p goal ds [] t → first_failing (node_tests p goal ds 1 ([] ∷ []) (preorder t)) ≡ None
-tree_passes p goal ds t h = rw (append-nil (preorder t)) at (tree_then p goal ds t [] [] [] h (λ k. refl) 1)
-
 -- ---- the scan back
 
 past_leaf : (node : TreeNode) (before : List TreeNode) (skip n : ℕ) → ((j : ℕ) → way_to (node ∷ before) j ≡ way_to before (suc j)) → ways_to (node ∷ before) skip n ≡ ways_to before (suc skip) n

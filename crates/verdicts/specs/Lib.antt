@@ -4,4 +4,3 @@ pub mod Rays
 pub mod Certificate
 pub mod Proves
 pub mod Preorder
-pub mod OneLeaf

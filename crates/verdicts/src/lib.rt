@@ -9,7 +9,6 @@ ghost use Rattle.milp.specs.Points.{Relaxed, Feasible, IsUnbounded, IsImprovingR
 ghost use Rattle.milp.specs.Form.{sum_at};
 ghost use Rattle.verdicts.specs.Rays.{moved};
 ghost use Rattle.verdicts.specs.Certificate.{Derived, Side, Weights, Certificate};
-ghost use Rattle.verdicts.specs.OneLeaf.{optimal_certificate, infeasible_certificate, unbounded_certificate, AreTerms, AddUpTo};
 ghost use Rattle.verdicts.specs.Proves.{terms, InsideBounds, AllDerived, Proves, Holds, meets, is_improving_ray};
 
 /// The tests of a point and of a ray are what they stand for.
@@ -37,15 +36,4 @@ pub fn rays_lead_on()
         (t : ℕ) → Feasible p (moved x t r) }
     ensures better { (p : Problem) (x r : List Rational) → IsUnbounded p x r →
         (t u : ℕ) → t < u → IsBetter p (moved x u r) (moved x t r) }
-{}
-
-/// A feasible point with weights that add up to the objective and bound it by the point's value, weights that add up to
-/// nothing and bound it above 0, and a point with a ray make certificates that prove their verdicts.
-pub fn certificates_of_one_leaf()
-    ensures optimal { (p : Problem) (x : List Rational) (w : Weights) (ts : List Weighted) → Feasible p x → AreTerms p w ts
-        → AddUpTo p ts (scaled (sign_of p.direction) p.objective) → sign_of p.direction *ℚ sum_at x p.objective ≤ℚ combined_bound ts
-        → Proves p (optimal_certificate p x w) }
-    ensures infeasible { (p : Problem) (w : Weights) (ts : List Weighted) → AreTerms p w ts → AddUpTo p ts []
-        → zero_ℚ <ℚ combined_bound ts → Proves p (infeasible_certificate p w) }
-    ensures unbounded { (p : Problem) (x r : List Rational) → IsUnbounded p x r → Proves p (unbounded_certificate p x r) }
 {}

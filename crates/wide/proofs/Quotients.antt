@@ -50,7 +50,3 @@ pub bits_more : (bits q d left n i b over : ℕ) → bits + 2 ^ 128 * (q * d + l
     → 2 * (bits % 2 ^ 127) + 2 ^ 128 * ((2 * q + b) * d + over) ≡ n * 2 ^ (i + 1)
 bits_more bits q d left n i b over f g =
     bit_more (bits % 2 ^ 127) (bits / 2 ^ 127) bits q d left n (2 ^ i) b over (omega arith) f g ∙ ap (λ x. n * x) (sym (pow_more 2 i))
-
--- all bits are taken
-pub bits_done : (bits q d left n : ℕ) → bits < 2 ^ 128 → bits + 2 ^ 128 * (q * d + left) ≡ n * 2 ^ 128 → n ≡ q * d + left
-bits_done bits q d left n h e = omega arith
