@@ -74,25 +74,6 @@ more_dense n form e rest es row is (least, p) = go (let P : List Entry → Type 
           ]
         ]
 
--- ---- all rows
-
-pub one_more_row : (n i : ℕ) (forms : List (List Entry)) (rows : List (List Rational)) (form : List Entry) (row : List Rational) → length rows ≡ i → form ≡ get_or forms i [] → IsDense n form row
-    → ((k : ℕ) → k < i → IsDense n (get_or forms k []) (get_or rows k []))
-    → (length (rows ++ row ∷ []) ≡ i + 1) × ((k : ℕ) → k < i + 1 → IsDense n (get_or forms k []) (get_or (rows ++ row ∷ []) k []))
-one_more_row n i forms rows form row size is one all = (length-append rows (row ∷ []) ∙ (omega arith), each)
-  where
-    last : get_or (rows ++ row ∷ []) i [] ≡ row
-    last = let e : i ≡ length rows + 0 = omega arith in ap (λ k. get_or (rows ++ row ∷ []) k []) e ∙ get_or-append-add rows (row ∷ []) 0 []
-
-    each : (k : ℕ) → k < i + 1 → IsDense n (get_or forms k []) (get_or (rows ++ row ∷ []) k [])
-    each k h = elim (ℕ_discrete k i) [
-      | yes at ↦ let P : ℕ → Type 0 = λ m. IsDense n (get_or forms m []) (get_or (rows ++ row ∷ []) m []) in
-          subst P (sym at) (let R : List Entry → List Rational → Type 0 = IsDense n in subst (λ f. R f (get_or (rows ++ row ∷ []) i [])) is (subst (λ r. R form r) (sym last) one))
-      | no m ↦ let R : List Rational → Type 0 = λ r. IsDense n (get_or forms k []) r in subst R (sym (get_or_append_left rows (row ∷ []) [] k (omega arith))) (all k (omega arith))
-    ]
-
--- ---- positions
-
 -- ---- the next of a list
 
 pub next_of : {X : Type 0} (xs items : List X) (i : ℕ) (e r : X) → items ≡ xs → i < length items → r ≡ get_or items i r → e ≡ r → drop i xs ≡ e ∷ drop (i + 1) xs
