@@ -11,10 +11,9 @@ use Rattle.milp.specs.Problem.{Problem}
 use Rattle.verdicts.specs.Certificate.{Side, Weights, Derived}
 use Rattle.verdicts.specs.WeightedSums.{combined, coefficient_of, sum_below, AllBelow}
 use Rattle.verdicts.specs.Proves.{refutes, terms, bound_used}
-use Rattle.verdicts.proofs.Duality.{value-append}
-use Rattle.verdicts.proofs.Coefficients.{sum_zero}
-use Rattle.rational.proofs.Field as Q
-use Rattle.rational.proofs.Field.{field, field_units, signs}
+use Rattle.verdicts.proofs.Laws.{value-append, sum_zero, le_by, neg-zero, neg_whole, minus_one-mul}
+use Rattle.rational.proofs.Laws as Q
+use Rattle.rational.proofs.Laws.{field, field_units, signs}
 use Rattle.basis.specs.System.{Bounds, size, lower_of, upper_of, Satisfies, AreBoundsInOrder, unit_form}
 use Rattle.basis.specs.Dictionary.{IsBasic, IsResting, AllResting, Dictionary, IsDictionary, rate_of, IsBasicPoint}
 use Rattle.basis.specs.Bland.{Mends}
@@ -34,7 +33,6 @@ use Rattle.basis.proofs.FormWeights.{UsesBound, weights_there, weights_value, we
 use Rattle.basis.proofs.NodeWeights.{used, AreBoundsThere, list_sum, used_sum}
 use Rattle.basis.proofs.NodeTerms.{all_terms, terms_are, terms_value, terms_bound, terms_below}
 use Rattle.basis.proofs.NodeSystems.{is_system}
-use Rattle.verdicts.proofs.Numbers.{le_by, neg-zero, neg_whole, minus_one-mul}
 
 -- the form of the row of r: r minus its sum
 abbrev pub row_form : Dictionary → ℕ → List Entry

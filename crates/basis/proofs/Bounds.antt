@@ -2,7 +2,7 @@
 use Rattle.std.proofs.Common.{◌≡◌, ℕ, ◌≢◌, List, length, refl, sym, ap, subst, Option, Some, None, IfSome, inl, inr}
 use Rattle.rational.specs.Rational.{Rational, zero_ℚ, neg_ℚ, ◌≤ℚ◌, ◌<ℚ◌}
 use Rattle.milp.specs.Points.{IsWithin}
-use Rattle.rational.proofs.Field as Q
+use Rattle.rational.proofs.Laws as Q
 use Rattle.basis.specs.System.{System, size, lower_of, upper_of, IsInside, AllInside, AreBoundsInOrder, CanRise, CanFall}
 use Rattle.basis.specs.Dictionary.{place_of, IsResting, RestsAt, IsBasicPoint}
 use Rattle.basis.specs.Bland.{IsOutside, CanRaise}

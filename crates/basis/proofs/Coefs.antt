@@ -5,12 +5,12 @@ use Rattle.std.proofs.lemmas.Bool.Decides.{nat_tests}
 use Rattle.rational.specs.Rational.{Rational, ◌+ℚ◌, ◌*ℚ◌, ◌-ℚ◌, neg_ℚ, inv_ℚ, zero_ℚ, one_ℚ, whole}
 use Rattle.milp.specs.Form.{Entry}
 use Rattle.verdicts.specs.WeightedSums.{scaled, coefficient_of}
-use Rattle.rational.proofs.Field as Q
-use Rattle.rational.proofs.Field.{field, field_units, signs}
+use Rattle.rational.proofs.Laws as Q
+use Rattle.rational.proofs.Laws.{field, field_units, signs}
 use Rattle.basis.specs.Dictionary.{IsResting, AllResting}
 use Rattle.basis.specs.System.{unit_form}
 use Rattle.basis.specs.declared.Place.{Place}
-use Rattle.verdicts.proofs.Numbers.{minus_one-mul}
+use Rattle.verdicts.proofs.Laws.{minus_one-mul}
 use Rattle.basis.proofs.Values.{minus, solved, substituted}
 
 pub coefficient-append : (f g : List Entry) (j : ℕ) → coefficient_of (f ++ g) j ≡ coefficient_of f j +ℚ coefficient_of g j

@@ -5,11 +5,10 @@ use Rattle.std.specs.Int.{◌∣◌}
 use Rattle.std.proofs.Math.Nat.{dvd-mul_left, dvd-mul_right, div-mul_cancel}
 use Rattle.std.proofs.lemmas.Nat.Gcd.{dvd_trans, dvd_refl}
 use Rattle.integer.specs.Gcd.{gcd}
-use Rattle.integer.proofs.GcdLaws.{gcd-is}
-use Rattle.integer.proofs.IntRing as Z
-use Rattle.integer.proofs.IntRing.{ring}
+use Rattle.integer.proofs.Laws.{gcd-is, ring}
+use Rattle.integer.proofs.Laws as Z
 use Rattle.rational.specs.Rational.{Rational, whole, ◌*ℚ◌}
-use Rattle.rational.proofs.Value.{value_same, value_self, value_mul}
+use Rattle.rational.proofs.Laws.{value_same, value_self, value_mul}
 use Rattle.milp.specs.Form.{number_at}
 use Rattle.milp.specs.Points.{IsWhole}
 use Rattle.basis.specs.Weights.{common_denominator}

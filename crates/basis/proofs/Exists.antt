@@ -7,7 +7,7 @@ use Rattle.std.proofs.Math.Decide.{ℕ_discrete}
 use Rattle.rational.specs.Rational.{Rational, ◌+ℚ◌, ◌*ℚ◌, ◌/ℚ◌, neg_ℚ, inv_ℚ, zero_ℚ}
 use Rattle.milp.specs.Form.{Entry}
 use Rattle.verdicts.specs.WeightedSums.{scaled, coefficient_of}
-use Rattle.rational.proofs.Field as Q
+use Rattle.rational.proofs.Laws as Q
 use Rattle.basis.specs.System.{System}
 use Rattle.basis.specs.Dictionary.{IsBasic, IsResting, AllResting, IsOverResting, Dictionary, IsDictionary, rate_of, gain_of}
 use Rattle.basis.specs.Bland.{exchanged}

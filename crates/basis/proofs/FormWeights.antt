@@ -8,8 +8,8 @@ use Rattle.milp.specs.Problem.{Problem}
 use Rattle.verdicts.specs.Certificate.{Side, Derived}
 use Rattle.verdicts.specs.WeightedSums.{combined, combined_bound, coefficient_of, sum_below, AllBelow}
 use Rattle.verdicts.specs.Proves.{bound_used, terms}
-use Rattle.verdicts.proofs.Coefficients.{value_by_column}
-use Rattle.rational.proofs.Field as Q
+use Rattle.verdicts.proofs.Laws.{value_by_column}
+use Rattle.rational.proofs.Laws as Q
 use Rattle.basis.specs.System.{System, size, lower_of, upper_of, Satisfies}
 use Rattle.basis.specs.Node.{system_of}
 use Rattle.basis.specs.Weights.{weights_of, nonzero}

@@ -11,7 +11,7 @@ use Rattle.milp.specs.Form.{Entry, value_at}
 use Rattle.verdicts.specs.WeightedSums.{coefficient_of, AllBelow}
 use Rattle.verdicts.specs.Compare.{is_same}
 use Rattle.verdicts.specs.Proves.{same_form}
-use Rattle.rational.proofs.Field as Q
+use Rattle.rational.proofs.Laws as Q
 use Rattle.basis.specs.System.{System, size, Satisfies, IsSystem, form_of, unit_form, extended}
 use Rattle.basis.proofs.Values.{value-unit}
 use Rattle.basis.proofs.Unique.{part}

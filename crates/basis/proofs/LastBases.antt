@@ -1,7 +1,7 @@
 -- From the basis at which the simplex method ends no step of Bland's rule leads on.
 use Rattle.std.proofs.Common.{◌≡◌, ℕ, ◌⊎◌, List, subst, length, inl, inr}
 use Rattle.rational.specs.Rational.{Rational}
-use Rattle.rational.proofs.Field as Q
+use Rattle.rational.proofs.Laws as Q
 use Rattle.basis.specs.System.{System, size, IsInside, AllInside}
 use Rattle.basis.specs.Dictionary.{IsBasic, Dictionary}
 use Rattle.basis.specs.Bland.{HasPassed, IsOutside, Mends, MendStep, Improves, ImproveStep, IsFinal, IsOptimalBasis}

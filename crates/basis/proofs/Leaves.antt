@@ -3,7 +3,7 @@ use Rattle.std.proofs.Common.{◌≡◌, List, [], ◌∷◌, length, refl, sym,
 use Rattle.std.specs.Prelude.{◌&&◌}
 use Rattle.std.proofs.lemmas.Bool.Decides.{nat_tests}
 use Rattle.rational.specs.Rational.{Rational, ◌*ℚ◌, ◌+ℚ◌, ◌-ℚ◌}
-use Rattle.rational.proofs.Field.{field, signs, field_units}
+use Rattle.rational.proofs.Laws.{field, signs, field_units}
 use Rattle.milp.specs.Form.{sum_at}
 use Rattle.milp.specs.Problem.{Problem}
 use Rattle.milp.specs.Points.{Feasible, IsImprovingRay, objective_value, sign_of}
@@ -11,7 +11,7 @@ use Rattle.verdicts.specs.Certificate.{Optimal, Infeasible, Weights, Empty, Boun
 use Rattle.verdicts.specs.WeightedSums.{scaled}
 use Rattle.verdicts.specs.Compare.{is_same}
 use Rattle.verdicts.specs.Proves.{shows, refutes, terms, meets, is_improving_ray, first_failing, Part, Proves, bound_passes}
-use Rattle.verdicts.proofs.Converse.{true_meets, true_ray}
+use Rattle.verdicts.proofs.Laws.{true_meets, true_ray}
 use Rattle.basis.specs.Relaxation.{leaf_certificate, point_certificate, ShowsObjective, ShowsInfeasible}
 use Rattle.basis.proofs.Forms.{is_same-refl}
 use Rattle.basis.proofs.Optimal.{shows_leaf}

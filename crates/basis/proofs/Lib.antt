@@ -1,31 +1,32 @@
-pub mod Places
-pub mod Values
-pub mod Coefs
-pub mod Unique
-pub mod Rays
-pub mod Start
-pub mod Pivot
-pub mod Exists
-pub mod Points
-pub mod StepLemmas
-pub mod Lists
-pub mod NodeSystems
-pub mod Forms
-pub mod NodeWeights
-pub mod NodeTerms
-pub mod Order
-pub mod FormWeights
-pub mod Bounds
-pub mod Optimal
-pub mod Blocked
-pub mod NodePoints
-pub mod CommonDenominators
-pub mod NodeRays
-pub mod PivotNumbers
-pub mod Leaves
-pub mod NumberFacts
-pub mod Ends
-pub mod Operations
-pub mod OneRun
-pub mod LastBases
+mod Places
+mod Values
+mod Coefs
+mod Unique
+mod Rays
+mod Start
+mod Pivot
+mod Exists
+mod Points
+mod StepLemmas
+mod Lists
+mod NodeSystems
+mod Forms
+mod NodeWeights
+mod NodeTerms
+mod Order
+mod FormWeights
+mod Bounds
+mod Optimal
+mod Blocked
+mod NodePoints
+mod CommonDenominators
+mod NodeRays
+mod PivotNumbers
+mod Leaves
+mod NumberFacts
+mod Ends
+mod Operations
+mod OneRun
+mod LastBases
 mod Examples
+pub mod Laws

@@ -11,8 +11,8 @@ use Rattle.milp.specs.Points.{IsWithin}
 use Rattle.verdicts.specs.Certificate.{Side, Low, High, Derived}
 use Rattle.verdicts.specs.Compare.{is_at_most}
 use Rattle.verdicts.specs.Proves.{lesser, greater, lower_under, upper_under}
-use Rattle.verdicts.proofs.Tests.{at_most_true, at_most_false}
-use Rattle.rational.proofs.Field as Q
+use Rattle.verdicts.proofs.Laws.{at_most_true, at_most_false}
+use Rattle.rational.proofs.Laws as Q
 use Rattle.basis.specs.System.{size, Satisfies, AllInside, form_of}
 use Rattle.basis.specs.Node.{system_of, column_of, IsOverColumns, IsNodePoint}
 use Rattle.basis.specs.Weights.{numbers_from}

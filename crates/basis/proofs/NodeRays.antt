@@ -11,10 +11,9 @@ use Rattle.milp.specs.Points.{IsHarmless, IsImprovingRay, IsWhole, sign_of}
 use Rattle.verdicts.specs.Certificate.{Side, Low, High, Derived}
 use Rattle.verdicts.specs.WeightedSums.{scaled}
 use Rattle.verdicts.specs.Proves.{lesser, greater, lower_under, upper_under, is_integer}
-use Rattle.verdicts.proofs.Duality.{value-scaled}
-use Rattle.verdicts.proofs.Numbers.{le_by, mul-le-mul_neg, minus_one-mul}
-use Rattle.rational.proofs.Field as Q
-use Rattle.rational.proofs.Field.{field}
+use Rattle.verdicts.proofs.Laws.{value-scaled, le_by, mul-le-mul_neg, minus_one-mul}
+use Rattle.rational.proofs.Laws as Q
+use Rattle.rational.proofs.Laws.{field}
 use Rattle.basis.specs.System.{System, size, lower_of, upper_of, Satisfies}
 use Rattle.basis.specs.Dictionary.{Dictionary, gain_of}
 use Rattle.basis.specs.Bland.{ReachesNone}

@@ -7,9 +7,9 @@ use Rattle.milp.specs.Form.{Entry, value_at}
 use Rattle.verdicts.specs.Certificate.{Item}
 use Rattle.verdicts.specs.WeightedSums.{scaled, Weighted, combined, combined_bound, sum_below, AllBelow}
 use Rattle.verdicts.specs.Proves.{term, bound_used, joined, gathered}
-use Rattle.verdicts.proofs.Duality.{value-append, value-scaled}
-use Rattle.rational.proofs.Field as Q
-use Rattle.rational.proofs.Field.{field, field_units}
+use Rattle.verdicts.proofs.Laws.{value-append, value-scaled}
+use Rattle.rational.proofs.Laws as Q
+use Rattle.rational.proofs.Laws.{field, field_units}
 use Rattle.basis.specs.System.{System, size, lower_of, upper_of, form_of}
 use Rattle.basis.specs.Weights.{items_at, items_of}
 use Rattle.basis.proofs.Values.{below-append, below-scaled}

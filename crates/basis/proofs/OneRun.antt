@@ -4,7 +4,7 @@ use mathlib.Core.Path.{ap₂}
 use Rattle.std.proofs.Math.Decide.{ℕ_discrete, dec_lt}
 use Rattle.std.proofs.lemmas.List.{ext_get_or}
 use Rattle.rational.specs.Rational.{Rational, zero_ℚ, neg_ℚ, ◌+ℚ◌, ◌*ℚ◌, ◌<ℚ◌, ◌≤ℚ◌}
-use Rattle.rational.proofs.Field as Q
+use Rattle.rational.proofs.Laws as Q
 use Rattle.basis.specs.System.{System, size, lower_of, upper_of, AreBoundsInOrder}
 use Rattle.basis.specs.Dictionary.{place_of, IsBasic, IsResting, Dictionary, IsDictionary, rate_of, gain_of, IsBasicPoint}
 use Rattle.basis.specs.Bland.{exchanged, IsLeast, HasPassed, IsOutside, CanRaise, CanMend, Mends, MendStep, Improves, IsHeading, IsDirection, Reaches, IsFirst, ImproveStep, BlandStep, IsFinal, IsStart, IsRun}

@@ -2,7 +2,7 @@
 use Rattle.std.proofs.Common.{◌≡◌, ◌∙◌, ℕ, List, ◌∷◌, ◌<◌, ◌≢◌, ◌⊎◌, inl, inr, refl, sym, ap, subst}
 use Rattle.std.specs.Prelude.{pos, Bool, Some}
 use Rattle.rational.specs.Rational.{Rational, one_ℚ, neg_ℚ, inv_ℚ, ◌+ℚ◌, ◌-ℚ◌, ◌*ℚ◌, ◌/ℚ◌}
-use Rattle.rational.proofs.Field as Q
+use Rattle.rational.proofs.Laws as Q
 use Rattle.basis.specs.System.{System, size, lower_of, upper_of}
 use Rattle.basis.specs.Dictionary.{IsBasic, IsResting, Dictionary, IsDictionary, rate_of, gain_of, IsBasicPoint}
 use Rattle.basis.specs.Bland.{exchanged, IsDirection, IsRun}

@@ -8,8 +8,8 @@ use Rattle.milp.specs.Points.{sign_of}
 use Rattle.verdicts.specs.Certificate.{Side, Weights, Derived}
 use Rattle.verdicts.specs.WeightedSums.{scaled, combined}
 use Rattle.verdicts.specs.Proves.{shows, terms}
-use Rattle.verdicts.proofs.Duality.{value-scaled}
-use Rattle.rational.proofs.Field as Q
+use Rattle.verdicts.proofs.Laws.{value-scaled}
+use Rattle.rational.proofs.Laws as Q
 use Rattle.basis.specs.System.{size}
 use Rattle.basis.specs.Dictionary.{Dictionary, gain_of}
 use Rattle.basis.specs.Bland.{IsOptimalBasis}

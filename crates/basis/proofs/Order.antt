@@ -4,11 +4,10 @@ use Rattle.std.specs.Prelude.{ℤ, pos, unsigned_abs, ◌*ℤ◌, ◌<ℤ◌}
 use Rattle.std.proofs.lemmas.Int.{ints, by_lt_z}
 use Rattle.std.proofs.lemmas.Bool.Decides.{nat_tests}
 use Rattle.rational.specs.Rational.{Rational, neg_ℚ, zero_ℚ, ◌<ℚ◌, ◌≤ℚ◌}
-use Rattle.rational.proofs.Field as Q
-use Rattle.rational.proofs.Value.{value_same, value_self}
+use Rattle.rational.proofs.Laws as Q
+use Rattle.rational.proofs.Laws.{value_same, value_self}
 use Rattle.verdicts.specs.Compare.{is_less, is_at_most}
-use Rattle.verdicts.proofs.Tests.{less_true, less_false, at_most_false}
-use Rattle.verdicts.proofs.Numbers.{neg_le, neg-zero}
+use Rattle.verdicts.proofs.Laws.{less_true, less_false, at_most_false, neg_le, neg-zero}
 use Rattle.basis.specs.Weights.{nonzero}
 
 pub le_or_less : (a b : Rational) → (a ≤ℚ b) ⊎ (b <ℚ a)

@@ -6,15 +6,14 @@ use Rattle.rational.specs.Rational.{Rational, ◌+ℚ◌, ◌*ℚ◌, ◌-ℚ◌
 use Rattle.milp.specs.Form.{Entry, value_at}
 use Rattle.verdicts.specs.WeightedSums.{AllBelow, coefficient_of}
 use mathlib.Core.Path.{ap₂}
-use Rattle.rational.proofs.Field as Q
-use Rattle.rational.proofs.Field.{field, field_units, signs, inverses}
-use Rattle.verdicts.proofs.Coefficients.{same_value}
+use Rattle.rational.proofs.Laws as Q
+use Rattle.rational.proofs.Laws.{field, field_units, signs, inverses}
+use Rattle.verdicts.proofs.Laws.{same_value, neg-zero}
 use Rattle.basis.specs.System.{System, unit_form}
 use Rattle.basis.specs.Dictionary.{IsBasic, IsResting, AllResting, IsOverResting, Dictionary, Solves, IsDictionary, rate_of}
 use Rattle.basis.specs.Bland.{exchanged}
 use Rattle.basis.specs.Dictionary.{gain_of}
 use Rattle.basis.specs.Pivots.{IsPivoted}
-use Rattle.verdicts.proofs.Numbers.{neg-zero}
 use Rattle.basis.specs.declared.Place.{Place}
 use Rattle.basis.specs.declared.Place.TheVariants.{Basic}
 use Rattle.basis.proofs.Places.{length-exchanged, enters_basic, basic_after, stays_basic, basic_known, below, rests_or}

@@ -4,8 +4,8 @@ use mathlib.Core.Path.{ap₂}
 use Rattle.std.proofs.Math.Decide.{ℕ_discrete}
 use Rattle.rational.specs.Rational.{Rational, ◌+ℚ◌, ◌*ℚ◌, zero_ℚ}
 use Rattle.milp.specs.Form.{Entry, value_at}
-use Rattle.rational.proofs.Field as Q
-use Rattle.rational.proofs.Field.{field}
+use Rattle.rational.proofs.Laws as Q
+use Rattle.rational.proofs.Laws.{field}
 use Rattle.basis.specs.System.{System, Satisfies}
 use Rattle.basis.specs.Dictionary.{place_of, Dictionary, IsDictionary, RestsAt, IsBasicPoint}
 use Rattle.basis.specs.Bland.{exchanged, IsDirection}

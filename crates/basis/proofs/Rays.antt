@@ -5,8 +5,8 @@ use Rattle.std.proofs.lemmas.Bool.Decides.{nat_tests}
 use Rattle.std.proofs.Math.Decide.{ℕ_discrete}
 use Rattle.rational.specs.Rational.{Rational, ◌+ℚ◌, ◌*ℚ◌, ◌-ℚ◌, neg_ℚ, inv_ℚ, zero_ℚ}
 use Rattle.milp.specs.Form.{value_at}
-use Rattle.rational.proofs.Field as Q
-use Rattle.rational.proofs.Field.{field, field_units, signs}
+use Rattle.rational.proofs.Laws as Q
+use Rattle.rational.proofs.Laws.{field, field_units, signs}
 use Rattle.basis.specs.System.{System, Satisfies}
 use Rattle.basis.specs.Dictionary.{IsResting, Dictionary, IsDictionary}
 use Rattle.basis.specs.Bland.{IsDirection}

@@ -6,7 +6,7 @@ use Rattle.std.proofs.Math.Decide.{ℕ_discrete}
 use Rattle.std.proofs.lemmas.List.{get_or-set_same, length-set}
 use Rattle.rational.specs.Rational.{Rational, ◌*ℚ◌, ◌-ℚ◌, neg_ℚ, inv_ℚ, zero_ℚ, one_ℚ}
 use Rattle.milp.specs.Form.{Entry}
-use Rattle.rational.proofs.Field as Q
+use Rattle.rational.proofs.Laws as Q
 use Rattle.basis.specs.System.{System, IsSystem}
 use Rattle.basis.specs.Dictionary.{place_of, IsBasic, IsResting, AllResting, Dictionary, IsDictionary, rate_of, RestsAt, IsBasicPoint}
 use Rattle.basis.specs.Bland.{exchanged, HasPassed, CanRaise, CanMend, IsDirection, Reaches, MendStep, ImproveStep, BlandStep, IsRun, start_dictionary, start_point}

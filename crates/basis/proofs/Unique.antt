@@ -5,7 +5,7 @@ use mathlib.Core.Path.{ap₂}
 use Rattle.rational.specs.Rational.{Rational, ◌+ℚ◌, ◌*ℚ◌, zero_ℚ, one_ℚ}
 use Rattle.milp.specs.Form.{Entry, value_at}
 use Rattle.verdicts.specs.WeightedSums.{coefficient_of}
-use Rattle.rational.proofs.Field as Q
+use Rattle.rational.proofs.Laws as Q
 use Rattle.basis.specs.System.{System, size, Satisfies}
 use Rattle.basis.proofs.Places.{is_basic_or}
 use Rattle.basis.specs.Dictionary.{place_of, IsBasic, IsResting, AllResting, Dictionary, Solves, IsDictionary, rate_of, RestsAt, IsBasicPoint}

@@ -4,10 +4,9 @@ use Rattle.std.specs.Prelude.{negsuc}
 use Rattle.rational.specs.Rational.{Rational, ◌+ℚ◌, ◌*ℚ◌, ◌-ℚ◌, neg_ℚ, inv_ℚ, whole}
 use Rattle.milp.specs.Form.{Entry, value_at}
 use Rattle.verdicts.specs.WeightedSums.{scaled, coefficient_of, AllBelow}
-use Rattle.rational.proofs.Field as Q
-use Rattle.rational.proofs.Field.{field, field_units}
-use Rattle.verdicts.proofs.Numbers.{minus_one-mul}
-use Rattle.verdicts.proofs.Duality.{value-append, value-scaled}
+use Rattle.rational.proofs.Laws as Q
+use Rattle.rational.proofs.Laws.{field, field_units}
+use Rattle.verdicts.proofs.Laws.{minus_one-mul, value-append, value-scaled}
 use Rattle.basis.specs.System.{unit_form}
 
 abbrev pub minus : List Entry → List Entry

@@ -6,7 +6,7 @@ use Rattle.instance.specs.WellFormed.{IsWellFormed}
 use Rattle.verdicts.specs.Certificate.{Weights, Certificate}
 use Rattle.verdicts.specs.Proves.{first_failing, tests, Proves}
 use Rattle.basis.specs.Relaxation.{IsUnboundedRelaxation}
-use Rattle.basis.proofs.Lists.{length-numbers}
+use Rattle.basis.proofs.Laws.{length-numbers}
 use Rattle.cert_check.specs.Outcome.{Fault, outcome, trials, part_of, IfRefused}
 use Rattle.cert_check.specs.declared.part.Part.{Part}
 use Rattle.cert_check.specs.declared.part.Checked.{Checked}

@@ -17,8 +17,7 @@ use Rattle.verdicts.specs.Proves.{lies_above, lies_below, bound_for, meets_colum
 use Rattle.basis.specs.Node.{system_of, integer_at, IsOverColumns}
 use Rattle.basis.specs.Weights.{numbers_from}
 use Rattle.basis.specs.Numbers.{IsSitePair, right_base, sum_onto, IsPointOrRay, products_of, IsRunProducts, IsNodeBase, IsNodeProducts, node_numbers, AllOf}
-use Rattle.basis.proofs.Lists.{numbers-below}
-use Rattle.basis.proofs.NodeSystems.{row_form}
+use Rattle.basis.proofs.Laws.{numbers-below, row_form}
 use Rattle.cert_check.specs.Sums.{Product, with_products}
 use Rattle.cert_check.specs.Parts as C
 use Rattle.branch_solve.proofs.Told.{Told, then_told, next_told, also_told, cond_told, add_told, whole_sum, Thinned, AreBase, all_told, products_sum}

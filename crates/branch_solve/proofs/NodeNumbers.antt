@@ -17,8 +17,7 @@ use Rattle.verdicts.specs.Compare.{is_less, is_at_most}
 use Rattle.verdicts.specs.Proves.{bound_used, lower_under, upper_under, greater, lesser}
 use Rattle.basis.specs.Node.{system_of, IsOverColumns}
 use Rattle.basis.specs.Numbers.{base_number, left_base, at_of, IsGivenNumber, IsRunBase, IsProblemNumber, IsNodeBase, node_numbers, AllOf}
-use Rattle.basis.proofs.NodeSystems.{row_form, derived_form}
-use Rattle.basis.proofs.NodeTerms.{row-lower, row-upper, derived-lower}
+use Rattle.basis.proofs.Laws.{row_form, derived_form, row-lower, row-upper, derived-lower}
 use Rattle.cert_check.specs.Sums.{next_answer, lower_answer}
 use Rattle.cert_check.proofs.Exact.{ok_then, next_ok}
 use Rattle.branch_solve.proofs.Told.{Told, next_told, add_told}

@@ -17,7 +17,7 @@ use Rattle.basis.specs.Relaxation.{IsOptimalRelaxation, IsInfeasibleRelaxation, 
 use Rattle.basis.specs.Numbers.{Numbers, node_numbers}
 use Rattle.basis.specs.declared.Place.{Place}
 use Rattle.basis.specs.declared.Place.TheVariants.{Basic, AtLower, AtUpper, AtZero}
-use Rattle.basis.proofs.NumberFacts.{optimal_point_base, optimal_weights_base, infeasible_weights_base, unbounded_point_base, unbounded_ray_base}
+use Rattle.basis.proofs.Laws.{optimal_point_base, optimal_weights_base, infeasible_weights_base, unbounded_point_base, unbounded_ray_base}
 use Rattle.cert_check.specs.Parts.{point_answer, value_answer, ray_answer, node_answer}
 use Rattle.search_node.specs.Faults.{IsSiteFault}
 use Rattle.branch_solve.specs.Leaves.{AreFormsAscending, node_setting}

@@ -14,9 +14,7 @@ use Rattle.basis.specs.Node.{IsNodePoint}
 use Rattle.basis.specs.Relaxation.{IsOptimalRelaxation, IsInfeasibleRelaxation, IsUnboundedRelaxation, leaf_certificate, point_certificate}
 use Rattle.basis.specs.Numbers.{Numbers, node_numbers}
 use Rattle.basis.specs.declared.Place.{Place}
-use Rattle.basis.proofs.Ends.{optimal_point, optimal_weights_show, unbounded_point, unbounded_ray}
-use Rattle.basis.proofs.Blocked.{infeasible_shows}
-use Rattle.basis.proofs.Leaves.{optimal_proves, infeasible_proves, unbounded_proves}
+use Rattle.basis.proofs.Laws.{optimal_point, optimal_weights_show, unbounded_point, unbounded_ray, infeasible_shows, optimal_proves, infeasible_proves, unbounded_proves}
 use Rattle.cert_check.specs.Outcome.{Trial, Outcome, Acceptance, Refusal, Fault, judged, outcome, trials}
 use Rattle.cert_check.proofs.Ascending.{entries_ascend}
 use Rattle.search_node.specs.Faults.{IsSiteFault}

@@ -2,7 +2,7 @@
 use Rattle.std.proofs.Common.{◌≡◌, ◌∙◌, List, [], ◌∷◌, ◌++◌, length, map, take, slice_get, Bool, true, false, cond, ◌⊎◌, inl, inr, Some, Result, Ok, Err, IfOk, IfErr, refl, sym, ap, subst}
 use mathlib.Core.Path.{ap₂}
 use Rattle.rational.specs.Rational.{Rational, zero_ℚ, ◌+ℚ◌, ◌*ℚ◌}
-use Rattle.rational.proofs.Field as Q
+use Rattle.rational.proofs.Laws as Q
 use Rattle.fraction.specs.declared.frac.NoFit.{NoFit}
 use Rattle.fraction.specs.declared.frac.Op.TheVariants.{Add, Mul}
 use Rattle.fraction.specs.Fits.{fits, sum_fits}

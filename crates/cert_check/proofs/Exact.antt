@@ -5,7 +5,7 @@ use mathlib.Core.Path.{ap₂}
 use Rattle.std.proofs.lemmas.Bool.{and_left, and_right}
 use Rattle.std.proofs.Math.Decide.{ℕ_discrete}
 use Rattle.rational.specs.Rational.{Rational, zero_ℚ, one_ℚ, whole, ◌+ℚ◌, ◌*ℚ◌}
-use Rattle.rational.proofs.Field as Q
+use Rattle.rational.proofs.Laws as Q
 use Rattle.milp.specs.Form.{Entry}
 use Rattle.milp.specs.Problem.{Column, Row, Problem}
 use Rattle.fraction.specs.declared.frac.NoFit.{NoFit}
@@ -16,8 +16,7 @@ use Rattle.verdicts.specs.WeightedSums.{Weighted, combined, combined_bound, coef
 use Rattle.verdicts.specs.Compare.{is_less, is_same}
 use Rattle.verdicts.specs.Certificate.{Item, Weights, Side, Low, High, Derived}
 use Rattle.verdicts.specs.Proves.{lower_under, upper_under, greater, term, bound_used, row_term, column_term, derived_term, joined, gathered, terms, same_form}
-use Rattle.verdicts.proofs.Forms.{coefficient-combined}
-use Rattle.verdicts.proofs.Numbers.{whole-add}
+use Rattle.verdicts.proofs.Laws.{coefficient-combined, whole-add}
 use Rattle.cert_check.specs.Setting.{Setting}
 use Rattle.cert_check.specs.Sums.{and_also, with_product, next_answer, lower_answer, row_bound, derived_bound, bound_of, then_there, are_there, all_there, with_bound, with_bounds, bound_sum, Product, products, derived_form, form_at, item_products, weight_products, with_products, are_forms}
 use Rattle.cert_check.specs.declared.kind.Kind.{Kind}

@@ -5,7 +5,7 @@ use Rattle.fraction.specs.declared.frac.NoFit.{NoFit}
 use Rattle.milp.specs.Problem.{Problem}
 use Rattle.verdicts.specs.Certificate.{Verdict, Optimal, Infeasible, Unbounded, Side, Derived, TreeNode, Certificate}
 use Rattle.verdicts.specs.Proves.{Test, below, first_failing, derived_tests, node_tests, tree_tests, verdict_tests, tests, Proves, Holds}
-use Rattle.verdicts.proofs.Law.{certificate_right}
+use Rattle.verdicts.proofs.Laws.{certificate_right}
 use Rattle.cert_check.specs.Outcome.{Trial, Outcome, Acceptance, Refusal, Fault, judged, outcome, derived_trials, node_trials, tree_trials, form_goal, verdict_trials, trials, outcome_of, part_of, IfRefused, HoldsUpTo}
 use Rattle.cert_check.specs.declared.part.Checked.{Checked}
 use Rattle.cert_check.specs.declared.part.Checked.TheVariants.{Accepted, Refused}

@@ -5,8 +5,8 @@ use mathlib.Core.Path.{ap₂}
 use Rattle.std.proofs.lemmas.Int.{ints}
 use Rattle.std.proofs.lemmas.Bool.Decides.{nat_tests}
 use Rattle.rational.specs.Rational.{Rational, zero_ℚ, whole, ◌+ℚ◌, ◌*ℚ◌, ◌-ℚ◌}
-use Rattle.rational.proofs.Field as Q
-use Rattle.rational.proofs.Value.{value_same, value_self}
+use Rattle.rational.proofs.Laws as Q
+use Rattle.rational.proofs.Laws.{value_same, value_self}
 use Rattle.milp.specs.Form.{Entry, sum_at, number_at}
 use Rattle.milp.specs.Problem.{Row, Problem}
 use Rattle.milp.specs.Points.{sign_of, objective_value}
@@ -18,7 +18,7 @@ use Rattle.verdicts.specs.WeightedSums.{Weighted, scaled, combined, combined_bou
 use Rattle.verdicts.specs.Compare.{is_less, is_at_most, is_same}
 use Rattle.verdicts.specs.Certificate.{Weights, Side, FormSplit, Proof, Plain, BySplit, Derived, TreeNode, Branch, Empty, Bound}
 use Rattle.verdicts.specs.Proves.{lies_above, lies_below, bound_for, meets_columns, meets_rows, is_improving_ray, joined, terms, same_form, shows, refutes, in_range, is_whole_form, low_term, high_term, proof_passes, derived_passes, bound_passes, node_passes, point_passes, value_passes, ray_passes}
-use Rattle.verdicts.proofs.Forms.{coefficient-scaled, coefficient-combined}
+use Rattle.verdicts.proofs.Laws.{coefficient-scaled, coefficient-combined}
 use Rattle.cert_check.specs.Setting.{Setting}
 use Rattle.cert_check.specs.Sums.{and_also, with_product, next_answer, all_there, bound_sum, Product, weight_products, are_forms}
 use Rattle.cert_check.specs.Parts.{point_answer, form_value_answer, value_answer, ray_rows_answer, is_improving_answer, ray_answer, shown_answer, problem_alone, side_weights, side_products, side_bound, side_answer, proof_answer, derived_answer, bound_answer, node_answer}

@@ -6,7 +6,7 @@ use Rattle.milp.specs.Problem.{Problem}
 use Rattle.verdicts.specs.Certificate.{Derived, Side, TreeNode, Branch, Empty, Bound}
 use Rattle.verdicts.specs.Proves.{below, Node}
 use Rattle.verdicts.specs.Preorder.{way_to, ways_to}
-use Rattle.verdicts.proofs.Trees.{ways_step}
+use Rattle.verdicts.proofs.Laws.{ways_step}
 use Rattle.certificate.specs.Written.{open_after}
 use Rattle.certificate.specs.Ways.{way}
 use Rattle.cert_check.specs.Parts.{node_answer}

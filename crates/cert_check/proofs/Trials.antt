@@ -1,14 +1,14 @@
 -- Lists of trials, one after another, and the value of the objective's form.
 use Rattle.std.proofs.Common.{◌≡◌, ◌∙◌, Bool, true, false, cond, if◌then◌else◌, List, [], ◌∷◌, ◌++◌, Option, Some, None, is_some, Result, Ok, Err, refl, sym, ap}
 use Rattle.rational.specs.Rational.{Rational, ◌+ℚ◌, ◌-ℚ◌, neg_ℚ, zero_ℚ}
-use Rattle.rational.proofs.Field as Q
+use Rattle.rational.proofs.Laws as Q
 use Rattle.fraction.specs.declared.frac.NoFit.{NoFit}
 use Rattle.fraction.specs.Fits.{sum_fits}
 use Rattle.fraction.specs.Answers.{add_answer}
 use Rattle.milp.specs.Problem.{Problem}
 use Rattle.instance.specs.Sums.{and_then, sum_answer}
 use Rattle.verdicts.specs.Compare.{is_same}
-use Rattle.verdicts.proofs.Tests.{same_true}
+use Rattle.verdicts.proofs.Laws.{same_true}
 use Rattle.cert_check.specs.Parts.{form_value_answer, goal_answer, value_answer}
 use Rattle.cert_check.specs.Outcome.{Outcome, Acceptance, Refusal, Fault, Trial, judged, outcome, form_goal}
 

@@ -6,7 +6,7 @@ use Rattle.std.specs.Int.Count.{count_trailing_zeros}
 use lib.Count.{under}
 use Rattle.std.proofs.lemmas.Nat.Gcd.{same_from_IsGcd, IsGcd-swap}
 use Rattle.integer.specs.Gcd.{gcd}
-use Rattle.integer.proofs.GcdLaws.{gcd-is, gcd_step, gcd_end, coprime_mul, coprime_part, dvd_from_coprime, IsGcd-scaled}
+use Rattle.integer.proofs.Laws.{gcd-is, gcd_step, gcd_end, coprime_mul, coprime_part, dvd_from_coprime, IsGcd-scaled}
 use Rattle.fraction.proofs.CmpLemmas.{gcd-one}
 use Rattle.fraction.proofs.FracLemmas.{gcd_le}
 

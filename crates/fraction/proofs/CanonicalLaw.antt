@@ -16,7 +16,7 @@ use Rattle.integer.specs.Lowest.{IsLowest}
 use Rattle.std.proofs.lemmas.Bool.{leb-true, eqb-true}
 use Rattle.std.proofs.lemmas.Int.{ints}
 use Rattle.rational.specs.Rational.{Rational, over}
-use Rattle.rational.proofs.Value.{over-self}
+use Rattle.rational.proofs.Laws.{over-self}
 use Rattle.fraction.specs.Fits.{part_max, fits}
 use Rattle.fraction.specs.Literal.{digits_on}
 use Rattle.fraction.specs.Text.{text_of}

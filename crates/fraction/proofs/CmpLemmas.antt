@@ -5,7 +5,7 @@ use Rattle.std.specs.Ordering.{nat_cmp}
 use Rattle.std.proofs.Math.Nat.{one-dvd}
 use Rattle.std.proofs.lemmas.Nat.Gcd.{same_from_IsGcd}
 use Rattle.integer.specs.Gcd.{gcd}
-use Rattle.integer.proofs.GcdLaws.{gcd-is}
+use Rattle.integer.proofs.Laws.{gcd-is}
 
 pub same_cmp : (x y u v : ℕ) → (x < y → u < v) → (x ≡ y → u ≡ v) → (y < x → v < u) → nat_cmp x y ≡ nat_cmp u v
 same_cmp x y u v f g h = grind (arith, nat_tests)

@@ -7,11 +7,9 @@ use Rattle.std.proofs.lemmas.Int.{ints, unsigned_abs-mul}
 use Rattle.std.proofs.lemmas.Nat.Gcd.{same_from_IsGcd, IsGcd-swap}
 use Rattle.integer.specs.Gcd.{gcd}
 use Rattle.integer.specs.Lowest.{IsLowest}
-use Rattle.integer.proofs.IntRing.{ring}
-use Rattle.integer.proofs.LowestLaws.{gcd_pos, lowest_over, lowest_whole, quot_scaled, abs_quot}
-use Rattle.integer.proofs.GcdLaws.{gcd-is, coprime-quotients, coprime_mul, coprime_part}
+use Rattle.integer.proofs.Laws.{ring, gcd_pos, lowest_over, lowest_whole, quot_scaled, abs_quot, gcd-is, coprime-quotients, coprime_mul, coprime_part}
 use Rattle.rational.specs.Rational.{Rational, over, neg_ℚ, inv_ℚ, whole, ◌*ℚ◌, ◌+ℚ◌}
-use Rattle.rational.proofs.Value.{over_lowest, over-self, value_same, value_over, value_self, value_neg, value_mul, value_add, cross_scaled}
+use Rattle.rational.proofs.Laws.{over_lowest, over-self, value_same, value_over, value_self, value_neg, value_mul, value_add, cross_scaled}
 use Rattle.std.proofs.lemmas.Bool.Decides.{nat_tests}
 use Rattle.fraction.specs.Fits.{fits, sum_fits, part_max, left_num, right_num, common_den}
 

@@ -4,7 +4,7 @@ use Rattle.std.proofs.Math.Nat.{div-le_self}
 use Rattle.std.proofs.lemmas.Bool.Decides.{nat_tests}
 use Rattle.std.specs.Prelude.{ℤ, pos, ◌+ℤ◌, unsigned_abs, int_div, IsTrue}
 use Rattle.integer.specs.Gcd.{gcd}
-use Rattle.integer.proofs.LowestLaws.{lowest_over, abs_quot}
+use Rattle.integer.proofs.Laws.{lowest_over, abs_quot}
 use Rattle.rational.specs.Rational.{Rational, over, ◌+ℚ◌}
 use Rattle.fraction.specs.Fits.{fits, sum_fits, part_max, left_num, right_num, common_den}
 use Rattle.fraction.proofs.FracLemmas.{over-numerator, over-denominator, over-quotients, fits_from, sum_over, common_some}

@@ -8,11 +8,9 @@ use Rattle.std.specs.Prelude.{ℤ, pos, ◌*ℤ◌, ◌+ℤ◌, ◌==◌, unsign
 use Rattle.std.specs.Int.{IsGcd, ◌∣◌}
 use Rattle.integer.specs.Gcd.{gcd}
 use Rattle.integer.specs.Lowest.{IsLowest}
-use Rattle.integer.proofs.IntRing.{ring}
-use Rattle.integer.proofs.LowestLaws.{abs_quot, quot_scaled}
-use Rattle.integer.proofs.GcdLaws.{gcd-is, coprime-quotients, coprime_mul, coprime_part}
+use Rattle.integer.proofs.Laws.{ring, abs_quot, quot_scaled, gcd-is, coprime-quotients, coprime_mul, coprime_part}
 use Rattle.rational.specs.Rational.{Rational, over, ◌+ℚ◌}
-use Rattle.rational.proofs.Value.{value_same, value_over, cross_scaled}
+use Rattle.rational.proofs.Laws.{value_same, value_over, cross_scaled}
 use Rattle.fraction.specs.Fits.{sum_fits, part_max, left_num, right_num, common_den, left_scale}
 use Rattle.fraction.proofs.FracLemmas.{gcd_some, coprime_of, common_some, sum_over, sum_from}
 use Rattle.fraction.proofs.ReadLemmas.{some_part}

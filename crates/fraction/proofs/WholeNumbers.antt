@@ -2,9 +2,9 @@
 use Rattle.std.proofs.Common.{◌≡◌, ◌∙◌, ◌≤◌, ◌/◌, Bool, true, false, refl, sym, ap, lit≤, IsTrue}
 use Rattle.std.specs.Prelude.{ℤ, pos, ◌*ℤ◌, ◌+ℤ◌, unsigned_abs, cond, Result, Ok, Err}
 use Rattle.integer.specs.Gcd.{gcd, gcd_within}
-use Rattle.integer.proofs.IntRing as Z
+use Rattle.integer.proofs.Laws as Z
 use Rattle.rational.specs.Rational.{Rational, whole, ◌*ℚ◌, ◌+ℚ◌}
-use Rattle.rational.proofs.Value.{value_same, value_self, value_mul}
+use Rattle.rational.proofs.Laws.{value_same, value_self, value_mul}
 use Rattle.fraction.specs.Fits.{fits, sum_fits, part_max, common_den}
 use Rattle.fraction.specs.Answers.{add_answer, mul_answer}
 use Rattle.fraction.specs.declared.frac.Op.TheVariants.{Mul}

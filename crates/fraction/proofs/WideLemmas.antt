@@ -5,8 +5,7 @@ use Rattle.std.proofs.Math.Nat.{zero-div, mul_comm}
 use Rattle.std.specs.Prelude.{ℤ, pos, neg_ℤ, ◌*ℤ◌, ◌+ℤ◌, unsigned_abs, int_div}
 use Rattle.integer.specs.Gcd.{gcd}
 use Rattle.integer.specs.Lowest.{IsLowest}
-use Rattle.integer.proofs.GcdLaws.{gcd_step}
-use Rattle.integer.proofs.IntRing.{neg_mul, mul_neg, neg_neg}
+use Rattle.integer.proofs.Laws.{gcd_step, neg_mul, mul_neg, neg_neg}
 use Rattle.rational.specs.Rational.{Rational, over, ◌*ℚ◌, ◌+ℚ◌}
 use Rattle.fraction.specs.Fits.{common_den}
 use Rattle.fraction.specs.Canonical.{signed}

@@ -3,7 +3,7 @@ use Rattle.std.specs.Prelude.{ℕ, ℤ, pos, ◌^◌, ◌-◌, ◌*◌, ◌/◌,
 use Rattle.std.specs.Coded.{Coded, code_by, coded×, coded_ℤ, coded_ℕ}
 use Rattle.integer.specs.Gcd.{gcd}
 use Rattle.rational.specs.Rational.{Rational, over}
-use Rattle.rational.proofs.Value.{over-self}
+use Rattle.rational.proofs.Laws.{over-self}
 
 pub rational_code : Coded Rational
 rational_code = code_by (ℤ × ℕ) (coded× coded_ℤ coded_ℕ) (λ q. (q.numerator, q.denominator)) (λ p. over p.0 p.1) over-self

@@ -10,8 +10,7 @@ use Rattle.milp.specs.Points.{Feasible}
 use Rattle.fraction.specs.declared.frac.NoFit.{NoFit}
 use Rattle.verdicts.specs.Compare.{is_whole}
 use Rattle.verdicts.specs.Proves.{lies_above, lies_below, meets_columns, meets_rows, meets}
-use Rattle.verdicts.proofs.Points.{meets_true}
-use Rattle.verdicts.proofs.Converse.{true_meets}
+use Rattle.verdicts.proofs.Laws.{meets_true, true_meets}
 use Rattle.instance.specs.Sums.{rows_answer, meets_answer}
 use Rattle.instance.proofs.Sums.{then_sum}
 

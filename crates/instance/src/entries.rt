@@ -54,13 +54,6 @@ impl Entries {
         Entries { entries }
     }
 
-    /// Its entries, given back. It takes no memory.
-    pub fn into_vec(self) -> Vec<Entry>
-        ensures { result.items ≡ self }
-    {
-        self.entries
-    }
-
     /// Its entries, for reading.
     pub fn as_slice(&self) -> &[Entry]
         ensures { result.now ≡ self.now }

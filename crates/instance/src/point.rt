@@ -27,13 +27,6 @@ impl Point {
         Point { numbers }
     }
 
-    /// Its numbers, given back. It takes no memory.
-    pub fn into_vec(self) -> Vec<Frac>
-        ensures { result.items ≡ self }
-    {
-        self.numbers
-    }
-
     /// Its numbers, for reading.
     pub fn as_slice(&self) -> &[Frac]
         ensures { result.now ≡ self.now }

@@ -3,7 +3,6 @@ pub mod Lookup
 pub mod Building
 pub mod LineSteps
 pub mod Pairs
-pub mod Stops
 pub mod Kept
 pub mod Bounded
 pub mod Keyed

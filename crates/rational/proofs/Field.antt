@@ -4,8 +4,8 @@ use Rattle.std.proofs.Math.Logic.{⊎_map}
 use Rattle.std.specs.Int.{int_signum}
 use Rattle.std.specs.Prelude.{ℤ, pos, negsuc, zero, suc, min, ◌+ℤ◌, ◌*ℤ◌, neg_ℤ, ◌≤ℤ◌, ◌<ℤ◌, unsigned_abs}
 use Rattle.std.proofs.lemmas.Int.{ints}
-use Rattle.integer.proofs.IntRing as Z
-use Rattle.integer.proofs.IntRing.{ring}
+use Rattle.integer.proofs.Laws as Z
+use Rattle.integer.proofs.Laws.{ring}
 use Rattle.integer.specs.Gcd.{gcd, gcd_within}
 use Rattle.rational.specs.Rational.{over, inv_ℚ, ◌<ℚ◌, Rational, ◌≤ℚ◌, ◌+ℚ◌, ◌*ℚ◌, neg_ℚ, zero_ℚ, one_ℚ}
 use Rattle.rational.proofs.Value.{value_over, IsValue, value_self, value_same, value_le, value_add, value_mul, value_neg, IsPositive-denominator, some_pos}

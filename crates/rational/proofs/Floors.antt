@@ -3,7 +3,7 @@ use Rattle.std.proofs.Common.{◌≡◌, ℕ, suc, ◌*◌, ◌+◌, ◌/◌, �
 use Rattle.std.specs.Prelude.{ℤ, pos, negsuc, ◌+ℤ◌, ◌*ℤ◌, neg_ℤ, ◌≤ℤ◌, ◌<ℤ◌}
 use Rattle.std.specs.Int.{int_div_euclid}
 use Rattle.std.proofs.lemmas.Int.{ints, by_lt_z}
-use Rattle.integer.proofs.IntRing as Z
+use Rattle.integer.proofs.Laws as Z
 use Rattle.rational.specs.Rational.{Rational, ◌≤ℚ◌, ◌<ℚ◌, whole, floor_ℚ}
 
 under : (n : ℤ) (d : ℕ) → 0 < d → (int_div_euclid n (pos d) *ℤ pos d) ≤ℤ n
@@ -21,8 +21,8 @@ above (negsuc n) d h =
     rw (k, Z.neg_mul) f
 
 -- each whole number is on one side of the split at t
-pub split : (n t : ℤ) → (whole n ≤ℚ whole t) ⊎ (whole (t +ℤ pos 1) ≤ℚ whole n)
-split n t = by_lt_z t n (λ h. inr (record { cross = right n t h })) (λ h. inl (record { cross = left n t h }))
+pub whole_sides : (n t : ℤ) → (whole n ≤ℚ whole t) ⊎ (whole (t +ℤ pos 1) ≤ℚ whole n)
+whole_sides n t = by_lt_z t n (λ h. inr (record { cross = right n t h })) (λ h. inl (record { cross = left n t h }))
   where
     left : (n t : ℤ) → n ≤ℤ t → (n *ℤ pos 1) ≤ℤ (t *ℤ pos 1)
     left n t h = omega (arith, ints)

@@ -1,5 +1,5 @@
-mod Ring
-pub mod Value
-pub mod Field
-pub mod OrderLaws
-pub mod Floors
+mod Value
+mod Field
+mod OrderLaws
+mod Floors
+pub mod Laws

@@ -3,9 +3,7 @@ use Rattle.std.proofs.Common.{◌≡◌, ◌∙◌, ℕ, ◌*◌, ◌<◌, refl,
 use Rattle.std.specs.Prelude.{max, ℤ, pos, ◌+ℤ◌, ◌*ℤ◌, neg_ℤ, ◌≤ℤ◌, ◌<ℤ◌, unsigned_abs}
 use Rattle.std.proofs.Math.Nat.{div-mul_cancel, ℕ_set}
 use Rattle.std.proofs.Math.Bridge.{le_prop}
-use Rattle.integer.proofs.IntRing.{ring, neg_mul, IsPositive-pos, IsPositive-mul, mul-mono, mul-cancel, mul-cancel_same}
-use Rattle.integer.proofs.GcdLaws.{gcd-is}
-use Rattle.integer.proofs.LowestLaws.{same_lowest, quot_scaled}
+use Rattle.integer.proofs.Laws.{ring, neg_mul, IsPositive-pos, IsPositive-mul, mul-mono, mul-cancel, mul-cancel_same, gcd-is, same_lowest, quot_scaled}
 use Rattle.integer.specs.Gcd.{gcd}
 use Rattle.integer.specs.Lowest.{IsLowest}
 use Rattle.rational.specs.Rational.{Rational, over, ◌≤ℚ◌, ◌+ℚ◌, ◌*ℚ◌, neg_ℚ}

@@ -6,7 +6,7 @@ use Rattle.std.specs.declared.cmp.Ordering.{Ordering}
 use Rattle.std.specs.Int.{int_signum, int_div_euclid}
 use Rattle.integer.specs.Gcd.{gcd}
 use Rattle.integer.specs.Lowest.{IsLowest}
-use Rattle.integer.proofs.LowestLaws.{lowest_over, lowest_whole, lowest_neg}
+use Rattle.integer.proofs.Laws.{lowest_over, lowest_whole, lowest_neg}
 
 pub record Rational : Type 0 where
   pub numerator : ℤ

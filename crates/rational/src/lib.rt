@@ -1,6 +1,6 @@
 //! Rational numbers of any size: an ordered field. Definitions and laws; the functions have contracts and no body.
 #![tactic(auto)]
 
-mod laws;
+mod ordered_field;
 
-pub use laws::{field_laws, order_laws};
+pub use ordered_field::{field_laws, order_laws};

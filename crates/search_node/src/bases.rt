@@ -29,13 +29,6 @@ impl Basis {
         Basis { places }
     }
 
-    /// Its places, given back. It takes no memory.
-    pub fn into_vec(self) -> Vec<Place>
-        ensures { result.items ≡ self }
-    {
-        self.places
-    }
-
     /// Its places, for reading.
     pub fn as_slice(&self) -> &[Place]
         ensures { result.now ≡ self.now }

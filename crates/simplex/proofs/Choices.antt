@@ -3,16 +3,16 @@ use Rattle.std.proofs.Common.{◌≡◌, ◌∙◌, ℕ, ◌+◌, ◌<◌, ◌�
 use Rattle.std.specs.Prelude.{option_and_then}
 use Rattle.std.proofs.Math.Decide.{ℕ_discrete}
 use Rattle.rational.specs.Rational.{Rational, zero_ℚ, neg_ℚ, ◌≤ℚ◌, ◌<ℚ◌}
-use Rattle.rational.proofs.Field as Q
+use Rattle.rational.proofs.Laws as Q
 use Rattle.verdicts.specs.Proves.{lies_above, lies_below}
 use Rattle.verdicts.specs.Compare.{is_less}
-use Rattle.verdicts.proofs.Tests.{at_most_true, at_most_false, less_true, less_false}
+use Rattle.verdicts.proofs.Laws.{at_most_true, at_most_false, less_true, less_false}
 use Rattle.basis.specs.System.{Bounds, System, lower_of, upper_of, CanRise, CanFall}
 use Rattle.basis.specs.Dictionary.{place_of, IsResting, Dictionary, rate_of, gain_of}
 use Rattle.basis.specs.Bland.{IsOutside, HasPassed, CanRaise, CanMend, Mends, Improves}
 use Rattle.basis.specs.declared.Place.{Place}
 use Rattle.basis.specs.declared.Place.TheVariants.{Basic, AtLower, AtUpper, AtZero}
-use Rattle.basis.proofs.Places.{basic_known}
+use Rattle.basis.proofs.Laws.{basic_known}
 use Rattle.simplex.specs.Table.{is_basic}
 use Rattle.simplex.specs.Values.{passed_bound, can_rise, can_fall, can_raise, can_mend}
 use Rattle.simplex.proofs.TableForms.{basic_test}

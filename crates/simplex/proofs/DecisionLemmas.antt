@@ -2,22 +2,17 @@
 use Rattle.std.proofs.Common.{◌≡◌, ◌∙◌, ℕ, ◌<◌, List, refl, sym, ap, subst, arith, Bool, true, false, Option, Some, slice_get, ◌⊎◌, inl, inr}
 use Rattle.std.specs.Prelude.{pos, negsuc, Result, Ok, Err, IfErr}
 use Rattle.rational.specs.Rational.{Rational, zero_ℚ, one_ℚ, whole, neg_ℚ, ◌+ℚ◌, ◌*ℚ◌, ◌≤ℚ◌, ◌<ℚ◌}
-use Rattle.rational.proofs.Field as Q
+use Rattle.rational.proofs.Laws as Q
 use Rattle.milp.specs.Form.{number_at}
 use Rattle.verdicts.specs.Compare.{is_less}
-use Rattle.verdicts.proofs.Tests.{less_true, less_false}
-use Rattle.verdicts.proofs.Numbers.{minus_one-mul}
+use Rattle.verdicts.proofs.Laws.{less_true, less_false, minus_one-mul}
 use Rattle.basis.specs.System.{Bounds, System, size, lower_of, upper_of}
 use Rattle.basis.specs.Dictionary.{IsBasic, IsResting, RestsAt, rate_of, gain_of}
 use Rattle.basis.specs.Bland.{exchanged, IsOutside, HasPassed, IsLeast, Improves, MendStep, ImproveStep, IsHeading, IsDirection, Reaches, ReachesNone, BlandStep, IsOptimalBasis}
 use Rattle.basis.specs.Relaxation.{IsUnboundedBasis}
 use Rattle.basis.specs.declared.Place.{Place}
 use Rattle.basis.specs.declared.Place.TheVariants.{Basic, AtLower, AtUpper, AtZero}
-use Rattle.basis.proofs.Operations.{length_operation}
-use Rattle.basis.proofs.Order.{neg_above, neg_below}
-use Rattle.basis.proofs.StepLemmas.{mend_exchanges, improve_exchanges}
-use Rattle.basis.proofs.Bounds.{none_outside_inside}
-use Rattle.basis.proofs.Places.{basic_known}
+use Rattle.basis.proofs.Laws.{length_operation, neg_above, neg_below, mend_exchanges, improve_exchanges, none_outside_inside, basic_known}
 use Rattle.fraction.specs.declared.frac.NoFit.{NoFit}
 use Rattle.simplex.specs.Table.{Table, dictionary_of}
 use Rattle.simplex.specs.Values.{direction_of}

@@ -3,7 +3,7 @@ use Rattle.std.proofs.Common.{◌≡◌, ◌∙◌, ℕ, ◌<◌, ◌≤◌, ◌
 use Rattle.std.specs.Prelude.{Result, Ok, Err, IfOk}
 use Rattle.std.proofs.lemmas.Bool.Decides.{nat_tests}
 use Rattle.rational.specs.Rational.{Rational, zero_ℚ, one_ℚ, ◌+ℚ◌, ◌*ℚ◌}
-use Rattle.rational.proofs.Field as Q
+use Rattle.rational.proofs.Laws as Q
 use Rattle.milp.specs.Form.{number_at}
 use Rattle.basis.specs.Dictionary.{place_of, IsBasic, IsResting, rate_of}
 use Rattle.basis.specs.Bland.{IsDirection}

@@ -7,7 +7,7 @@ use Rattle.std.proofs.lemmas.Bool.Decides.{nat_tests}
 use Rattle.std.proofs.lemmas.Option.{slice_get_past, slice_get_within, slice_get_read}
 use Rattle.std.proofs.lemmas.List.{take_all}
 use Rattle.rational.specs.Rational.{Rational, one_ℚ, whole, ◌+ℚ◌}
-use Rattle.verdicts.proofs.Numbers.{whole-add}
+use Rattle.verdicts.proofs.Laws.{whole-add}
 use Rattle.milp.specs.Problem.{Problem}
 use Rattle.verdicts.specs.Certificate.{Split, Side as SideOf, Low as LowOf, High as HighOf}
 use Rattle.verdicts.specs.Proves.{lower_under, upper_under, greater}
@@ -17,8 +17,7 @@ use Rattle.search_node.specs.declared.node.Side.TheVariants.{Low, High}
 use Rattle.search_node.specs.declared.node.SplitTaken.{SplitTaken}
 use Rattle.basis.specs.System.{Bounds}
 use Rattle.basis.specs.Node.{column_bounds, column_of}
-use Rattle.basis.proofs.NodeSystems.{length-columns}
-use Rattle.basis.proofs.Lists.{slice_get_left, slice_get_right}
+use Rattle.basis.proofs.Laws.{length-columns, slice_get_left, slice_get_right}
 use Rattle.fraction.specs.declared.frac.NoFit.{NoFit}
 use Rattle.simplex.specs.Narrowed.{narrowed_by, bounds_at, AreOnColumns, IsSplitFault, AreSplitFaults}
 

@@ -4,8 +4,8 @@ use Rattle.std.specs.Prelude.{pos, negsuc, Bool, true, false, Result, Ok, Err, I
 use Rattle.std.proofs.Math.Decide.{ℕ_discrete}
 use Rattle.std.proofs.lemmas.List.{take_all}
 use Rattle.rational.specs.Rational.{Rational, one_ℚ, whole, ◌*ℚ◌}
-use Rattle.rational.proofs.Field as Q
-use Rattle.verdicts.proofs.Numbers.{minus_one-mul}
+use Rattle.rational.proofs.Laws as Q
+use Rattle.verdicts.proofs.Laws.{minus_one-mul}
 use Rattle.milp.specs.Form.{number_at}
 use Rattle.milp.specs.Problem.{Column, Problem}
 use Rattle.verdicts.specs.Certificate.{Side, Weights, Derived}
@@ -18,8 +18,7 @@ use Rattle.basis.specs.Numbers.{IsSiteNumber, IsSitePair, IsRunBase, IsCoefficie
 use Rattle.basis.specs.Relaxation.{IsBlocked, IsOptimalRelaxation, IsInfeasibleRelaxation, IsUnboundedRelaxation}
 use Rattle.basis.specs.declared.Place.{Place}
 use Rattle.basis.specs.declared.Place.TheVariants.{Basic, AtLower, AtUpper, AtZero}
-use Rattle.basis.proofs.NodeSystems.{node_size}
-use Rattle.basis.proofs.NumberFacts.{pair_within, run_within_node}
+use Rattle.basis.proofs.Laws.{node_size, pair_within, run_within_node}
 use Rattle.fraction.specs.declared.frac.NoFit.{NoFit}
 use Rattle.search_node.specs.Faults.{IsSiteFault}
 use Rattle.simplex.specs.Table.{Table, is_basic, dictionary_of}

@@ -6,8 +6,8 @@ use Rattle.std.proofs.lemmas.Bool.{and_parts}
 use Rattle.std.proofs.lemmas.Bool.Decides.{nat_tests}
 use Rattle.std.proofs.lemmas.List.{drop_all}
 use Rattle.rational.specs.Rational.{Rational, one_ℚ, whole, neg_ℚ, ◌*ℚ◌}
-use Rattle.rational.proofs.Field as Q
-use Rattle.verdicts.proofs.Numbers.{minus_one-mul}
+use Rattle.rational.proofs.Laws as Q
+use Rattle.verdicts.proofs.Laws.{minus_one-mul}
 use Rattle.milp.specs.Form.{Entry}
 use Rattle.milp.specs.declared.Direction.{Direction}
 use mathlib.Core.Path.{ap₂}

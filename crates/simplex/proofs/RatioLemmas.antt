@@ -3,18 +3,17 @@ use Rattle.std.proofs.Common.{◌≡◌, ◌∙◌, ℕ, ◌+◌, ◌<◌, List,
 use Rattle.std.specs.Prelude.{pos, option_map, Result, Ok, Err, IfOk}
 use Rattle.std.proofs.Math.Decide.{ℕ_discrete}
 use Rattle.rational.specs.Rational.{Rational, zero_ℚ, inv_ℚ, neg_ℚ, ◌+ℚ◌, ◌-ℚ◌, ◌*ℚ◌, ◌/ℚ◌, ◌≤ℚ◌, ◌<ℚ◌}
-use Rattle.rational.proofs.Field as Q
+use Rattle.rational.proofs.Laws as Q
 use Rattle.milp.specs.Form.{number_at}
 use Rattle.verdicts.specs.Compare.{is_less}
-use Rattle.verdicts.proofs.Tests.{less_true, less_false}
+use Rattle.verdicts.proofs.Laws.{less_true, less_false}
 use Rattle.basis.specs.System.{Bounds, System, size, lower_of, upper_of}
 use Rattle.basis.specs.Dictionary.{place_of, rate_of}
 use Rattle.basis.specs.Bland.{Reaches}
 use Rattle.basis.specs.Pivots.{IsLengthOperation}
 use Rattle.basis.specs.declared.Place.{Place}
 use Rattle.basis.specs.declared.Place.TheVariants.{Basic, AtLower, AtUpper, AtZero}
-use Rattle.basis.proofs.Order.{above_some, below_some, not_le, zero_numerator}
-use Rattle.basis.proofs.Rays.{arrives}
+use Rattle.basis.proofs.Laws.{above_some, below_some, not_le, zero_numerator, arrives}
 use Rattle.fraction.specs.Answers.{sub_answer, div_answer}
 use Rattle.fraction.specs.Fits.{fits, sum_fits}
 use Rattle.fraction.specs.declared.frac.Op.TheVariants.{Sub, Div}

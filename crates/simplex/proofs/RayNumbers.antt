@@ -9,7 +9,7 @@ use Rattle.milp.specs.Form.{number_at}
 use Rattle.milp.specs.Problem.{Column}
 use Rattle.verdicts.specs.Proves.{is_integer}
 use Rattle.basis.specs.Weights.{numbers_from, common_denominator}
-use Rattle.basis.proofs.Lists.{length-numbers, numbers-below}
+use Rattle.basis.proofs.Laws.{length-numbers, numbers-below}
 use Rattle.fraction.specs.declared.frac.NoFit.{NoFit}
 use Rattle.simplex.specs.Rays.{IsFault, IsDenominatorFault, IsProduct, IsProductFault, IsRayFault, AreScaled, numbers_to_be_whole, denominator_of, whole_ray}
 use Rattle.simplex.specs.declared.fault.Fault.{Fault}

@@ -7,10 +7,10 @@ use Rattle.std.specs.Prelude.{pos, negsuc, ℤ, ◌==◌, cond, unsigned_abs, Bo
 use Rattle.std.proofs.lemmas.Bool.Decides.{nat_tests}
 use mathlib.Core.Path.{ap₂}
 use Rattle.rational.specs.Rational.{Rational, zero_ℚ, whole, neg_ℚ, inv_ℚ, ◌+ℚ◌, ◌*ℚ◌, ◌/ℚ◌}
-use Rattle.rational.proofs.Field as Q
+use Rattle.rational.proofs.Laws as Q
 use Rattle.milp.specs.Form.{number_at}
-use Rattle.verdicts.proofs.Numbers.{minus_one-mul}
-use Rattle.basis.proofs.Order.{zero_numerator}
+use Rattle.verdicts.proofs.Laws.{minus_one-mul}
+use Rattle.basis.proofs.Laws.{zero_numerator}
 use Rattle.instance.specs.WellFormed.{is_zero}
 use Rattle.fraction.specs.Fits.{fits}
 use Rattle.fraction.specs.Answers.{mul_add_answer, result_fits}

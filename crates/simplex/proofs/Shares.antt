@@ -6,9 +6,9 @@ use Rattle.std.proofs.lemmas.Option.{slice_get_read}
 use Rattle.std.proofs.lemmas.Bool.Decides.{nat_tests}
 use Rattle.integer.specs.Gcd.{gcd}
 use Rattle.integer.specs.Lowest.{IsLowest}
-use Rattle.integer.proofs.LowestLaws.{gcd_pos}
+use Rattle.integer.proofs.Laws.{gcd_pos}
 use Rattle.rational.specs.Rational.{Rational, one_ℚ, whole, over, inv_ℚ, ◌/ℚ◌}
-use Rattle.rational.proofs.Field as Q
+use Rattle.rational.proofs.Laws as Q
 use Rattle.fraction.specs.Answers.{div_answer}
 use Rattle.fraction.specs.Fits.{fits, part_max, num_fits, den_fits, common_den, left_num, right_num}
 use Rattle.fraction.proofs.FracLemmas.{over-numerator, over-denominator, fits_from, quot_some}

@@ -5,7 +5,7 @@ use Rattle.std.proofs.lemmas.List.{drop_more, length-set, get_or-set_same, get_o
 use Rattle.std.proofs.lemmas.Bool.Decides.{nat_tests}
 use Rattle.std.proofs.Math.Decide.{ℕ_discrete, dec_lt}
 use Rattle.rational.specs.Rational.{Rational, zero_ℚ, ◌+ℚ◌}
-use Rattle.rational.proofs.Field as Q
+use Rattle.rational.proofs.Laws as Q
 use Rattle.milp.specs.Form.{Entry, number_at}
 use Rattle.verdicts.specs.WeightedSums.{AllBelow, coefficient_of}
 use Rattle.simplex.specs.Ascending.{IsAscending}

@@ -11,7 +11,7 @@ use Rattle.verdicts.specs.WeightedSums.{AllBelow}
 use Rattle.basis.specs.System.{Bounds, System, IsSystem, size, lower_of, upper_of}
 use Rattle.basis.specs.Bland.{first_number, start_point}
 use Rattle.basis.specs.Numbers.{products_of, prefix_sum}
-use Rattle.basis.proofs.Start.{same_below, extended_satisfies}
+use Rattle.basis.proofs.Laws.{same_below, extended_satisfies}
 use Rattle.fraction.specs.declared.frac.NoFit.{NoFit}
 use Rattle.simplex.specs.Sums.{IsTermFault, IsSumFault, IsStartFault, AreLonger, AreFirstNumbers, AreStartNumbers}
 use Rattle.simplex.proofs.SumLemmas.{entry_below}

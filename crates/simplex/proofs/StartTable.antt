@@ -7,14 +7,13 @@ use Rattle.std.proofs.Math.Decide.{ℕ_discrete, dec_lt}
 use Rattle.rational.specs.Rational.{Rational}
 use Rattle.milp.specs.Form.{Entry, value_at, number_at}
 use Rattle.verdicts.specs.WeightedSums.{coefficient_of}
-use Rattle.verdicts.proofs.Coefficients.{same_value}
+use Rattle.verdicts.proofs.Laws.{same_value}
 use Rattle.basis.specs.System.{Bounds, System, size, lower_of, upper_of}
 use Rattle.basis.specs.Dictionary.{place_of, IsBasic, IsResting, AllResting, IsOverResting, Dictionary, Solves, IsDictionary, rate_of, gain_of}
 use Rattle.basis.specs.Bland.{first_place, IsStart, start_dictionary}
 use Rattle.basis.specs.declared.Place.{Place}
 use Rattle.basis.specs.declared.Place.TheVariants.{Basic, AtZero}
-use Rattle.basis.proofs.Places.{below, basic_known, rests_or}
-use Rattle.basis.proofs.Coefs.{not_resting}
+use Rattle.basis.proofs.Laws.{below, basic_known, rests_or, not_resting}
 use Rattle.simplex.specs.Start.{IsDense, AreDense, AreCounted, AreBasicPast, ArePositions, IsStartTable}
 use Rattle.simplex.specs.Table.{Table, dictionary_of, IsTable}
 use Rattle.simplex.proofs.TableForms.{rate_number, gain_number, is_over_resting}

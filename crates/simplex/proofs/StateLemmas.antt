@@ -12,11 +12,7 @@ use Rattle.basis.specs.Pivots.{IsPivoted, IsMoveOperation}
 use Rattle.basis.specs.Numbers.{IsSitePair, IsRunBase, IsRunProducts, IsGivenNumber, IsSiteNumber, IsPointOfRun, products_of, prefix_sum, run_numbers}
 use Rattle.basis.specs.declared.Place.{Place}
 use Rattle.basis.specs.declared.Place.TheVariants.{Basic}
-use Rattle.basis.proofs.Operations.{pivot_operation, move_operation}
-use Rattle.basis.proofs.Pivot.{pivot_keeps}
-use Rattle.basis.proofs.Places.{basic_known}
-use Rattle.basis.proofs.Points.{point_after}
-use Rattle.basis.proofs.Start.{same_below, start_is_point}
+use Rattle.basis.proofs.Laws.{pivot_operation, move_operation, pivot_keeps, basic_known, point_after, same_below, start_is_point}
 use Rattle.fraction.specs.Answers.{result_fits}
 use Rattle.fraction.specs.declared.frac.NoFit.{NoFit}
 use Rattle.search_node.specs.Bases.{next_bases}

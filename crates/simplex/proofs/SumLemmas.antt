@@ -4,7 +4,7 @@ use mathlib.Core.Path.{ap₂}
 use Rattle.std.proofs.lemmas.List.{take_all, length-map}
 use Rattle.std.proofs.lemmas.Option.{slice_get_read}
 use Rattle.rational.specs.Rational.{Rational, zero_ℚ, ◌+ℚ◌, ◌*ℚ◌}
-use Rattle.rational.proofs.Field as Q
+use Rattle.rational.proofs.Laws as Q
 use Rattle.milp.specs.Form.{Entry, value_at, number_at}
 use Rattle.verdicts.specs.WeightedSums.{AllBelow}
 use Rattle.basis.specs.Numbers.{sum_onto, prefix_sum, products_of}

@@ -6,7 +6,7 @@ use Rattle.basis.specs.Dictionary.{IsBasic, IsResting, IsDictionary}
 use Rattle.basis.specs.Bland.{exchanged}
 use Rattle.basis.specs.declared.Place.{Place}
 use Rattle.basis.specs.declared.Place.TheVariants.{Basic}
-use Rattle.basis.proofs.Places.{length-exchanged, leaves_rests, other_place}
+use Rattle.basis.proofs.Laws.{length-exchanged, leaves_rests, other_place}
 use Rattle.simplex.specs.Table.{Table, dictionary_of, IsTable}
 use Rattle.simplex.proofs.TableForms.{rate_number, gain_number, is_over_resting}
 use Rattle.simplex.proofs.StartTable.{same_numbers}

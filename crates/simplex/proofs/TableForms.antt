@@ -3,7 +3,7 @@ use Rattle.std.proofs.Common.{◌≡◌, ◌∙◌, ℕ, zero, suc, ◌+◌, ◌
 use Rattle.std.proofs.lemmas.Bool.Decides.{nat_tests}
 use Rattle.std.proofs.Math.Decide.{ℕ_discrete}
 use Rattle.rational.specs.Rational.{Rational, zero_ℚ, ◌+ℚ◌}
-use Rattle.rational.proofs.Field as Q
+use Rattle.rational.proofs.Laws as Q
 use Rattle.milp.specs.Form.{number_at}
 use Rattle.verdicts.specs.WeightedSums.{coefficient_of}
 use Rattle.basis.specs.Dictionary.{place_of, IsResting, AllResting, IsOverResting, rate_of, gain_of}

@@ -10,7 +10,7 @@ use Rattle.basis.specs.Bland.{exchanged}
 use Rattle.basis.specs.Pivots.{IsPivoted}
 use Rattle.basis.specs.declared.Place.{Place}
 use Rattle.basis.specs.declared.Place.TheVariants.{Basic}
-use Rattle.basis.proofs.Places.{length-exchanged, leaves_rests, enters_basic, basic_after, stays_basic, basic_known}
+use Rattle.basis.proofs.Laws.{length-exchanged, leaves_rests, enters_basic, basic_after, stays_basic, basic_known}
 use Rattle.simplex.specs.Rows.{IsSolved, IsSubstituted}
 use Rattle.simplex.specs.Table.{Table, dictionary_of, IsTable, moved_positions, ArePivoted}
 use Rattle.simplex.proofs.TableForms.{rate_number, gain_number}

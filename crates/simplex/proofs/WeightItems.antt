@@ -5,11 +5,11 @@ use Rattle.std.proofs.lemmas.List.{append-nil}
 use Rattle.std.proofs.lemmas.Bool.Decides.{nat_tests}
 use Rattle.rational.specs.Rational.{Rational, zero_ℚ, one_ℚ, whole}
 use Rattle.verdicts.specs.Certificate.{Item}
-use Rattle.verdicts.proofs.Numbers.{neg-zero}
+use Rattle.verdicts.proofs.Laws.{neg-zero}
 use Rattle.basis.specs.Dictionary as D
 use Rattle.basis.specs.Dictionary.{IsResting, IsBasic, rate_of, gain_of}
 use Rattle.basis.specs.Weights.{items_at, items_of, nonzero, row_weight, contradiction_weights}
-use Rattle.basis.proofs.Coefs.{not_resting}
+use Rattle.basis.proofs.Laws.{not_resting}
 use Rattle.simplex.specs.Table.{Table, is_basic, dictionary_of}
 use Rattle.simplex.specs.Sources.{weight_from, weights_from}
 use Rattle.simplex.specs.declared.weights.Source.{Source}

@@ -6,8 +6,8 @@ use Rattle.std.proofs.Math.Decide.{ℕ_discrete}
 use Rattle.rational.specs.Rational.{Rational, ◌+ℚ◌, ◌*ℚ◌, zero_ℚ}
 use Rattle.milp.specs.Form.{Entry, value_at}
 use Rattle.verdicts.specs.WeightedSums.{coefficient_of, sum_below, AllBelow}
-use Rattle.rational.proofs.Field as Q
-use Rattle.rational.proofs.Field.{field, field_units}
+use Rattle.rational.proofs.Laws as Q
+use Rattle.rational.proofs.Laws.{field, field_units}
 
 pub sum_zero : (n : ℕ) (f : ℕ → Rational) → ((j : ℕ) → j < n → f j ≡ zero_ℚ) → sum_below n f ≡ zero_ℚ
 sum_zero zero f h = refl

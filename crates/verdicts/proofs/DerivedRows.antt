@@ -4,7 +4,7 @@ use Rattle.std.specs.Prelude.{pos, negsuc, ◌+ℤ◌}
 use Rattle.std.proofs.lemmas.Bool.{and_parts}
 use Rattle.rational.specs.Rational.{Rational, ◌≤ℚ◌, zero_ℚ, ◌*ℚ◌, whole}
 use Rattle.milp.specs.Form.{Entry}
-use Rattle.rational.proofs.Field as Q
+use Rattle.rational.proofs.Laws as Q
 use Rattle.verdicts.proofs.Duality.{value-scaled}
 use Rattle.verdicts.specs.Compare.{is_at_most, is_whole}
 use Rattle.milp.specs.Points.{IsWhole}

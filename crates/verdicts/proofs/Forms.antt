@@ -7,7 +7,7 @@ use Rattle.std.proofs.Math.Decide.{ℕ_discrete}
 use Rattle.rational.specs.Rational.{Rational, ◌+ℚ◌, ◌*ℚ◌, zero_ℚ}
 use Rattle.milp.specs.Form.{Entry, value_at}
 use Rattle.verdicts.specs.WeightedSums.{coefficient_of, sum_below, scaled, Weighted, combined}
-use Rattle.rational.proofs.Field as Q
+use Rattle.rational.proofs.Laws as Q
 use Rattle.verdicts.proofs.Coefficients.{sum_zero, sum_same, sum_add}
 use Rattle.verdicts.specs.Compare.{is_same}
 use Rattle.milp.specs.Form.{number_at, sum_at}

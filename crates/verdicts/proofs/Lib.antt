@@ -1,14 +1,15 @@
-pub mod Coefficients
-pub mod Duality
-pub mod Tests
-pub mod Numbers
-pub mod Forms
-pub mod Sums
-pub mod Points
-pub mod DerivedRows
-pub mod Nodes
-pub mod Law
-pub mod Steps
-pub mod Converse
-pub mod Trees
+mod Coefficients
+mod Duality
+mod Tests
+mod Numbers
+mod Forms
+mod Sums
+mod Points
+mod DerivedRows
+mod Nodes
+mod Law
+mod Steps
+mod Converse
+mod Trees
 mod Examples
+pub mod Laws

@@ -4,8 +4,8 @@ use Rattle.std.specs.Prelude.{pos, ◌+ℤ◌}
 use Rattle.std.proofs.lemmas.Bool.{eqb-true}
 use Rattle.rational.specs.Rational.{Rational, ◌≤ℚ◌, ◌<ℚ◌, ◌*ℚ◌, ◌+ℚ◌, ◌-ℚ◌, whole}
 use Rattle.verdicts.specs.WeightedSums.{scaled, Weighted}
-use Rattle.rational.proofs.Field as Q
-use Rattle.rational.proofs.Field.{field, field_units, signs}
+use Rattle.rational.proofs.Laws as Q
+use Rattle.rational.proofs.Laws.{field, field_units, signs}
 use Rattle.verdicts.proofs.Duality.{value-scaled}
 use Rattle.verdicts.specs.Compare.{is_at_most}
 use Rattle.milp.specs.Problem.{Problem}

@@ -1,12 +1,10 @@
 -- Negatives in the order, and whole numbers among the rational ones.
 use Rattle.std.proofs.Common.{◌≡◌, ◌∙◌, refl, sym, ap, ◌⊎◌}
 use Rattle.std.specs.Prelude.{ℤ, pos, negsuc, ◌+ℤ◌, ◌*ℤ◌, neg_ℤ}
-use Rattle.integer.proofs.IntRing as Z
+use Rattle.integer.proofs.Laws as Z
 use Rattle.rational.specs.Rational.{Rational, ◌≤ℚ◌, ◌<ℚ◌, ◌+ℚ◌, ◌*ℚ◌, neg_ℚ, zero_ℚ, one_ℚ, whole}
-use Rattle.rational.proofs.Field as Q
-use Rattle.rational.proofs.Field.{field, field_units, signs}
-use Rattle.rational.proofs.Value.{same_parts, value_same, value_self, value_add, value_mul}
-use Rattle.rational.proofs.Floors as Floors
+use Rattle.rational.proofs.Laws as Q
+use Rattle.rational.proofs.Laws.{field, field_units, signs, same_parts, value_same, value_self, value_add, value_mul}
 use Rattle.milp.specs.Points.{IsWhole}
 
 pub le_by : (a b x y : Rational) → a ≡ x → b ≡ y → x ≤ℚ y → a ≤ℚ b
@@ -56,4 +54,4 @@ IsWhole-mul a b h k = sym (ap (λ (q : Rational). q.denominator) (sym (whole-mul
 
 -- a whole number is on one side of the split at t
 pub sides : (a : Rational) (t : ℤ) → IsWhole a → (a ≤ℚ whole t) ⊎ (whole (t +ℤ pos 1) ≤ℚ a)
-sides a t h = rw (whole-numerator a h) at (Floors.split a.numerator t)
+sides a t h = rw (whole-numerator a h) at (Q.whole_sides a.numerator t)

@@ -4,8 +4,8 @@ use Rattle.std.specs.Prelude.{pos, ◌*ℤ◌, ◌≤ℤ◌, ◌+ℤ◌}
 use Rattle.std.proofs.lemmas.Int.{ints}
 use Rattle.rational.specs.Rational.{Rational, ◌≤ℚ◌, ◌<ℚ◌, zero_ℚ, one_ℚ, ◌*ℚ◌, ◌+ℚ◌, neg_ℚ, whole}
 use Rattle.milp.specs.Form.{Entry}
-use Rattle.rational.proofs.Field as Q
-use Rattle.rational.proofs.Field.{field, field_units, signs}
+use Rattle.rational.proofs.Laws as Q
+use Rattle.rational.proofs.Laws.{field, field_units, signs}
 use Rattle.verdicts.specs.Compare.{is_less}
 use Rattle.milp.specs.Points.{IsWhole}
 use Rattle.milp.specs.Problem.{Column, Row, Problem}

@@ -4,7 +4,7 @@ use Rattle.std.proofs.lemmas.Bool.{and_parts}
 use Rattle.rational.specs.Rational.{Rational, ◌≤ℚ◌, ◌+ℚ◌, ◌*ℚ◌, zero_ℚ, one_ℚ}
 use Rattle.milp.specs.Form.{Entry}
 use Rattle.verdicts.specs.WeightedSums.{scaled, Weighted, combined, combined_bound}
-use Rattle.rational.proofs.Field as Q
+use Rattle.rational.proofs.Laws as Q
 use Rattle.verdicts.proofs.Duality.{value-append, value-scaled}
 use Rattle.verdicts.specs.Compare.{is_less, is_at_most}
 use Rattle.milp.specs.Problem.{Row, Problem}

@@ -4,7 +4,7 @@ use Rattle.std.specs.Prelude.{ℤ, ◌≤ℤ◌, ◌<ℤ◌, int_lt, int_le}
 use Rattle.std.proofs.lemmas.Int.{ints}
 use Rattle.std.proofs.lemmas.Bool.Decides.{nat_tests}
 use Rattle.rational.specs.Rational.{Rational, ◌≤ℚ◌, ◌<ℚ◌}
-use Rattle.rational.proofs.Value.{same_parts}
+use Rattle.rational.proofs.Laws.{same_parts}
 use Rattle.verdicts.specs.Compare.{is_less, is_at_most, is_same, is_whole}
 use Rattle.milp.specs.Points.{IsWhole}
 

@@ -1,6 +1,6 @@
 use Rattle.std.proofs.Common.{◌∙◌, sym, ap, arith, ◌≤◌}
 use Rattle.integer.specs.Gcd.{gcd as gcd_of}
-use Rattle.integer.proofs.GcdLaws.{gcd_end}
+use Rattle.integer.proofs.Laws.{gcd_end}
 use Rattle.fraction.proofs.BinaryLemmas.{less_same, gcd-swap}
 use Rattle.fraction.proofs.euclid.gcd_odd.Goals as goal
 

@@ -1,6 +1,6 @@
 use Rattle.std.proofs.Common.{◌∙◌, sym, ap}
 use Rattle.integer.specs.Gcd.{gcd as gcd_of}
-use Rattle.integer.proofs.GcdLaws.{gcd_step, gcd_end}
+use Rattle.integer.proofs.Laws.{gcd_step, gcd_end}
 use Rattle.fraction.proofs.euclid.gcd_with_word.Goals as goal
 
 pub returns-then-b-eq0 : goal.returns-then-b-eq0

@@ -1,6 +1,6 @@
 use Rattle.std.proofs.Common.{◌∙◌, sym, ap, arith}
 use Rattle.integer.specs.Gcd.{gcd as gcd_of}
-use Rattle.integer.proofs.GcdLaws.{gcd_step, gcd_end}
+use Rattle.integer.proofs.Laws.{gcd_step, gcd_end}
 use Rattle.simplex.proofs.denominators.gcd.Goals as goal
 
 pub loop-y-preserved : goal.loop-y-preserved
