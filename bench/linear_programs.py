@@ -3,11 +3,13 @@
 
 usage: bench/linear_programs.py [--runs N] [--most ROWS] [FILE.mps ...]
 
-Without files it makes dense and sparse programs of 10 to 200 rows (to ROWS at most) with small whole coefficients.
-GLPK's `glpsol --exact` (Debian's glpk-utils) and `esolver` (Debian's qsopt-ex) are run on the same files, one program
-after the other in each round. It prints the median seconds of each, the optimum that each finds, and the ratio to GLPK;
-last the geometric mean of the ratios, without those where this program answers Overflow. A program that takes more than 60 seconds counts as none. Each certificate is
-checked by `--checkcert`, and its time printed too. Last it solves and checks chains of 500 to 2,000 rows.
+Without files it makes dense and sparse programs of 10 to 200 rows (to ROWS at most) with small whole coefficients;
+bench/relaxations.py writes files of real models. GLPK's `glpsol --exact --nopresol` (Debian's glpk-utils) and `esolver`
+(Debian's qsopt-ex) are run on the same files, one program after the other in each round. It prints the median seconds
+of each, the optimum that each finds, and the ratios of this program's time to theirs; last the geometric means of the
+ratios, without the programs that this one or the other does not solve, and the programs that take longer than GLPK's
+and longer than 10 ms. A program that takes more than 60 seconds counts as none. Each certificate is checked by
+`--checkcert`, and its time printed too. Without files it solves and checks chains of 500 to 2,000 rows at the end.
 """
 import os
 import random
@@ -120,7 +122,25 @@ def shown(seconds):
     return "    none" if seconds is None else f"{seconds:8.4f}"
 
 
-def measure(name, path, folder, runs):
+class Measured:
+    """A program's medians in seconds by solver, none where a solver does not end, and what each answers."""
+
+    def __init__(self, name, rows, times, values):
+        self.name, self.rows, self.values = name, rows, values
+        self.medians = {solver: statistics.median(it) if it else None for solver, it in times.items()}
+
+    def ratio(self, other):
+        """This program's time by the other's, or none where one of them does not solve it."""
+        mine, theirs = self.medians["this"], self.medians.get(other)
+        is_solved = self.values["this"] not in ("overflow", "UNDECIDED pivots", "")
+        return mine / theirs if mine and theirs and is_solved and self.values[other] else None
+
+    def is_slow(self):
+        mine, theirs = self.medians["this"], self.medians.get("glpk")
+        return mine is None or (theirs is not None and mine > theirs and mine > 0.01)
+
+
+def measure(name, rows, path, folder, runs):
     others = [("glpk", glpk)] if GLPK else []
     others += [("qsopt", qsopt)] if shutil.which("esolver") else []
     solvers = [("this", ours)] + others
@@ -131,16 +151,23 @@ def measure(name, path, folder, runs):
             seconds, values[solver] = run(path, folder)
             if seconds is not None:
                 times[solver].append(seconds)
-    medians = {solver: statistics.median(times[solver]) if times[solver] else None for solver, _ in solvers}
+    found = Measured(name, rows, times, values)
     checked, verdict = check(path, folder)
-    cells = [f"{solver} {shown(medians[solver])} s {values[solver][:12]:>12}" for solver, _ in solvers]
-    ratio = None
-    if medians.get("glpk") and medians["this"]:
-        ratio = medians["this"] / medians["glpk"]
-        cells.append(f"ratio to glpk {ratio:6.2f}")
+    cells = [f"{solver} {shown(found.medians[solver])} s {values[solver][:12]:>12}" for solver, _ in solvers]
+    for other, _ in others:
+        if found.ratio(other):
+            cells.append(f"of {other} {found.ratio(other):6.2f}")
     cells.append(f"check {shown(checked)} s {verdict}")
     print(f"{name:24} " + "  ".join(cells), flush=True)
-    return None if values["this"] == "overflow" else ratio
+    return found
+
+
+def tell(found):
+    """The geometric means of the ratios over these programs."""
+    for other in ["glpk", "qsopt"]:
+        known = [it.ratio(other) for it in found if it.ratio(other)]
+        if known:
+            print(f"geometric mean of the time by {other}'s, {len(known)} programs: {statistics.geometric_mean(known):.2f}")
 
 
 def main():
@@ -155,10 +182,10 @@ def main():
             most = int(words.pop(0))
         else:
             files.append(word)
-    ratios = []
+    found = []
     with tempfile.TemporaryDirectory() as folder:
         for path in files:
-            ratios.append((0, measure(os.path.basename(path), path, folder, runs)))
+            found.append(measure(os.path.basename(path), 0, path, folder, runs))
         if not files:
             for rows in [10, 20, 30, 50, 100, 200]:
                 for shape, density in [("dense", 1.0), ("sparse", 0.1)]:
@@ -167,13 +194,16 @@ def main():
                     path = os.path.join(folder, "random.mps")
                     with open(path, "w") as file:
                         file.write(text_of(rows, rows, density, rows))
-                    ratios.append((rows, measure(f"{rows} rows, {shape}", path, folder, runs)))
-        if not files:
+                    found.append(measure(f"{rows} rows, {shape}", rows, path, folder, runs))
             chains(folder)
-    for limit in [50, 200]:
-        known = [ratio for rows, ratio in ratios if ratio is not None and rows <= limit]
-        if known:
-            print(f"up to {limit} rows: geometric mean of the ratios to glpk {statistics.geometric_mean(known):.2f}")
+    if not files:
+        print("up to 50 rows:")
+        tell([it for it in found if it.rows <= 50])
+    tell(found)
+    slow = [it.name for it in found if it.is_slow()]
+    print(f"slower than GLPK and than 10 ms: {', '.join(slow) or 'none'}")
+    unsolved = [f"{it.name} ({it.values['this'] or 'none'})" for it in found if it.ratio("glpk") is None]
+    print(f"without a ratio: {', '.join(unsolved) or 'none'}")
 
 
 if __name__ == "__main__":
