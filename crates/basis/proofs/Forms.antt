@@ -9,7 +9,7 @@ use mathlib.Core.Path.{ap₂}
 use Rattle.rational.specs.Rational.{Rational, ◌+ℚ◌, zero_ℚ, one_ℚ}
 use Rattle.milp.specs.Form.{Entry, value_at}
 use Rattle.verdicts.specs.WeightedSums.{coefficient_of, AllBelow}
-use Rattle.verdicts.specs.Compare.{is_same}
+use Rattle.rational.specs.Compare.{is_same}
 use Rattle.verdicts.specs.Proves.{same_form}
 use Rattle.rational.proofs.Laws as Q
 use Rattle.basis.specs.System.{System, size, Satisfies, IsSystem, form_of, unit_form, extended}

@@ -9,7 +9,7 @@ use Rattle.milp.specs.Problem.{Problem}
 use Rattle.milp.specs.Points.{Feasible, IsImprovingRay, objective_value, sign_of}
 use Rattle.verdicts.specs.Certificate.{Optimal, Infeasible, Weights, Empty, Bound}
 use Rattle.verdicts.specs.WeightedSums.{scaled}
-use Rattle.verdicts.specs.Compare.{is_same}
+use Rattle.rational.specs.Compare.{is_same}
 use Rattle.verdicts.specs.Proves.{shows, refutes, terms, meets, is_improving_ray, first_failing, Part, Proves, bound_passes}
 use Rattle.verdicts.proofs.Laws.{true_meets, true_ray}
 use Rattle.basis.specs.Relaxation.{leaf_certificate, point_certificate, ShowsObjective, ShowsInfeasible}

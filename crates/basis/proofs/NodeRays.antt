@@ -18,7 +18,8 @@ use Rattle.basis.specs.System.{System, size, lower_of, upper_of, Satisfies}
 use Rattle.basis.specs.Dictionary.{Dictionary, gain_of}
 use Rattle.basis.specs.Bland.{ReachesNone}
 use Rattle.basis.specs.Node.{system_of, integer_at, IsOverColumns}
-use Rattle.basis.specs.Weights.{numbers_from, common_denominator, integer_numbers, made_whole}
+use Rattle.rational.specs.Denominators.{common_denominator}
+use Rattle.basis.specs.Weights.{numbers_from, integer_numbers, made_whole}
 use Rattle.basis.specs.Relaxation.{IsUnboundedBasis}
 use Rattle.basis.specs.declared.Place.{Place}
 use Rattle.basis.specs.declared.Place.TheVariants.{AtLower, AtUpper}

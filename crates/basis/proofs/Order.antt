@@ -6,8 +6,9 @@ use Rattle.std.proofs.lemmas.Bool.Decides.{nat_tests}
 use Rattle.rational.specs.Rational.{Rational, neg_ℚ, zero_ℚ, ◌<ℚ◌, ◌≤ℚ◌}
 use Rattle.rational.proofs.Laws as Q
 use Rattle.rational.proofs.Laws.{value_same, value_self}
-use Rattle.verdicts.specs.Compare.{is_less, is_at_most}
-use Rattle.verdicts.proofs.Laws.{less_true, less_false, at_most_false, neg_le, neg-zero}
+use Rattle.rational.specs.Compare.{is_less, is_at_most}
+use Rattle.rational.proofs.Laws.{less_true, less_false, at_most_false}
+use Rattle.verdicts.proofs.Laws.{neg_le, neg-zero}
 use Rattle.basis.specs.Weights.{nonzero}
 
 pub le_or_less : (a b : Rational) → (a ≤ℚ b) ⊎ (b <ℚ a)

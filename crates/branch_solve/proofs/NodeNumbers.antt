@@ -13,7 +13,7 @@ use Rattle.instance.specs.WellFormed.{is_zero, are_entries_from, IsWellFormed}
 use Rattle.instance.specs.Sums.{and_then}
 use Rattle.verdicts.specs.Certificate.{Side, Low, High, Derived}
 use Rattle.verdicts.specs.WeightedSums.{AllBelow}
-use Rattle.verdicts.specs.Compare.{is_less, is_at_most}
+use Rattle.rational.specs.Compare.{is_less, is_at_most}
 use Rattle.verdicts.specs.Proves.{bound_used, lower_under, upper_under, greater, lesser}
 use Rattle.basis.specs.Node.{system_of, IsOverColumns}
 use Rattle.basis.specs.Numbers.{base_number, left_base, at_of, IsGivenNumber, IsRunBase, IsProblemNumber, IsNodeBase, node_numbers, AllOf}

@@ -2,7 +2,7 @@
 ghost use Rattle.std.specs.Prelude.{◌≡◌};
 ghost use Rattle.rational.specs.Rational.{◌*ℚ◌};
 ghost use Rattle.milp.specs.Points.{sign_of};
-ghost use Rattle.verdicts.specs.Compare.{is_less, is_at_most, is_same, is_whole};
+ghost use Rattle.rational.specs.Compare.{is_less, is_at_most, is_same, is_whole};
 ghost use Rattle.instance.specs.WellFormed.{is_zero};
 
 use fraction::Frac;

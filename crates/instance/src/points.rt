@@ -5,7 +5,7 @@ ghost use Rattle.rational.specs.Rational.{zero_ℚ};
 ghost use Rattle.milp.specs.Form.{Entry as FormEntry, sum_at};
 ghost use Rattle.milp.specs.Problem.{Row as RowOf};
 ghost use Rattle.milp.specs.Points.{objective_value, Feasible};
-ghost use Rattle.verdicts.specs.Compare.{is_at_most, is_whole};
+ghost use Rattle.rational.specs.Compare.{is_at_most, is_whole};
 ghost use Rattle.verdicts.specs.Proves.{lies_above, lies_below, meets_columns};
 ghost use Rattle.instance.specs.WellFormed.{are_entries};
 ghost use Rattle.instance.specs.Sums.{step_answer, sum_answer, form_of, value_answer, rows_answer, meets_answer};

@@ -2,4 +2,5 @@ mod Value
 mod Field
 mod OrderLaws
 mod Floors
+mod Tests
 pub mod Laws

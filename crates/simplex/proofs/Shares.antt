@@ -13,8 +13,8 @@ use Rattle.fraction.specs.Answers.{div_answer}
 use Rattle.fraction.specs.Fits.{fits, part_max, num_fits, den_fits, common_den, left_num, right_num}
 use Rattle.fraction.proofs.FracLemmas.{over-numerator, over-denominator, fits_from, quot_some}
 use Rattle.fraction.proofs.CmpLemmas.{one_of}
-use Rattle.basis.specs.Numbers.{prefix_denominator}
-use Rattle.basis.specs.Weights.{common_denominator}
+use Rattle.rational.specs.Denominators.{prefix_denominator}
+use Rattle.rational.specs.Denominators.{common_denominator}
 use Rattle.fraction.specs.declared.frac.Op.TheVariants.{Add, Div}
 use Rattle.fraction.specs.declared.frac.NoFit.{NoFit}
 use Rattle.simplex.specs.Rays.{IsShareFault, IsDenominatorFault}

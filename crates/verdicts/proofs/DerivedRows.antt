@@ -6,14 +6,14 @@ use Rattle.rational.specs.Rational.{Rational, ◌≤ℚ◌, zero_ℚ, ◌*ℚ◌
 use Rattle.milp.specs.Form.{Entry}
 use Rattle.rational.proofs.Laws as Q
 use Rattle.verdicts.proofs.Duality.{value-scaled}
-use Rattle.verdicts.specs.Compare.{is_at_most, is_whole}
+use Rattle.rational.specs.Compare.{is_at_most, is_whole}
 use Rattle.milp.specs.Points.{IsWhole}
 use Rattle.milp.specs.Problem.{Column, Problem}
 use Rattle.milp.specs.Form.{number_at, sum_at}
 use Rattle.milp.specs.Points.{IsWithin, Relaxed, Feasible}
 use Rattle.verdicts.specs.Certificate.{FormSplit, Proof, Plain, BySplit, Derived}
 use Rattle.verdicts.specs.Proves.{terms, joined, shows, is_integer, is_whole_form, in_range, low_term, high_term, proof_passes, derived_passes}
-use Rattle.verdicts.proofs.Tests.{at_most_true, whole_true}
+use Rattle.rational.proofs.Laws.{at_most_true, whole_true}
 use Rattle.verdicts.proofs.Numbers.{le_by, neg_le, neg_whole, minus_one-mul, IsWhole-add, IsWhole-mul, sides}
 use Rattle.verdicts.proofs.Sums.{Meets, terms_meet, joined_meets, shows_sound}
 use Rattle.verdicts.specs.Proves.{InsideBounds, MeetsDerived}

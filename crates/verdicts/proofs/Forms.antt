@@ -9,10 +9,10 @@ use Rattle.milp.specs.Form.{Entry, value_at}
 use Rattle.verdicts.specs.WeightedSums.{coefficient_of, sum_below, scaled, Weighted, combined}
 use Rattle.rational.proofs.Laws as Q
 use Rattle.verdicts.proofs.Coefficients.{sum_zero, sum_same, sum_add}
-use Rattle.verdicts.specs.Compare.{is_same}
+use Rattle.rational.specs.Compare.{is_same}
 use Rattle.milp.specs.Form.{number_at, sum_at}
 use Rattle.verdicts.specs.Proves.{same_form}
-use Rattle.verdicts.proofs.Tests.{same_true}
+use Rattle.rational.proofs.Laws.{same_true}
 
 -- one column's part
 part : ℕ → Rational → (ℕ → Rational) → ℕ → Rational

@@ -6,13 +6,13 @@ use Rattle.rational.specs.Rational.{Rational, ◌≤ℚ◌, ◌<ℚ◌, zero_ℚ
 use Rattle.milp.specs.Form.{Entry}
 use Rattle.rational.proofs.Laws as Q
 use Rattle.rational.proofs.Laws.{field, field_units, signs}
-use Rattle.verdicts.specs.Compare.{is_less}
+use Rattle.rational.specs.Compare.{is_less}
 use Rattle.milp.specs.Points.{IsWhole}
 use Rattle.milp.specs.Problem.{Column, Row, Problem}
 use Rattle.milp.specs.Form.{number_at, sum_at}
 use Rattle.milp.specs.Points.{IsWithin, IsHarmless, Feasible, IsUnbounded, IsBetter, sign_of, objective_value}
 use Rattle.verdicts.specs.Rays.{moved}
-use Rattle.verdicts.proofs.Tests.{less_true, less_false}
+use Rattle.rational.proofs.Laws.{less_true, less_false}
 use Rattle.verdicts.proofs.Numbers.{le_by, IsWhole-add, IsWhole-mul, whole-add}
 
 moved_size : (x r : List Rational) (t : ℕ) → length x ≡ length r → length (moved x t r) ≡ length x

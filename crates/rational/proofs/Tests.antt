@@ -1,12 +1,11 @@
 -- What the tests on numbers tell.
 use Rattle.std.proofs.Common.{◌≡◌, true, false, arith}
-use Rattle.std.specs.Prelude.{ℤ, ◌≤ℤ◌, ◌<ℤ◌, int_lt, int_le}
+use Rattle.std.specs.Prelude.{ℕ, ℤ, pos, ◌*ℤ◌, ◌≤ℤ◌, ◌<ℤ◌, int_lt, int_le}
 use Rattle.std.proofs.lemmas.Int.{ints}
 use Rattle.std.proofs.lemmas.Bool.Decides.{nat_tests}
 use Rattle.rational.specs.Rational.{Rational, ◌≤ℚ◌, ◌<ℚ◌}
-use Rattle.rational.proofs.Laws.{same_parts}
-use Rattle.verdicts.specs.Compare.{is_less, is_at_most, is_same, is_whole}
-use Rattle.milp.specs.Points.{IsWhole}
+use Rattle.rational.proofs.Value.{same_parts}
+use Rattle.rational.specs.Compare.{is_less, is_at_most, is_same, is_whole, is_positive, is_negative}
 
 lt_true : (a b : ℤ) → int_lt a b ≡ true → a <ℤ b
 lt_true a b h = grind (arith, ints)
@@ -35,5 +34,19 @@ at_most_false a b h = record { cross = le_false _ _ h }
 pub same_true : (a b : Rational) → is_same a b ≡ true → a ≡ b
 same_true a b h = same_parts a b (grind (arith, ints, nat_tests)) (grind (arith, nat_tests))
 
-pub whole_true : (a : Rational) → is_whole a ≡ true → IsWhole a
+pub whole_true : (a : Rational) → is_whole a ≡ true → a.denominator ≡ 1
 whole_true a h = grind (arith, nat_tests)
+
+-- ---- signs
+
+below_zero : (n : ℤ) (d : ℕ) → int_lt n (pos 0) ≡ int_lt (n *ℤ pos 1) (pos 0 *ℤ pos d)
+below_zero n d = grind (arith, ints)
+
+above_zero : (n : ℤ) (d : ℕ) → int_lt (pos 0) n ≡ int_lt (pos 0 *ℤ pos d) (n *ℤ pos 1)
+above_zero n d = grind (arith, ints)
+
+pub negative_numerator : (a : Rational) → int_lt a.numerator (pos 0) ≡ is_negative a
+negative_numerator a = below_zero a.numerator a.denominator
+
+pub positive_numerator : (a : Rational) → int_lt (pos 0) a.numerator ≡ is_positive a
+positive_numerator a = above_zero a.numerator a.denominator
