@@ -10,3 +10,4 @@ pub mod FusedLemmas
 pub mod SumLemmas
 pub mod WideLemmas
 pub mod BinaryLemmas
+pub mod Shares
