@@ -12,10 +12,9 @@ use Rattle.milp.specs.Problem.{Row, Problem}
 use Rattle.milp.specs.Points.{sign_of, objective_value}
 use Rattle.fraction.specs.declared.frac.NoFit.{NoFit}
 use Rattle.fraction.specs.Answers.{add_answer}
-use Rattle.instance.specs.WellFormed.{is_zero}
+use Rattle.rational.specs.Compare.{is_zero, is_less, is_at_most, is_same}
 use Rattle.instance.specs.Sums.{and_then, step_answer, sum_answer, rows_answer}
 use Rattle.verdicts.specs.WeightedSums.{Weighted, scaled, combined, combined_bound, coefficient_of}
-use Rattle.rational.specs.Compare.{is_less, is_at_most, is_same}
 use Rattle.verdicts.specs.Certificate.{Weights, Side, FormSplit, Proof, Plain, BySplit, Derived, TreeNode, Branch, Empty, Bound}
 use Rattle.verdicts.specs.Proves.{lies_above, lies_below, bound_for, meets_columns, meets_rows, is_improving_ray, joined, terms, same_form, shows, refutes, in_range, is_whole_form, low_term, high_term, proof_passes, derived_passes, bound_passes, node_passes, point_passes, value_passes, ray_passes}
 use Rattle.verdicts.proofs.Laws.{coefficient-scaled, coefficient-combined}

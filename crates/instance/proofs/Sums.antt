@@ -11,7 +11,8 @@ use Rattle.milp.specs.Points.{objective_value}
 use Rattle.fraction.specs.declared.frac.NoFit.{NoFit}
 use Rattle.fraction.specs.Fits.{fits, sum_fits}
 use Rattle.fraction.specs.Answers.{add_answer}
-use Rattle.instance.specs.WellFormed.{is_zero, are_entries_from, are_entries}
+use Rattle.rational.specs.Compare.{is_zero}
+use Rattle.instance.specs.WellFormed.{are_entries_from, are_entries}
 use Rattle.instance.specs.Sums.{and_then, sum_answer, form_of, value_answer}
 
 ok_then : {B : Type 0} → (t : Bool) (v : Rational) (e : NoFit) (f : Rational → Result B NoFit) (P : B → Type 0) → IfOk (f v) P → IfOk (and_then (cond t (Ok v) (Err e)) f) P

@@ -11,7 +11,7 @@ use Rattle.rational.proofs.Laws as Q
 use Rattle.milp.specs.Form.{number_at}
 use Rattle.verdicts.proofs.Laws.{minus_one-mul}
 use Rattle.basis.proofs.Laws.{zero_numerator}
-use Rattle.instance.specs.WellFormed.{is_zero}
+use Rattle.rational.specs.Compare.{is_zero}
 use Rattle.fraction.specs.Fits.{fits}
 use Rattle.fraction.specs.Answers.{mul_add_answer, result_fits}
 use Rattle.fraction.specs.declared.frac.Op.TheVariants.{Add, Mul}
