@@ -1,7 +1,7 @@
 -- Sums of 1 over two denominators, which do not fit where their common denominator does not.
 use Rattle.std.proofs.Common.{◌≡◌, ◌∙◌, ℕ, zero, suc, ◌+◌, ◌*◌, ◌/◌, ◌<◌, ◌≤◌, ◌&&◌, nat_le, Bool, true, false, List, [], ◌∷◌, length, take, get_or, mul-pos, refl, sym, ap, subst, arith, Option, Some, None, slice_get, inl}
 use Rattle.std.specs.Prelude.{pos, ◌+ℤ◌, Result, Ok, Err, SomeIff, IfErr, IsErrAnd}
-use Rattle.std.proofs.lemmas.Option.{slice_get_read}
+use Rattle.std.proofs.lemmas.Option.{slice_get_read, same_Some}
 use Rattle.std.proofs.lemmas.Bool.Decides.{nat_tests}
 use Rattle.integer.specs.Gcd.{gcd}
 use Rattle.integer.specs.Lowest.{IsLowest}
@@ -58,10 +58,7 @@ common_more m [] i a e = absurd (none_some e)
   where
     none_some : ¬ (None ≡ Some a)
     none_some k = cc
-common_more m (b ∷ numbers) zero a e = ap (λ (c : Rational). m * (c.denominator / gcd m c.denominator)) (same_some b a e)
-  where
-    same_some : (f g : Rational) → Some f ≡ Some g → f ≡ g
-    same_some f g k = cc
+common_more m (b ∷ numbers) zero a e = ap (λ (c : Rational). m * (c.denominator / gcd m c.denominator)) (same_Some b a e)
 common_more m (b ∷ numbers) (suc i) a e = common_more (m * (b.denominator / gcd m b.denominator)) numbers i a e
 
 pub one_more_denominator : (numbers : List Rational) (i : ℕ) (a : Rational) (old d new : ℕ) → slice_get numbers i ≡ Some a → old ≡ prefix_denominator numbers i → d ≡ a.denominator → new ≡ old * (d / gcd old d) → new ≡ prefix_denominator numbers (i + 1)

@@ -7,6 +7,7 @@ pub use Rattle.rational.proofs.Field.{add-le-add, add-neg, add-zero, add_assoc, 
 -- the order as a comparison
 pub use Rattle.rational.proofs.OrderLaws.{compare_ties, compare_total}
 -- what tests on numbers tell
-pub use Rattle.rational.proofs.Tests.{at_most_false, at_most_true, less_false, less_true, negative_numerator, positive_numerator, same_true, whole_true}
--- whole numbers on the two sides of a split
+pub use Rattle.rational.proofs.Tests.{at_most_false, at_most_true, less_false, less_true, negative_numerator, positive_numerator, same_true, true_at_most, true_less, true_same, false_less, whole_true, zero_true}
+-- whole numbers, and the two sides of a split
+pub use Rattle.rational.proofs.Wholes.{neg_whole, whole-add, whole-mul, zero-le_whole}
 pub use Rattle.rational.proofs.Floors.{whole_sides}

@@ -3,4 +3,5 @@ mod Field
 mod OrderLaws
 mod Floors
 mod Tests
+mod Wholes
 pub mod Laws

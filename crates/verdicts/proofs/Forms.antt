@@ -60,7 +60,7 @@ same_form-value n x f g e h =
 
 -- ---- a combined form's coefficient, term by term
 
-coefficient-append : (f g : List Entry) (j : ℕ) → coefficient_of (f ++ g) j ≡ coefficient_of f j +ℚ coefficient_of g j
+pub coefficient-append : (f g : List Entry) (j : ℕ) → coefficient_of (f ++ g) j ≡ coefficient_of f j +ℚ coefficient_of g j
 coefficient-append [] g j = sym (Q.zero-add (coefficient_of g j))
 coefficient-append (e ∷ f) g j = rw (coefficient-append f g j) (sym (Q.add_assoc _ _ _))
 
