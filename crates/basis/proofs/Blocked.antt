@@ -1,9 +1,10 @@
 -- The weights of a blocked row, and of contradictory bounds, show that the node has no point.
-use Rattle.std.proofs.Common.{◌≡◌, ◌∙◌, ℕ, zero, suc, ◌<◌, ◌≢◌, List, [], ◌∷◌, ◌++◌, length, refl, sym, ap, subst, arith, Some, None, Bool, true, inl, inr, cond, ◌==◌, slice_get}
+use Rattle.std.proofs.Common.{◌≡◌, ◌∙◌, ℕ, zero, suc, ◌<◌, ◌≢◌, List, [], ◌∷◌, ◌++◌, length, refl, sym, ap, subst, arith, Some, None, true, inl, inr, cond, ◌==◌, slice_get}
 use Rattle.std.proofs.lemmas.Int.{ints}
-use Rattle.std.specs.Prelude.{pos, negsuc, ◌*ℤ◌, ◌<ℤ◌, ◌&&◌, option_and_then, unwrap_or}
+use Rattle.std.specs.Prelude.{pos, negsuc, ◌*ℤ◌, ◌<ℤ◌, option_and_then, unwrap_or}
 use Rattle.std.proofs.lemmas.Option.{slice_get_past}
 use Rattle.std.proofs.Math.Decide.{ℕ_discrete, dec_lt}
+use Rattle.std.proofs.lemmas.Bool.{and_from, eq-eqb}
 use mathlib.Core.Path.{ap₂}
 use Rattle.rational.specs.Rational.{Rational, ◌+ℚ◌, ◌-ℚ◌, ◌*ℚ◌, ◌<ℚ◌, zero_ℚ, one_ℚ, neg_ℚ, whole}
 use Rattle.milp.specs.Form.{Entry, value_at}
@@ -11,7 +12,7 @@ use Rattle.milp.specs.Problem.{Problem}
 use Rattle.verdicts.specs.Certificate.{Side, Weights, Derived}
 use Rattle.verdicts.specs.WeightedSums.{combined, coefficient_of, sum_below, AllBelow}
 use Rattle.verdicts.specs.Proves.{refutes, terms, bound_used}
-use Rattle.verdicts.proofs.Laws.{value-append, sum_zero, le_by, neg-zero, neg_whole, minus_one-mul}
+use Rattle.verdicts.proofs.Laws.{coefficient-append, value-append, sum_zero, le_by, neg-zero, minus_one-mul}
 use Rattle.rational.proofs.Laws as Q
 use Rattle.rational.proofs.Laws.{field, field_units, signs}
 use Rattle.basis.specs.System.{Bounds, size, lower_of, upper_of, Satisfies, AreBoundsInOrder, unit_form}
@@ -23,10 +24,10 @@ use Rattle.basis.specs.Relaxation.{IsBlocked, blocking_weights, IsInfeasibleRela
 use Rattle.basis.specs.declared.Place.{Place}
 use Rattle.basis.specs.declared.Place.TheVariants.{Basic, AtLower, AtUpper, AtZero}
 use Rattle.basis.proofs.Values.{minus, value-unit, value-minus, below-append, below-scaled}
-use Rattle.basis.proofs.Coefs.{coefficient-append, coefficient-minus, unit_self, unit_other, not_resting}
+use Rattle.basis.proofs.Coefs.{coefficient-minus, unit_self, unit_other, not_resting}
 use Rattle.basis.proofs.Places.{below, rests_or, basic_known}
-use Rattle.basis.proofs.Exists.{same_test, other_test}
-use Rattle.basis.proofs.Order.{less_test, not_less_test, neg_above, not_le}
+use Rattle.basis.proofs.Exists.{other_test}
+use Rattle.basis.proofs.Order.{neg_above, not_le}
 use Rattle.basis.proofs.Bounds.{resting_inside, held_up, held_down}
 use Rattle.basis.proofs.Forms.{same_forms}
 use Rattle.basis.proofs.FormWeights.{UsesBound, weights_there, weights_value, weights_bound}
@@ -46,7 +47,7 @@ abbrev pub put_at : (ℕ → Rational) → ℕ → Rational → ℕ → Rational
 put_at x r l v = cond (v == r) l (x v)
 
 put-same : (x : ℕ → Rational) (r : ℕ) (l : Rational) → put_at x r l r ≡ l
-put-same x r l = ap (λ t. cond t l (x r)) (same_test r r refl)
+put-same x r l = ap (λ t. cond t l (x r)) (eq-eqb r r refl)
 
 put-other : (x : ℕ → Rational) (r : ℕ) (l : Rational) (v : ℕ) → v ≢ r → put_at x r l v ≡ x v
 put-other x r l v n = ap (λ t. cond t l (x v)) (other_test v r n)
@@ -78,7 +79,7 @@ module _ (p : Problem) (ds : List Derived) (sides : List Side) (b : List Place) 
   form_below = below-append (size (system_of p ds sides)) (unit_form r) (minus (d.row r)) (rw (← is_dictionary.size) (basic_known b r basic), tt) (below-scaled (size (system_of p ds sides)) (whole (negsuc 0)) (d.row r) row_below)
 
   weight-self : row_weight d r r ≡ one_ℚ
-  weight-self = ap (λ t. cond t one_ℚ (neg_ℚ (rate_of d r r))) (same_test r r refl)
+  weight-self = ap (λ t. cond t one_ℚ (neg_ℚ (rate_of d r r))) (eq-eqb r r refl)
 
   weight-other : (v : ℕ) → v ≢ r → row_weight d r v ≡ neg_ℚ (rate_of d v r)
   weight-other v n = ap (λ t. cond t one_ℚ (neg_ℚ (rate_of d v r))) (other_test v r n)
@@ -145,7 +146,7 @@ module _ (p : Problem) (ds : List Derived) (sides : List Side) (b : List Place) 
   high_uses u is_upper none v = elim (ℕ_discrete v r) [
     | yes same ↦ let P : ℕ → Type 0 = λ w. UsesBound (system_of p ds sides) w (neg_ℚ (row_weight d r w)) (put_at x r u w) in
         subst P (sym same) (λ n. (let R : Rational → Type 0 = λ a. bound_used a (lower_of (system_of p ds sides) r) (upper_of (system_of p ds sides) r) ≡ Some (put_at x r u r) in
-        subst R (sym (ap neg_ℚ weight-self)) (rw (not_less_test zero_ℚ (neg_ℚ one_ℚ) (Q.le_of_lt _ _ (neg_above one_ℚ one_above))) (is_upper ∙ ap Some (sym (put-same x r u))))))
+        subst R (sym (ap neg_ℚ weight-self)) (rw (Q.false_less zero_ℚ (neg_ℚ one_ℚ) (Q.le_of_lt _ _ (neg_above one_ℚ one_above))) (is_upper ∙ ap Some (sym (put-same x r u))))))
     | no n ↦ let P : Rational → Rational → Type 0 = λ a y. UsesBound (system_of p ds sides) v a y in
         rw (weight-other v n, Q.neg_neg (rate_of d v r), put-other x r u v n) (other v n)
   ]
@@ -200,13 +201,13 @@ module _ (p : Problem) (ds : List Derived) (sides : List Side) (u : ℕ) (over :
       clash k = cc
 
   weights_here : contradiction_weights u u ≡ one_ℚ ∷ whole (negsuc 0) ∷ []
-  weights_here = ap (λ t. cond t (one_ℚ ∷ whole (negsuc 0) ∷ []) []) (same_test u u refl)
+  weights_here = ap (λ t. cond t (one_ℚ ∷ whole (negsuc 0) ∷ []) []) (eq-eqb u u refl)
 
   weights_elsewhere : (v : ℕ) → v ≢ u → contradiction_weights u v ≡ []
   weights_elsewhere v n = ap (λ t. cond t (one_ℚ ∷ whole (negsuc 0) ∷ []) []) (other_test v u n)
 
   minus_one : whole (negsuc 0) ≡ neg_ℚ one_ℚ
-  minus_one = neg_whole (pos 1)
+  minus_one = Q.neg_whole (pos 1)
 
   lower_used : bound_used one_ℚ (lower_of (system_of p ds sides) u) (upper_of (system_of p ds sides) u) ≡ Some h.lower
   lower_used = h.is_lower
@@ -253,7 +254,4 @@ infeasible_shows p ds sides w over (contradiction v h e) = let P : Weights → T
 infeasible_shows p ds sides w over (blocked b d x r place h e) = let P : Weights → Type 0 = ShowsInfeasible p ds sides in subst P (sym e) (blocked_shows p ds sides b d x r place over h)
 
 pub refutes_leaf : (p : Problem) (ds : List Derived) (sides : List Side) (w : Weights) → ShowsInfeasible p ds sides w → refutes (length p.columns) (terms p ds sides w) ≡ true
-refutes_leaf p ds sides w h = rw (h.are_terms) (both _ _ h.form (less_test _ _ h.bound))
-  where
-    both : (a b : Bool) → a ≡ true → b ≡ true → (a && b) ≡ true
-    both a b h k = rw (h, k) refl
+refutes_leaf p ds sides w h = rw (h.are_terms) (and_from _ _ h.form (Q.true_less _ _ h.bound))

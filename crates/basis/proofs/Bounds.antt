@@ -8,7 +8,7 @@ use Rattle.basis.specs.Dictionary.{place_of, IsResting, RestsAt, IsBasicPoint}
 use Rattle.basis.specs.Bland.{IsOutside, CanRaise}
 use Rattle.basis.specs.declared.Place.{Place}
 use Rattle.basis.specs.declared.Place.TheVariants.{Basic, AtLower, AtUpper, AtZero}
-use Rattle.basis.proofs.Order.{not_less, less_test, not_less_test, signs_of, neg_above, neg_below}
+use Rattle.basis.proofs.Order.{not_less, signs_of, neg_above, neg_below}
 use Rattle.basis.proofs.Places.{is_basic_or}
 use Rattle.basis.proofs.FormWeights.{UsesBound}
 
@@ -23,8 +23,8 @@ at_upper (Some u) y h n = ap Some (Q.le_antisymm u y (not_less y u n) h)
 -- a variable that can't fall where its weight is positive, nor rise where it is negative, is at the bound that the weight uses
 pub held : (s : System) (x : ℕ → Rational) (v : ℕ) (a : Rational) → IsInside s x v → (zero_ℚ <ℚ a → ¬ (CanFall s x v)) → (a <ℚ zero_ℚ → ¬ (CanRise s x v)) → UsesBound s v a (x v)
 held s x v a inside low high n = elim (signs_of a n) [
-  | inl above ↦ rw (less_test zero_ℚ a above) (at_lower (lower_of s v) (x v) inside.low (low above))
-  | inr below ↦ rw (not_less_test zero_ℚ a (Q.le_of_lt _ _ below)) (at_upper (upper_of s v) (x v) inside.high (high below))
+  | inl above ↦ rw (Q.true_less zero_ℚ a above) (at_lower (lower_of s v) (x v) inside.low (low above))
+  | inr below ↦ rw (Q.false_less zero_ℚ a (Q.le_of_lt _ _ below)) (at_upper (upper_of s v) (x v) inside.high (high below))
 ]
 
 -- what a variable can't do that can't raise anything at the rate -a

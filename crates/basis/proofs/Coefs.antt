@@ -1,5 +1,5 @@
 -- The coefficients of forms made of forms.
-use Rattle.std.proofs.Common.{◌≡◌, ◌∙◌, ℕ, List, [], ◌∷◌, ◌++◌, ◌≢◌, refl, sym, ap, subst, arith, ◌==◌, cond, Bool, true, false}
+use Rattle.std.proofs.Common.{◌≡◌, ◌∙◌, ℕ, List, [], ◌∷◌, ◌++◌, ◌≢◌, refl, subst, arith, ◌==◌, true, false}
 use Rattle.std.specs.Prelude.{negsuc}
 use Rattle.std.proofs.lemmas.Bool.Decides.{nat_tests}
 use Rattle.rational.specs.Rational.{Rational, ◌+ℚ◌, ◌*ℚ◌, ◌-ℚ◌, neg_ℚ, inv_ℚ, zero_ℚ, one_ℚ, whole}
@@ -10,20 +10,8 @@ use Rattle.rational.proofs.Laws.{field, field_units, signs}
 use Rattle.basis.specs.Dictionary.{IsResting, AllResting}
 use Rattle.basis.specs.System.{unit_form}
 use Rattle.basis.specs.declared.Place.{Place}
-use Rattle.verdicts.proofs.Laws.{minus_one-mul}
+use Rattle.verdicts.proofs.Laws.{coefficient-append, coefficient-scaled, minus_one-mul}
 use Rattle.basis.proofs.Values.{minus, solved, substituted}
-
-pub coefficient-append : (f g : List Entry) (j : ℕ) → coefficient_of (f ++ g) j ≡ coefficient_of f j +ℚ coefficient_of g j
-coefficient-append [] g j = sym (Q.zero-add (coefficient_of g j))
-coefficient-append (e ∷ f) g j = ap (λ t. cond (e.column == j) e.coefficient zero_ℚ +ℚ t) (coefficient-append f g j) ∙ sym (Q.add_assoc _ _ _)
-
-scaled_part : (w c : Rational) (b : Bool) → cond b (w *ℚ c) zero_ℚ ≡ w *ℚ cond b c zero_ℚ
-scaled_part w c true = refl
-scaled_part w c false = sym (Q.mul-zero w)
-
-pub coefficient-scaled : (w : Rational) (f : List Entry) (j : ℕ) → coefficient_of (scaled w f) j ≡ w *ℚ coefficient_of f j
-coefficient-scaled w [] j = sym (Q.mul-zero w)
-coefficient-scaled w (e ∷ f) j = rw (coefficient-scaled w f j, scaled_part w e.coefficient (e.column == j)) (sym (Q.mul_add w _ _))
 
 pub coefficient-minus : (f : List Entry) (j : ℕ) → coefficient_of (minus f) j ≡ neg_ℚ (coefficient_of f j)
 coefficient-minus f j = coefficient-scaled (whole (negsuc 0)) f j ∙ minus_one-mul _

@@ -11,7 +11,7 @@ use Rattle.rational.specs.Rational.{Rational, whole, ◌*ℚ◌}
 use Rattle.rational.proofs.Laws.{value_same, value_self, value_mul}
 use Rattle.milp.specs.Form.{number_at}
 use Rattle.milp.specs.Points.{IsWhole}
-use Rattle.basis.specs.Weights.{common_denominator}
+use Rattle.rational.specs.Denominators.{common_denominator}
 
 step_left : (m : ℕ) (a : Rational) → m ∣ m * (a.denominator / gcd m a.denominator)
 step_left m a = dvd-mul_right m (a.denominator / gcd m a.denominator)

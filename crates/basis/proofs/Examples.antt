@@ -2,6 +2,7 @@
 use Rattle.std.proofs.Common.{◌≡◌, ◌≢◌, ◌∙◌, ℕ, zero, suc, ◌<◌, List, [], ◌∷◌, refl, sym, ap, subst, arith, Some, IfSome, inl, inr}
 use Rattle.std.specs.Prelude.{pos, negsuc, ◌*ℤ◌, ◌<ℤ◌}
 use Rattle.std.proofs.lemmas.Int.{ints}
+use Rattle.std.proofs.lemmas.Option.{same_Some}
 use Rattle.rational.specs.Rational.{Rational, zero_ℚ, one_ℚ, whole, neg_ℚ, ◌+ℚ◌, ◌*ℚ◌, ◌<ℚ◌, ◌≤ℚ◌}
 use Rattle.rational.proofs.Laws as Q
 use Rattle.basis.specs.System.{System, lower_of, upper_of, IsSystem}
@@ -106,13 +107,10 @@ leads_on = record {
     order zero = Q.le_of_lt _ _ zero_below
     order (suc v) = tt
 
-    same_some : (a b : Rational) → Some a ≡ Some b → a ≡ b
-    same_some a b e = cc
-
     sooner : (u : Rational) (w : ℕ) (p : Place) → w < 1 → Reaches one_column (start_point one_column) (λ v. one_ℚ) u w p → whole (pos 3) ≤ℚ u
     sooner u w Basic k h = absurd h
     sooner u w AtLower k h = absurd (Q.lt-not-le one_ℚ zero_ℚ h.0 (Q.le_of_lt _ _ one_above))
-    sooner u zero AtUpper k h = let P : Rational → Type 0 = λ t. whole (pos 3) ≤ℚ t in subst P (same_some _ _ h.1 ∙ Q.zero-add _ ∙ Q.mul-one u) (Q.le_refl (whole (pos 3)))
+    sooner u zero AtUpper k h = let P : Rational → Type 0 = λ t. whole (pos 3) ≤ℚ t in subst P (same_Some _ _ h.1 ∙ Q.zero-add _ ∙ Q.mul-one u) (Q.le_refl (whole (pos 3)))
     sooner u (suc w) AtUpper k h = absurd (omega arith)
     sooner u w AtZero k h = absurd h
 

@@ -1,9 +1,10 @@
 -- The basis after a pivot has a dictionary.
-use Rattle.std.proofs.Common.{◌≡◌, ◌∙◌, ℕ, List, [], ◌∷◌, ◌++◌, ◌<◌, ◌≢◌, refl, sym, ap, subst, arith, ◌==◌, cond, true, false, length}
+use Rattle.std.proofs.Common.{◌≡◌, ◌∙◌, ℕ, List, [], ◌∷◌, ◌++◌, ◌<◌, ◌≢◌, refl, sym, ap, subst, arith, ◌==◌, cond, false, length}
 use Rattle.std.specs.Prelude.{pos}
 use Rattle.std.proofs.lemmas.Bool.Decides.{nat_tests}
 use mathlib.Core.Path.{ap₂}
 use Rattle.std.proofs.Math.Decide.{ℕ_discrete}
+use Rattle.std.proofs.lemmas.Bool.{eq-eqb}
 use Rattle.rational.specs.Rational.{Rational, ◌+ℚ◌, ◌*ℚ◌, ◌/ℚ◌, neg_ℚ, inv_ℚ, zero_ℚ}
 use Rattle.milp.specs.Form.{Entry}
 use Rattle.verdicts.specs.WeightedSums.{scaled, coefficient_of}
@@ -15,7 +16,8 @@ use Rattle.basis.specs.Pivots.{IsPivoted}
 use Rattle.basis.specs.declared.Place.{Place}
 use Rattle.basis.specs.declared.Place.TheVariants.{Basic}
 use Rattle.basis.proofs.Places.{length-exchanged, leaves_rests, basic_after, basic_known, other_place}
-use Rattle.basis.proofs.Coefs.{coefficient-append, coefficient-scaled, not_resting}
+use Rattle.verdicts.proofs.Laws.{coefficient-append, coefficient-scaled}
+use Rattle.basis.proofs.Coefs.{not_resting}
 use Rattle.basis.proofs.Pivot.{pivot_keeps}
 
 -- ---- forms
@@ -38,23 +40,20 @@ pivoted d q r = record {
   objective = with_row q (gain_of d q) (entering_row q r (rate_of d q r) (d.row r)) d.objective;
 }
 
-pub same_test : (i j : ℕ) → i ≡ j → (i == j) ≡ true
-same_test i j h = grind (arith, nat_tests)
-
 pub other_test : (i j : ℕ) → i ≢ j → (i == j) ≡ false
 other_test i j h = grind (arith, nat_tests)
 
 without-self : (q : ℕ) (f : List Entry) → coefficient_of (without q f) q ≡ zero_ℚ
 without-self q [] = refl
 without-self q (e ∷ f) = elim (ℕ_discrete e.column q) [
-  | yes h ↦ rw (same_test e.column q h) (without-self q f)
+  | yes h ↦ rw (eq-eqb e.column q h) (without-self q f)
   | no n ↦ rw (other_test e.column q n, other_test e.column q n) (Q.zero-add _ ∙ without-self q f)
 ]
 
 without-other : (q j : ℕ) (f : List Entry) → j ≢ q → coefficient_of (without q f) j ≡ coefficient_of f j
 without-other q j [] h = refl
 without-other q j (e ∷ f) h = elim (ℕ_discrete e.column q) [
-  | yes same ↦ let apart : e.column ≢ j = λ w. h (sym w ∙ same) in rw (same_test e.column q same, other_test e.column j apart) (without-other q j f h ∙ sym (Q.zero-add _))
+  | yes same ↦ let apart : e.column ≢ j = λ w. h (sym w ∙ same) in rw (eq-eqb e.column q same, other_test e.column j apart) (without-other q j f h ∙ sym (Q.zero-add _))
   | no n ↦ rw (other_test e.column q n) (ap (λ t. cond (e.column == j) e.coefficient zero_ℚ +ℚ t) (without-other q j f h))
 ]
 
@@ -62,7 +61,7 @@ without-other q j (e ∷ f) h = elim (ℕ_discrete e.column q) [
 
 entering_corner : (q r : ℕ) (c : Rational) (f : List Entry) → q ≢ r → coefficient_of f r ≡ zero_ℚ → coefficient_of (entering_row q r c f) r ≡ inv_ℚ c
 entering_corner q r c f h z =
-    rw (same_test r r refl) (ap (λ t. inv_ℚ c +ℚ t) (coefficient-scaled (neg_ℚ (inv_ℚ c)) (without q f) r ∙ ap (λ t. neg_ℚ (inv_ℚ c) *ℚ t) (without-other q r f (λ w. h (sym w)) ∙ z) ∙ Q.mul-zero _) ∙ Q.add-zero _)
+    rw (eq-eqb r r refl) (ap (λ t. inv_ℚ c +ℚ t) (coefficient-scaled (neg_ℚ (inv_ℚ c)) (without q f) r ∙ ap (λ t. neg_ℚ (inv_ℚ c) *ℚ t) (without-other q r f (λ w. h (sym w)) ∙ z) ∙ Q.mul-zero _) ∙ Q.add-zero _)
 
 entering_other : (q r : ℕ) (c : Rational) (f : List Entry) (j : ℕ) → j ≢ q → j ≢ r → coefficient_of (entering_row q r c f) j ≡ neg_ℚ (coefficient_of f j /ℚ c)
 entering_other q r c f j h k =
@@ -79,7 +78,7 @@ with_leaving q r k i g f h z e = with_other q k g f r h ∙ ap₂ (λ a b. a +�
 without_rests : (b : List Place) (q r : ℕ) (p : Place) (f : List Entry) → r < length b → p ≢ Basic → AllResting b f → AllResting (exchanged b q r p) (without q f)
 without_rests b q r p [] k h a = tt
 without_rests b q r p (e ∷ f) k h a = elim (ℕ_discrete e.column q) [
-  | yes same ↦ rw (same_test e.column q same) (without_rests b q r p f k h a.1)
+  | yes same ↦ rw (eq-eqb e.column q same) (without_rests b q r p f k h a.1)
   | no n ↦ rw (other_test e.column q n) (stays e.column n a.0, without_rests b q r p f k h a.1)
 ]
   where
@@ -116,7 +115,7 @@ module _ (s : System) (b : List Place) (d : Dictionary) (q r : ℕ) (place : Pla
 
   at_entering : (pivoted d q r).row q ≡ entering
   unfolding entering
-  at_entering = rw (same_test q q refl) refl
+  at_entering = rw (eq-eqb q q refl) refl
 
   at_other : (v : ℕ) → v ≢ q → (pivoted d q r).row v ≡ with_row q (rate_of d q v) entering (d.row v)
   unfolding entering

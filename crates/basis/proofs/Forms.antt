@@ -1,15 +1,14 @@
 -- Variables as forms over columns, and forms that agree at the points of a system.
 use Rattle.std.proofs.Common.{◌≡◌, ◌∙◌, ℕ, zero, suc, ◌+◌, ◌-◌, ◌≤◌, List, [], ◌∷◌, ◌<◌, refl, sym, ap, subst, arith, ◌==◌, cond, Bool, true, false, length, get_or, Option, IfSome}
-use Rattle.std.specs.Prelude.{nat_lt, ◌&&◌}
-use Rattle.std.specs.Ordering.{int_eq}
-use Rattle.std.proofs.lemmas.Int.{ints}
+use Rattle.std.specs.Prelude.{nat_lt}
 use Rattle.std.proofs.lemmas.Bool.Decides.{nat_tests}
 use Rattle.std.proofs.lemmas.Option.{slice_get-get_or}
+use Rattle.std.proofs.lemmas.Bool.{and_from}
 use mathlib.Core.Path.{ap₂}
 use Rattle.rational.specs.Rational.{Rational, ◌+ℚ◌, zero_ℚ, one_ℚ}
 use Rattle.milp.specs.Form.{Entry, value_at}
 use Rattle.verdicts.specs.WeightedSums.{coefficient_of, AllBelow}
-use Rattle.verdicts.specs.Compare.{is_same}
+use Rattle.rational.specs.Compare.{is_same}
 use Rattle.verdicts.specs.Proves.{same_form}
 use Rattle.rational.proofs.Laws as Q
 use Rattle.basis.specs.System.{System, size, Satisfies, IsSystem, form_of, unit_form, extended}
@@ -53,18 +52,9 @@ value_at-unit j (e ∷ f) = ap₂ ◌+ℚ◌ (part e.coefficient one_ℚ (e.colu
 coefficient-value : (s : System) (j : ℕ) (f : List Entry) → AllBelow s.columns f → value_at (extended s (unit_point j)) f ≡ coefficient_of f j
 coefficient-value s j f h = same_below s.columns (extended s (unit_point j)) (unit_point j) f (extended-column s (unit_point j)) h ∙ value_at-unit j f
 
-pub is_same-refl : (a b : Rational) → a ≡ b → is_same a b ≡ true
-is_same-refl a b e = let P : Rational → Type 0 = λ c. is_same a c ≡ true in subst P e (self a)
-  where
-    self : (a : Rational) → (int_eq a.numerator a.numerator && (a.denominator == a.denominator)) ≡ true
-    self a = grind (arith, ints, nat_tests)
-
 same_form-from : (n : ℕ) (f g : List Entry) → ((j : ℕ) → j < n → coefficient_of f j ≡ coefficient_of g j) → same_form n f g ≡ true
 same_form-from zero f g h = refl
-same_form-from (suc n) f g h = both (is_same (coefficient_of f n) (coefficient_of g n)) (same_form n f g) (is_same-refl _ _ (h n (omega arith))) (same_form-from n f g (λ j k. h j (omega arith)))
-  where
-    both : (a b : Bool) → a ≡ true → b ≡ true → (a && b) ≡ true
-    both a b h k = rw (h, k) refl
+same_form-from (suc n) f g h = and_from (is_same (coefficient_of f n) (coefficient_of g n)) (same_form n f g) (Q.true_same _ _ (h n (omega arith))) (same_form-from n f g (λ j k. h j (omega arith)))
 
 -- forms over columns that have one value at each point of the system are the same
 pub same_forms : (s : System) (f g : List Entry) → IsSystem s → AllBelow s.columns f → AllBelow s.columns g → ((y : ℕ → Rational) → Satisfies s y → value_at y f ≡ value_at y g) → same_form s.columns f g ≡ true

@@ -9,11 +9,11 @@ use Rattle.milp.specs.Problem.{Problem}
 use Rattle.milp.specs.Points.{Feasible, IsImprovingRay, objective_value, sign_of}
 use Rattle.verdicts.specs.Certificate.{Optimal, Infeasible, Weights, Empty, Bound}
 use Rattle.verdicts.specs.WeightedSums.{scaled}
-use Rattle.verdicts.specs.Compare.{is_same}
+use Rattle.rational.specs.Compare.{is_same}
 use Rattle.verdicts.specs.Proves.{shows, refutes, terms, meets, is_improving_ray, first_failing, Part, Proves, bound_passes}
 use Rattle.verdicts.proofs.Laws.{true_meets, true_ray}
 use Rattle.basis.specs.Relaxation.{leaf_certificate, point_certificate, ShowsObjective, ShowsInfeasible}
-use Rattle.basis.proofs.Forms.{is_same-refl}
+use Rattle.rational.proofs.Laws.{true_same}
 use Rattle.basis.proofs.Optimal.{shows_leaf}
 use Rattle.basis.proofs.Blocked.{refutes_leaf}
 
@@ -40,7 +40,7 @@ value_less p x = parts (sum_at x p.objective) p.constant
 pub optimal_proves : (p : Problem) (x : List Rational) (w : Weights) → Feasible p x → ShowsObjective p [] [] x w → Proves p (leaf_certificate p Optimal (Some (objective_value p x)) (Some x) (Bound w))
 optimal_proves p x w h k =
     all_pass Part.Size Part.Point Part.Value (Part.Node 1) ((length p.rows == length p.rows) && (length p.columns == length p.columns)) (meets p x) (is_same (objective_value p x) (objective_value p x))
-    (bound_passes p (Some (objective_value p x)) (terms p [] [] w)) (size_passes p) (true_meets p x h) (is_same-refl (objective_value p x) (objective_value p x) refl) leaf
+    (bound_passes p (Some (objective_value p x)) (terms p [] [] w)) (size_passes p) (true_meets p x h) (true_same (objective_value p x) (objective_value p x) refl) leaf
   where
     leaf : bound_passes p (Some (objective_value p x)) (terms p [] [] w) ≡ true
     leaf = let P : Rational → Type 0 = λ v. shows (length p.columns) (terms p [] [] w) (scaled (sign_of p.direction) p.objective) (sign_of p.direction *ℚ v) ≡ true in

@@ -9,9 +9,9 @@ use Rattle.milp.specs.Form.{number_at, sum_at}
 use Rattle.milp.specs.Problem.{Column, Row, Problem}
 use Rattle.milp.specs.Points.{IsWithin}
 use Rattle.verdicts.specs.Certificate.{Side, Low, High, Derived}
-use Rattle.verdicts.specs.Compare.{is_at_most}
+use Rattle.rational.specs.Compare.{is_at_most}
 use Rattle.verdicts.specs.Proves.{lesser, greater, lower_under, upper_under}
-use Rattle.verdicts.proofs.Laws.{at_most_true, at_most_false}
+use Rattle.rational.proofs.Laws.{at_most_true, at_most_false}
 use Rattle.rational.proofs.Laws as Q
 use Rattle.basis.specs.System.{size, Satisfies, AllInside, form_of}
 use Rattle.basis.specs.Node.{system_of, column_of, IsOverColumns, IsNodePoint}

@@ -18,7 +18,8 @@ use Rattle.basis.specs.System.{System, size, lower_of, upper_of, Satisfies}
 use Rattle.basis.specs.Dictionary.{Dictionary, gain_of}
 use Rattle.basis.specs.Bland.{ReachesNone}
 use Rattle.basis.specs.Node.{system_of, integer_at, IsOverColumns}
-use Rattle.basis.specs.Weights.{numbers_from, common_denominator, integer_numbers, made_whole}
+use Rattle.rational.specs.Denominators.{common_denominator}
+use Rattle.basis.specs.Weights.{numbers_from, integer_numbers, made_whole}
 use Rattle.basis.specs.Relaxation.{IsUnboundedBasis}
 use Rattle.basis.specs.declared.Place.{Place}
 use Rattle.basis.specs.declared.Place.TheVariants.{AtLower, AtUpper}
@@ -58,17 +59,11 @@ one_at_most m h = record { cross = parts m h }
     parts : (m : ℕ) → 0 < m → (pos 1 *ℤ pos 1) ≤ℤ (pos m *ℤ pos 1)
     parts m h = omega (arith, ints)
 
-zero_at_most : (m : ℕ) → zero_ℚ ≤ℚ whole (pos m)
-zero_at_most m = record { cross = parts m }
-  where
-    parts : (m : ℕ) → (pos 0 *ℤ pos 1) ≤ℤ (pos m *ℤ pos 1)
-    parts m = omega (arith, ints)
-
 times_high : (a : Rational) (m : ℕ) → zero_ℚ ≤ℚ a → zero_ℚ ≤ℚ a *ℚ whole (pos m)
-times_high a m h = le_by _ _ _ _ (sym (Q.mul-zero (whole (pos m)))) (Q.mul_comm a (whole (pos m))) (Q.mul-le-mul (whole (pos m)) zero_ℚ a (zero_at_most m) h)
+times_high a m h = le_by _ _ _ _ (sym (Q.mul-zero (whole (pos m)))) (Q.mul_comm a (whole (pos m))) (Q.mul-le-mul (whole (pos m)) zero_ℚ a (Q.zero-le_whole m) h)
 
 times_low : (a : Rational) (m : ℕ) → a ≤ℚ zero_ℚ → a *ℚ whole (pos m) ≤ℚ zero_ℚ
-times_low a m h = le_by _ _ _ _ (Q.mul_comm a (whole (pos m))) (sym (Q.mul-zero (whole (pos m)))) (Q.mul-le-mul (whole (pos m)) a zero_ℚ (zero_at_most m) h)
+times_low a m h = le_by _ _ _ _ (Q.mul_comm a (whole (pos m))) (sym (Q.mul-zero (whole (pos m)))) (Q.mul-le-mul (whole (pos m)) a zero_ℚ (Q.zero-le_whole m) h)
 
 pub times_below : (a : Rational) (m : ℕ) → 0 < m → a <ℚ zero_ℚ → a *ℚ whole (pos m) <ℚ zero_ℚ
 times_below a m k h = not_le zero_ℚ (a *ℚ whole (pos m)) (λ l. Q.lt-not-le a zero_ℚ h (Q.le_trans zero_ℚ (a *ℚ whole (pos m)) a l

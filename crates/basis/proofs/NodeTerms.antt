@@ -6,7 +6,7 @@ use mathlib.Core.Path.{ap₂}
 use Rattle.rational.specs.Rational.{Rational, ◌+ℚ◌, ◌*ℚ◌, zero_ℚ}
 use Rattle.milp.specs.Form.{Entry, value_at}
 use Rattle.milp.specs.Problem.{Row, Problem}
-use Rattle.verdicts.specs.Compare.{is_less}
+use Rattle.rational.specs.Compare.{is_less}
 use Rattle.verdicts.specs.Certificate.{Side, Derived}
 use Rattle.verdicts.specs.WeightedSums.{Weighted, combined, combined_bound, sum_below, AllBelow}
 use Rattle.verdicts.specs.Proves.{term, bound_used, row_term, column_term, derived_term, gathered, terms, lower_under, upper_under}

@@ -4,7 +4,7 @@ use Rattle.std.specs.Prelude.{pos, negsuc}
 use Rattle.rational.specs.Rational.{Rational, one_ℚ, neg_ℚ, whole}
 use Rattle.milp.specs.Problem.{Problem}
 use Rattle.verdicts.specs.Certificate.{Item, Weights, Side, Derived}
-use Rattle.verdicts.proofs.Laws.{neg_whole}
+use Rattle.rational.proofs.Laws.{neg_whole}
 use Rattle.rational.proofs.Laws as Q
 use Rattle.basis.specs.System.{System, size}
 use Rattle.basis.specs.Dictionary.{IsBasic, Dictionary, IsDictionary, rate_of, gain_of}

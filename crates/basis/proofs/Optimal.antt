@@ -1,6 +1,6 @@
 -- The weights of an optimal basis show that no point of the node is better than its point.
-use Rattle.std.proofs.Common.{◌≡◌, ◌∙◌, ℕ, ◌<◌, List, length, refl, sym, ap, subst, Bool, true, inl, inr}
-use Rattle.std.specs.Prelude.{◌&&◌}
+use Rattle.std.proofs.Common.{◌≡◌, ◌∙◌, ℕ, ◌<◌, List, length, refl, sym, ap, subst, true, inl, inr}
+use Rattle.std.proofs.lemmas.Bool.{and_from}
 use Rattle.rational.specs.Rational.{Rational, ◌*ℚ◌, ◌≤ℚ◌}
 use Rattle.milp.specs.Form.{number_at, sum_at}
 use Rattle.milp.specs.Problem.{Problem}
@@ -21,7 +21,6 @@ use Rattle.basis.proofs.Coefs.{not_resting}
 use Rattle.basis.proofs.Places.{below, rests_or}
 use Rattle.basis.proofs.Start.{same_below}
 use Rattle.basis.proofs.Lists.{numbers-below}
-use Rattle.basis.proofs.Order.{at_most_test}
 use Rattle.basis.proofs.Bounds.{held_down}
 use Rattle.basis.proofs.Forms.{same_forms}
 use Rattle.basis.proofs.FormWeights.{UsesBound, weights_there, weights_value, weights_bound}
@@ -50,7 +49,4 @@ module _ (p : Problem) (ds : List Derived) (sides : List Side) (b : List Place) 
 
 pub shows_leaf : (p : Problem) (ds : List Derived) (sides : List Side) (x : List Rational) (w : Weights) → ShowsObjective p ds sides x w
     → shows (length p.columns) (terms p ds sides w) (scaled (sign_of p.direction) p.objective) (sign_of p.direction *ℚ sum_at x p.objective) ≡ true
-shows_leaf p ds sides x w h = rw (h.are_terms) (both _ _ h.form (at_most_test _ _ (let P : Rational → Type 0 = λ t. sign_of p.direction *ℚ sum_at x p.objective ≤ℚ t in subst P (sym h.bound) (Q.le_refl _))))
-  where
-    both : (a b : Bool) → a ≡ true → b ≡ true → (a && b) ≡ true
-    both a b h k = rw (h, k) refl
+shows_leaf p ds sides x w h = rw (h.are_terms) (and_from _ _ h.form (Q.true_at_most _ _ (let P : Rational → Type 0 = λ t. sign_of p.direction *ℚ sum_at x p.objective ≤ℚ t in subst P (sym h.bound) (Q.le_refl _))))

@@ -6,8 +6,8 @@ use Rattle.std.proofs.lemmas.Bool.Decides.{nat_tests}
 use Rattle.rational.specs.Rational.{Rational, neg_ℚ, zero_ℚ, ◌<ℚ◌, ◌≤ℚ◌}
 use Rattle.rational.proofs.Laws as Q
 use Rattle.rational.proofs.Laws.{value_same, value_self}
-use Rattle.verdicts.specs.Compare.{is_less, is_at_most}
-use Rattle.verdicts.proofs.Laws.{less_true, less_false, at_most_false, neg_le, neg-zero}
+use Rattle.rational.proofs.Laws.{less_true, less_false, at_most_false}
+use Rattle.verdicts.proofs.Laws.{neg_le, neg-zero}
 use Rattle.basis.specs.Weights.{nonzero}
 
 pub le_or_less : (a b : Rational) → (a ≤ℚ b) ⊎ (b <ℚ a)
@@ -60,29 +60,6 @@ signs_of a n = elim (le_or_less a zero_ℚ) [
   ]
   | inr above ↦ inl above
 ]
-
--- ---- tests
-
-pub less_test : (a b : Rational) → a <ℚ b → is_less a b ≡ true
-less_test a b h = go (is_less a b) refl
-  where
-    go : (t : Bool) → is_less a b ≡ t → is_less a b ≡ true
-    go true e = e
-    go false e = absurd (Q.lt-not-le a b h (less_false a b e))
-
-pub not_less_test : (a b : Rational) → b ≤ℚ a → is_less a b ≡ false
-not_less_test a b h = go (is_less a b) refl
-  where
-    go : (t : Bool) → is_less a b ≡ t → is_less a b ≡ false
-    go true e = absurd (Q.lt-not-le a b (less_true a b e) h)
-    go false e = e
-
-pub at_most_test : (a b : Rational) → a ≤ℚ b → is_at_most a b ≡ true
-at_most_test a b h = go (is_at_most a b) refl
-  where
-    go : (t : Bool) → is_at_most a b ≡ t → is_at_most a b ≡ true
-    go true e = e
-    go false e = absurd (Q.lt-not-le b a (at_most_false a b e) h)
 
 -- ---- a number as a weight
 

@@ -4,6 +4,7 @@ use Rattle.std.specs.Prelude.{pos, neg_ℤ, ℤ}
 use Rattle.std.proofs.lemmas.Int.{ints}
 use Rattle.std.proofs.Math.Decide.{ℕ_discrete}
 use Rattle.std.proofs.lemmas.List.{get_or-set_same, length-set}
+use Rattle.std.proofs.lemmas.Bool.{eq-eqb}
 use Rattle.rational.specs.Rational.{Rational, ◌*ℚ◌, ◌-ℚ◌, neg_ℚ, inv_ℚ, zero_ℚ, one_ℚ}
 use Rattle.milp.specs.Form.{Entry}
 use Rattle.rational.proofs.Laws as Q
@@ -14,7 +15,7 @@ use Rattle.basis.specs.declared.Place.{Place}
 use Rattle.basis.specs.declared.Place.TheVariants.{Basic, AtLower, AtUpper, AtZero}
 use Rattle.basis.proofs.Places.{length-exchanged, other_place, basic_known, is_basic_or}
 use Rattle.basis.proofs.Unique.{moved_alone, moved-resting, moved-basic}
-use Rattle.basis.proofs.Exists.{pivoted, pivoted_is, same_test, other_test}
+use Rattle.basis.proofs.Exists.{pivoted, pivoted_is, other_test}
 use Rattle.basis.proofs.Points.{after, point_after}
 use Rattle.basis.proofs.Rays.{arrives}
 use Rattle.basis.proofs.Order.{above_some, below_some, zero_numerator}
@@ -53,7 +54,7 @@ reaches_stops s x r t v AtZero h e = cc
 
 one_direction : (s : System) (b : List Place) (d : Dictionary) (q : ℕ) → IsResting b q → IsDirection b d q one_ℚ (moved_alone b d q one_ℚ)
 one_direction s b d q h = record {
-  mover = moved-resting b d q one_ℚ q h ∙ ap (λ u. cond u one_ℚ zero_ℚ) (same_test q q refl);
+  mover = moved-resting b d q one_ℚ q h ∙ ap (λ u. cond u one_ℚ zero_ℚ) (eq-eqb q q refl);
   others = λ v k n. moved-resting b d q one_ℚ v k ∙ ap (λ u. cond u one_ℚ zero_ℚ) (other_test v q n);
   basics = λ v k. moved-basic b d q one_ℚ v k;
 }

@@ -1,6 +1,6 @@
 -- A basis has at most one dictionary.
 use Rattle.std.proofs.Common.{◌≡◌, ◌∙◌, ℕ, List, [], ◌∷◌, ◌<◌, ◌≢◌, refl, sym, ap, ◌==◌, cond, Bool, true, false, inl, inr}
-use Rattle.std.specs.Prelude.{Some}
+use Rattle.std.proofs.lemmas.Option.{same_Some}
 use mathlib.Core.Path.{ap₂}
 use Rattle.rational.specs.Rational.{Rational, ◌+ℚ◌, ◌*ℚ◌, zero_ℚ, one_ℚ}
 use Rattle.milp.specs.Form.{Entry, value_at}
@@ -75,13 +75,10 @@ module _ (s : System) (b : List Place) (d e : Dictionary) (h : IsDictionary s b 
 
 -- ---- the point of a basis
 
-same_some : (a c : Rational) → Some a ≡ Some c → a ≡ c
-same_some a c h = cc
-
 same_place : (s : System) (p : Place) (v : ℕ) (a c : Rational) → p ≢ Basic → RestsAt s p v a → RestsAt s p v c → a ≡ c
 same_place s Basic v a c n h k = absurd (n refl)
-same_place s AtLower v a c n h k = same_some _ _ (sym h ∙ k)
-same_place s AtUpper v a c n h k = same_some _ _ (sym h ∙ k)
+same_place s AtLower v a c n h k = same_Some _ _ (sym h ∙ k)
+same_place s AtUpper v a c n h k = same_Some _ _ (sym h ∙ k)
 same_place s AtZero v a c n h k = h.2 ∙ sym k.2
 
 pub same_resting : (s : System) (b : List Place) (x y : ℕ → Rational) → IsBasicPoint s b x → IsBasicPoint s b y → (v : ℕ) → IsResting b v → x v ≡ y v

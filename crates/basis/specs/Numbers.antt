@@ -10,7 +10,8 @@ use Rattle.basis.specs.System.{System, size, lower_of, upper_of}
 use Rattle.basis.specs.Dictionary.{IsBasic, Dictionary, IsDictionary, rate_of, gain_of, IsBasicPoint}
 use Rattle.basis.specs.Bland.{IsRun}
 use Rattle.basis.specs.Node.{system_of, integer_at}
-use Rattle.basis.specs.Weights.{numbers_from, common_denominator, integer_numbers, IsDirectionOfRun, IsRayOfRun, IsNodeWeights}
+use Rattle.rational.specs.Denominators.{prefix_denominator}
+use Rattle.basis.specs.Weights.{numbers_from, integer_numbers, IsDirectionOfRun, IsRayOfRun, IsNodeWeights}
 use Rattle.basis.specs.declared.Place.{Place}
 
 -- ---- families of numbers
@@ -30,10 +31,6 @@ sum_onto a (b ∷ bs) = sum_onto (a +ℚ b) bs
 -- the sum of the first n numbers
 abbrev pub prefix_sum : List Rational → ℕ → Rational
 prefix_sum numbers n = sum_onto zero_ℚ (take n numbers)
-
--- the least common denominator of the first n numbers
-abbrev pub prefix_denominator : List Rational → ℕ → ℕ
-prefix_denominator numbers n = common_denominator 1 (take n numbers)
 
 -- a site number: a base number, what one operation makes of two base numbers, a sum of the first products of a list,
 -- or a least common denominator, and 1 over it

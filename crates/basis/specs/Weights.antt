@@ -1,7 +1,7 @@
 -- The weights and rays that a basis gives.
-use Rattle.std.specs.Prelude.{ℕ, zero, suc, pos, negsuc, ◌+◌, ◌*◌, ◌/◌, ◌<◌, ◌≡◌, ◌⊎◌, ◌==◌, cond, unsigned_abs, Bool, List, [], ◌∷◌, ◌++◌, length, Some}
-use Rattle.integer.specs.Gcd.{gcd}
+use Rattle.std.specs.Prelude.{ℕ, zero, suc, pos, negsuc, ◌+◌, ◌<◌, ◌≡◌, ◌⊎◌, ◌==◌, cond, unsigned_abs, Bool, List, [], ◌∷◌, ◌++◌, length, Some}
 use Rattle.rational.specs.Rational.{Rational, zero_ℚ, one_ℚ, whole, neg_ℚ, ◌<ℚ◌, ◌*ℚ◌}
+use Rattle.rational.specs.Denominators.{common_denominator}
 use Rattle.milp.specs.Problem.{Problem}
 use Rattle.verdicts.specs.Certificate.{Item, Weights, Side, Derived}
 use Rattle.basis.specs.System.{System, size, lower_of, upper_of}
@@ -74,11 +74,6 @@ pub data IsNodeWeights (p : Problem) (ds : List Derived) (sides : List Side) (w 
 abbrev pub numbers_from : ℕ → ℕ → (ℕ → Rational) → List Rational
 numbers_from i zero f = []
 numbers_from i (suc count) f = f i ∷ numbers_from (suc i) count f
-
--- the least common multiple of m and the denominators of the numbers
-abbrev pub common_denominator : ℕ → List Rational → ℕ
-common_denominator m [] = m
-common_denominator m (a ∷ rest) = common_denominator (m * (a.denominator / gcd m a.denominator)) rest
 
 -- the numbers of r on the columns, with 0 for those that are not to be whole
 abbrev pub integer_numbers : System → (ℕ → Bool) → (ℕ → Rational) → List Rational

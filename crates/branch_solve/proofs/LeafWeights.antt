@@ -10,7 +10,7 @@ use Rattle.milp.specs.Problem.{Column, Row, Problem}
 use Rattle.fraction.specs.declared.frac.NoFit.{NoFit}
 use Rattle.instance.specs.Sums.{and_then, form_of}
 use Rattle.verdicts.specs.WeightedSums.{Weighted, coefficient_of}
-use Rattle.verdicts.specs.Compare.{is_less, is_same}
+use Rattle.rational.specs.Compare.{is_less, is_same}
 use Rattle.verdicts.specs.Certificate.{Item, Weights, Side, Derived}
 use Rattle.verdicts.specs.Proves.{lower_under, upper_under, term, bound_used, row_term, column_term, derived_term, joined, gathered, terms}
 use Rattle.basis.specs.Weights.{IsNodeWeights}

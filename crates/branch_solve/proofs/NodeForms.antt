@@ -12,7 +12,7 @@ use Rattle.fraction.specs.Answers.{add_answer}
 use Rattle.instance.specs.Sums.{and_then, step_answer, sum_answer, value_answer, rows_answer, meets_answer}
 use Rattle.verdicts.specs.Certificate.{Side, Derived}
 use Rattle.verdicts.specs.WeightedSums.{AllBelow}
-use Rattle.verdicts.specs.Compare.{is_less, is_same}
+use Rattle.rational.specs.Compare.{is_less, is_same}
 use Rattle.verdicts.specs.Proves.{lies_above, lies_below, bound_for, meets_columns}
 use Rattle.basis.specs.Node.{system_of, integer_at, IsOverColumns}
 use Rattle.basis.specs.Weights.{numbers_from}

@@ -9,11 +9,11 @@ use Rattle.std.proofs.lemmas.Option.{slice_get_within}
 use Rattle.rational.specs.Rational.{Rational, zero_ℚ, one_ℚ, whole}
 use Rattle.milp.specs.Form.{Entry, number_at}
 use Rattle.milp.specs.Problem.{Column, Row, Problem}
-use Rattle.instance.specs.WellFormed.{is_zero, are_entries_from, IsWellFormed}
+use Rattle.rational.specs.Compare.{is_zero, is_less, is_at_most}
+use Rattle.instance.specs.WellFormed.{are_entries_from, IsWellFormed}
 use Rattle.instance.specs.Sums.{and_then}
 use Rattle.verdicts.specs.Certificate.{Side, Low, High, Derived}
 use Rattle.verdicts.specs.WeightedSums.{AllBelow}
-use Rattle.verdicts.specs.Compare.{is_less, is_at_most}
 use Rattle.verdicts.specs.Proves.{bound_used, lower_under, upper_under, greater, lesser}
 use Rattle.basis.specs.Node.{system_of, IsOverColumns}
 use Rattle.basis.specs.Numbers.{base_number, left_base, at_of, IsGivenNumber, IsRunBase, IsProblemNumber, IsNodeBase, node_numbers, AllOf}

@@ -7,7 +7,7 @@ use Rattle.milp.specs.Points.{sign_of}
 use Rattle.fraction.specs.declared.frac.NoFit.{NoFit}
 use Rattle.instance.specs.Sums as I
 use Rattle.verdicts.specs.WeightedSums.{coefficient_of}
-use Rattle.verdicts.specs.Compare.{is_less, is_at_most}
+use Rattle.rational.specs.Compare.{is_less, is_at_most}
 use Rattle.verdicts.specs.Certificate.{Weights, Side, Derived, Empty, Bound}
 use Rattle.basis.specs.Dictionary.{Dictionary}
 use Rattle.basis.specs.Bland.{HasPassed, IsHeading}

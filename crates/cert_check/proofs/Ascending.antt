@@ -7,7 +7,8 @@ use Rattle.std.proofs.lemmas.Bool.Decides.{nat_tests}
 use Rattle.rational.specs.Rational.{Rational, zero_ℚ}
 use Rattle.rational.proofs.Laws as Q
 use Rattle.milp.specs.Form.{Entry}
-use Rattle.instance.specs.WellFormed.{is_zero, are_entries_from}
+use Rattle.rational.specs.Compare.{is_zero}
+use Rattle.instance.specs.WellFormed.{are_entries_from}
 use Rattle.verdicts.specs.WeightedSums.{coefficient_of}
 use Rattle.cert_check.specs.Sums.{products}
 use Rattle.cert_check.specs.Lookup.{entry_at}

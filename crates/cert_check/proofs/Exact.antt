@@ -13,10 +13,11 @@ use Rattle.fraction.specs.Fits.{fits, sum_fits}
 use Rattle.fraction.specs.Answers.{add_answer, mul_answer}
 use Rattle.instance.specs.Sums.{and_then, form_of}
 use Rattle.verdicts.specs.WeightedSums.{Weighted, combined, combined_bound, coefficient_of}
-use Rattle.verdicts.specs.Compare.{is_less, is_same}
+use Rattle.rational.specs.Compare.{is_less, is_same}
 use Rattle.verdicts.specs.Certificate.{Item, Weights, Side, Low, High, Derived}
 use Rattle.verdicts.specs.Proves.{lower_under, upper_under, greater, term, bound_used, row_term, column_term, derived_term, joined, gathered, terms, same_form}
-use Rattle.verdicts.proofs.Laws.{coefficient-combined, whole-add}
+use Rattle.rational.proofs.Laws.{whole-add}
+use Rattle.verdicts.proofs.Laws.{coefficient-combined}
 use Rattle.cert_check.specs.Setting.{Setting}
 use Rattle.cert_check.specs.Sums.{and_also, with_product, next_answer, lower_answer, row_bound, derived_bound, bound_of, then_there, are_there, all_there, with_bound, with_bounds, bound_sum, Product, products, derived_form, form_at, item_products, weight_products, with_products, are_forms}
 use Rattle.cert_check.specs.declared.kind.Kind.{Kind}

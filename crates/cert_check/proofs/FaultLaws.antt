@@ -9,10 +9,9 @@ use Rattle.fraction.specs.declared.frac.NoFit.{NoFit}
 use Rattle.fraction.specs.declared.frac.Op.TheVariants.{Add, Mul}
 use Rattle.fraction.specs.Fits.{fits, sum_fits}
 use Rattle.fraction.specs.Answers.{add_answer, mul_answer}
-use Rattle.instance.specs.WellFormed.{is_zero}
+use Rattle.rational.specs.Compare.{is_zero, is_less, is_at_most, is_same}
 use Rattle.instance.specs.Sums.{and_then, step_answer, sum_answer, rows_answer}
 use Rattle.verdicts.specs.WeightedSums.{coefficient_of}
-use Rattle.verdicts.specs.Compare.{is_less, is_at_most, is_same}
 use Rattle.verdicts.specs.Certificate.{Verdict, Optimal, Infeasible, Unbounded, Item, Weights, Side, Low, High, FormSplit, Proof, Plain, BySplit, Derived, TreeNode, Branch, Empty, Bound, Certificate}
 use Rattle.verdicts.specs.Proves.{lies_above, lies_below, bound_for, meets_columns, greater, below, upper_under}
 use Rattle.cert_check.specs.Setting.{Setting}

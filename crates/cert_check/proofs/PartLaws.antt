@@ -12,10 +12,9 @@ use Rattle.milp.specs.Problem.{Row, Problem}
 use Rattle.milp.specs.Points.{sign_of, objective_value}
 use Rattle.fraction.specs.declared.frac.NoFit.{NoFit}
 use Rattle.fraction.specs.Answers.{add_answer}
-use Rattle.instance.specs.WellFormed.{is_zero}
+use Rattle.rational.specs.Compare.{is_zero, is_less, is_at_most, is_same}
 use Rattle.instance.specs.Sums.{and_then, step_answer, sum_answer, rows_answer}
 use Rattle.verdicts.specs.WeightedSums.{Weighted, scaled, combined, combined_bound, coefficient_of}
-use Rattle.verdicts.specs.Compare.{is_less, is_at_most, is_same}
 use Rattle.verdicts.specs.Certificate.{Weights, Side, FormSplit, Proof, Plain, BySplit, Derived, TreeNode, Branch, Empty, Bound}
 use Rattle.verdicts.specs.Proves.{lies_above, lies_below, bound_for, meets_columns, meets_rows, is_improving_ray, joined, terms, same_form, shows, refutes, in_range, is_whole_form, low_term, high_term, proof_passes, derived_passes, bound_passes, node_passes, point_passes, value_passes, ray_passes}
 use Rattle.verdicts.proofs.Laws.{coefficient-scaled, coefficient-combined}
@@ -67,21 +66,13 @@ unfolding side_term
 side_sum s AtMost j = sum-products s.low (scaled (whole (negsuc 0)) s.form) j
 side_sum s AtLeast j = sum-products s.high s.form j
 
-zero_by_test : (v : Rational) → is_zero v ≡ true → v ≡ zero_ℚ
-zero_by_test v h =
-    let none : v.numerator ≡ pos 0 = grind (arith, ints, nat_tests) in
-    value_same v zero_ℚ v.numerator (pos 0) (pos v.denominator) (pos 1) (value_self v) (value_self zero_ℚ) (ap (λ n. n *ℤ pos 1) none ∙ nothing (pos v.denominator))
-  where
-    nothing : (d : ℤ) → pos 0 *ℤ pos 1 ≡ pos 0 *ℤ d
-    nothing d = grind (arith, ints)
-
 side_bound_ok : (s : FormSplit) (side : FormSide) → IfOk (side_bound s side) (λ v. v ≡ zero_ℚ +ℚ (side_term s side).weight *ℚ (side_term s side).bound)
 unfolding side_term
 side_bound_ok s AtMost = product_ok zero_ℚ s.low (whole (neg_ℤ s.at))
 side_bound_ok s AtLeast = go (is_zero s.high) refl
   where
     go : (t : Bool) → is_zero s.high ≡ t → IfOk (if t then Ok zero_ℚ else and_then (next_answer s.at) (λ b. with_product zero_ℚ s.high b)) (λ v. v ≡ zero_ℚ +ℚ s.high *ℚ whole (s.at +ℤ pos 1))
-    go true e = sym (Q.zero-add (s.high *ℚ whole (s.at +ℤ pos 1)) ∙ ap (λ z. z *ℚ whole (s.at +ℤ pos 1)) (zero_by_test s.high e) ∙ Q.zero-mul (whole (s.at +ℤ pos 1)))
+    go true e = sym (Q.zero-add (s.high *ℚ whole (s.at +ℤ pos 1)) ∙ ap (λ z. z *ℚ whole (s.at +ℤ pos 1)) (Q.zero_true s.high e) ∙ Q.zero-mul (whole (s.at +ℤ pos 1)))
     go false e = ok_then (next_answer s.at) (λ b. with_product zero_ℚ s.high b) (λ b. b ≡ whole (s.at +ℤ pos 1)) (λ v. v ≡ zero_ℚ +ℚ s.high *ℚ whole (s.at +ℤ pos 1)) (next_ok s.at)
         (λ b eb. if_ok (with_product zero_ℚ s.high b) (zero_ℚ +ℚ s.high *ℚ b) (zero_ℚ +ℚ s.high *ℚ whole (s.at +ℤ pos 1)) (product_ok zero_ℚ s.high b) (ap (λ b. zero_ℚ +ℚ s.high *ℚ b) eb))
 

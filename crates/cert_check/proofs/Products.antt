@@ -5,7 +5,7 @@ use Rattle.fraction.specs.declared.frac.NoFit.{NoFit}
 use Rattle.instance.specs.Sums.{and_then}
 use Rattle.milp.specs.Form.{Entry}
 use Rattle.milp.specs.Problem.{Column}
-use Rattle.verdicts.specs.Compare.{is_same}
+use Rattle.rational.specs.Compare.{is_same}
 use Rattle.verdicts.specs.Certificate.{Item}
 use Rattle.cert_check.specs.Sums.{Product, products, with_product, with_products, item_products, are_forms}
 

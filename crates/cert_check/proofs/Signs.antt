@@ -3,7 +3,7 @@ use Rattle.std.proofs.Common.{◌≡◌, sym}
 use Rattle.std.specs.Prelude.{negsuc, neg_ℤ, ℤ}
 use Rattle.rational.specs.Rational.{Rational, ◌*ℚ◌, neg_ℚ, one_ℚ, whole}
 use Rattle.rational.proofs.Laws as Q
-use Rattle.verdicts.proofs.Laws.{minus_one-mul, neg_whole}
+use Rattle.rational.proofs.Laws.{neg_whole}
 
 pub least : (a : Rational) → a ≡ one_ℚ *ℚ a
 least a = sym (Q.one-mul a)

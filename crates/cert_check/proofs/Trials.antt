@@ -7,8 +7,8 @@ use Rattle.fraction.specs.Fits.{sum_fits}
 use Rattle.fraction.specs.Answers.{add_answer}
 use Rattle.milp.specs.Problem.{Problem}
 use Rattle.instance.specs.Sums.{and_then, sum_answer}
-use Rattle.verdicts.specs.Compare.{is_same}
-use Rattle.verdicts.proofs.Laws.{same_true}
+use Rattle.rational.specs.Compare.{is_same}
+use Rattle.rational.proofs.Laws.{same_true}
 use Rattle.cert_check.specs.Parts.{form_value_answer, goal_answer, value_answer}
 use Rattle.cert_check.specs.Outcome.{Outcome, Acceptance, Refusal, Fault, Trial, judged, outcome, form_goal}
 

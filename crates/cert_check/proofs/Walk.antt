@@ -6,9 +6,9 @@ use Rattle.fraction.specs.declared.frac.NoFit.{NoFit}
 use Rattle.instance.specs.Sums.{and_then}
 use Rattle.milp.specs.Problem.{Problem}
 use Rattle.verdicts.specs.Certificate.{Side, Low, High}
-use Rattle.verdicts.specs.Compare.{is_at_most}
+use Rattle.rational.specs.Compare.{is_at_most}
 use Rattle.verdicts.specs.Proves.{greater, lesser, upper_under}
-use Rattle.verdicts.proofs.Laws.{at_most_true, at_most_false}
+use Rattle.rational.proofs.Laws.{at_most_true, at_most_false}
 use Rattle.cert_check.specs.Sums.{lower_answer, next_answer}
 use Rattle.cert_check.specs.Walk.{found_lower, found_upper, merged_lower, merged_upper, merged_answer}
 

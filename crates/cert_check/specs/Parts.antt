@@ -8,10 +8,9 @@ use Rattle.milp.specs.Points.{sign_of}
 use Rattle.milp.specs.declared.Direction.{Direction}
 use Rattle.fraction.specs.declared.frac.NoFit.{NoFit}
 use Rattle.fraction.specs.Answers.{add_answer}
-use Rattle.instance.specs.WellFormed.{is_zero}
+use Rattle.rational.specs.Compare.{is_zero, is_less, is_at_most, is_same}
 use Rattle.instance.specs.Sums.{and_then, sum_answer, meets_answer}
 use Rattle.verdicts.specs.WeightedSums.{scaled, coefficient_of}
-use Rattle.verdicts.specs.Compare.{is_less, is_at_most, is_same}
 use Rattle.verdicts.specs.Certificate.{Weights, FormSplit, Proof, Plain, BySplit, Derived, TreeNode, Branch, Empty, Bound}
 use Rattle.verdicts.specs.Proves.{lies_above, lies_below, bound_for, meets_columns, in_range, is_integer, is_whole_form}
 use Rattle.cert_check.specs.Setting.{Setting}

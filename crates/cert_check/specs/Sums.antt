@@ -7,7 +7,7 @@ use Rattle.milp.specs.Problem.{Column, Row, Problem}
 use Rattle.fraction.specs.declared.frac.NoFit.{NoFit}
 use Rattle.fraction.specs.Answers.{add_answer, mul_answer}
 use Rattle.instance.specs.Sums.{and_then, form_of}
-use Rattle.verdicts.specs.Compare.{is_less, is_same}
+use Rattle.rational.specs.Compare.{is_less, is_same}
 use Rattle.verdicts.specs.Certificate.{Item, Weights, Side, Low, High, Derived}
 use Rattle.verdicts.specs.Proves.{lower_under, upper_under, greater, bound_used}
 use Rattle.cert_check.specs.Setting.{Setting}

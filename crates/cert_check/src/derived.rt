@@ -1,7 +1,7 @@
 // The test of derived rows.
 ghost use Rattle.std.specs.Prelude.{◌≡◌, ◌&&◌, IsTrue, length, slice_get, neg_ℤ};
 ghost use Rattle.rational.specs.Rational.{zero_ℚ};
-ghost use Rattle.verdicts.specs.Compare.{is_at_most, is_whole};
+ghost use Rattle.rational.specs.Compare.{is_at_most, is_whole};
 ghost use Rattle.verdicts.specs.WeightedSums.{coefficient_of};
 ghost use Rattle.verdicts.specs.Proves.{in_range, is_integer, is_whole_form};
 ghost use Rattle.certificate.specs.Values.{proof_of};

@@ -3,7 +3,7 @@ ghost use Rattle.std.specs.Prelude.{◌≡◌, ◌+◌, ◌-◌, ◌≤◌, [], 
 ghost use Rattle.rational.specs.Rational.{zero_ℚ, ◌*ℚ◌};
 ghost use Rattle.milp.specs.Points.{sign_of};
 ghost use Rattle.verdicts.specs.WeightedSums.{coefficient_of};
-ghost use Rattle.verdicts.specs.Compare.{is_less};
+ghost use Rattle.rational.specs.Compare.{is_less};
 ghost use Rattle.certificate.specs.Values.{node_of};
 ghost use Rattle.certificate.specs.Written.{open_after};
 ghost use Rattle.certificate.specs.Ways.{way};

@@ -2,8 +2,7 @@
 ghost use Rattle.std.specs.Prelude.{◌≡◌};
 ghost use Rattle.rational.specs.Rational.{◌*ℚ◌};
 ghost use Rattle.milp.specs.Points.{sign_of};
-ghost use Rattle.verdicts.specs.Compare.{is_less, is_at_most, is_same, is_whole};
-ghost use Rattle.instance.specs.WellFormed.{is_zero};
+ghost use Rattle.rational.specs.Compare.{is_zero, is_less, is_at_most, is_same, is_whole};
 
 use fraction::Frac;
 use milp::Direction;

@@ -1,7 +1,7 @@
 // What weights add up to.
 ghost use Rattle.std.specs.Prelude.{◌<◌, length, ◌≡◌, [], ◌∷◌};
 ghost use Rattle.rational.specs.Rational.{zero_ℚ, one_ℚ};
-ghost use Rattle.verdicts.specs.Compare.{is_less};
+ghost use Rattle.rational.specs.Compare.{is_less};
 ghost use Rattle.verdicts.specs.Proves.{bound_used};
 ghost use Rattle.certificate.specs.Written.{AreItemsFrom};
 ghost use Rattle.cert_check.specs.Sums.{with_product, bound_of, row_bound, derived_bound, are_there, all_there, with_bound, with_bounds, bound_sum, products, form_at, item_products, weight_products, with_products};

@@ -1,6 +1,7 @@
 // Worked certificates that are accepted, and their twins that are refused at a part.
 ghost use Rattle.std.specs.Prelude.{◌≡◌, ◌≤◌, ◌+◌, IsTrue, false, IfSome, length};
-ghost use Rattle.instance.specs.WellFormed.{is_zero, are_entries};
+ghost use Rattle.rational.specs.Compare.{is_zero};
+ghost use Rattle.instance.specs.WellFormed.{are_entries};
 
 use super::*;
 use certificate::{CertError, Items, Side, Split, Tree, TreeNode, Weights, WholeNumber, read};

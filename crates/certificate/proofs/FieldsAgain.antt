@@ -15,7 +15,8 @@ use Rattle.fraction.specs.Fits.{part_max, fits, num_fits, den_fits}
 use Rattle.fraction.specs.Canonical.{plain_digits_of, read_canonical_of}
 use Rattle.fraction.specs.declared.read.ReadFault.{ReadFault}
 use Rattle.milp.specs.Form.{Entry}
-use Rattle.instance.specs.WellFormed.{is_zero, are_entries_from}
+use Rattle.rational.specs.Compare.{is_zero}
+use Rattle.instance.specs.WellFormed.{are_entries_from}
 use Rattle.verdicts.specs.Certificate.{Item, Weights}
 use Rattle.certificate.specs.declared.fault.FaultKind.{FaultKind}
 use Rattle.certificate.specs.declared.fault.FaultKind.TheVariants.{BadLine, TooWide}

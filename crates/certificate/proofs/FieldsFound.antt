@@ -16,7 +16,7 @@ use Rattle.fraction.specs.Canonical.{plain_digits_of, read_canonical_of}
 use Rattle.fraction.specs.declared.read.ReadFault.{ReadFault}
 use Rattle.fraction.specs.declared.read.ReadFault.TheVariants as fault
 use Rattle.milp.specs.Form.{Entry}
-use Rattle.instance.specs.WellFormed.{is_zero}
+use Rattle.rational.specs.Compare.{is_zero}
 use Rattle.verdicts.specs.Certificate.{Item, Weights}
 use Rattle.certificate.specs.declared.fault.FaultKind.{FaultKind}
 use Rattle.certificate.specs.declared.fault.FaultKind.TheVariants.{BadLine, TooWide}

@@ -8,7 +8,8 @@ use Rattle.fraction.specs.Text.{text_of}
 use Rattle.fraction.specs.Canonical.{plain_digits_of}
 use Rattle.fraction.specs.Fits.{fits, num_fits}
 use Rattle.milp.specs.Form.{Entry}
-use Rattle.instance.specs.WellFormed.{is_zero, are_entries, are_entries_from}
+use Rattle.rational.specs.Compare.{is_zero}
+use Rattle.instance.specs.WellFormed.{are_entries, are_entries_from}
 use Rattle.verdicts.specs.Certificate.{Item, Weights}
 use Rattle.certificate.specs.declared.fault.FaultKind.{FaultKind}
 use Rattle.certificate.specs.declared.fault.FaultKind.TheVariants.{BadLine, TooWide}

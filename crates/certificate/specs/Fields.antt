@@ -6,7 +6,7 @@ use Rattle.rational.specs.Rational.{Rational}
 use Rattle.fraction.specs.declared.read.ReadFault.{ReadFault}
 use Rattle.fraction.specs.declared.read.ReadFault.TheVariants as fault
 use Rattle.milp.specs.Form.{Entry}
-use Rattle.instance.specs.WellFormed.{is_zero}
+use Rattle.rational.specs.Compare.{is_zero}
 use Rattle.verdicts.specs.Certificate.{Item, Weights}
 use Rattle.fraction.specs.Canonical.{plain_digits_of, read_canonical_of}
 use Rattle.certificate.specs.Written.{count_max, place_of}

@@ -1,6 +1,7 @@
 // A problem, and certificates of trees of any size for it.
 ghost use Rattle.std.specs.Prelude.{◌≡◌, ◌+◌, ◌<◌, ◌≤◌, false, IfSome, IsTrue, length};
-ghost use Rattle.instance.specs.WellFormed.{is_zero, are_entries};
+ghost use Rattle.rational.specs.Compare.{is_zero};
+ghost use Rattle.instance.specs.WellFormed.{are_entries};
 
 use fraction::Frac;
 use instance::{Builder, Column, Entries, Entry, Instance, Name, Row};

@@ -2,7 +2,7 @@
 use Rattle.std.proofs.Common.{◌≡◌, ◌∙◌, ℕ, ◌+◌, refl, sym, ap, arith, Bool, true, false, List, [], ◌∷◌, length, take, drop, nat_le}
 use Rattle.std.proofs.lemmas.Bool.Decides.{nat_tests}
 use Rattle.std.proofs.lemmas.List.Splits.{length-slice_split}
-use Rattle.std.specs.Prelude.{◌==◌, Err, Some, None, if◌then◌else◌}
+use Rattle.std.specs.Prelude.{◌==◌, Some, None, if◌then◌else◌}
 use Rattle.std.specs.declared.option.Option.{Option}
 use Rattle.std.specs.Option.{option_map, option_and_then}
 use Rattle.std.specs.List.{slice_split, position, count_by}
@@ -14,7 +14,6 @@ use Rattle.fraction.specs.Canonical.{is_slash, plain_digits_of, nonzero, above_o
 use Rattle.fraction.specs.Canonical.{Quotient as Written}
 use Rattle.fraction.specs.CanonicalReading.{kept_quotient}
 use Rattle.fraction.specs.declared.canonical.Quotient.{Quotient}
-use Rattle.fraction.specs.declared.read.ReadFault.TheVariants.{NotANumber}
 use Rattle.fraction.proofs.ReadParts.{one_piece, first_piece, none_unless, no_digits, digits_some}
 
 pub digit-not-slash : (c : ℕ) → is_ascii_digit c ≡ true → is_slash c ≡ false

@@ -1,7 +1,7 @@
 -- What the parts of a fraction in lowest terms are to the number that it is.
 use Rattle.std.proofs.Common.{zero, suc, one-mul, ◌≡◌, ◌∙◌, ℕ, ◌*◌, ◌<◌, ◌≤◌, ◌/◌, refl, sym, ap, arith, subst, mul-pos}
 use Rattle.std.proofs.Math.Nat.{le_of_dvd, div-mul_cancel, dvd-mul_right}
-use Rattle.std.specs.Prelude.{ℤ, pos, negsuc, ◌*ℤ◌, ◌+ℤ◌, neg_ℤ, unsigned_abs, int_div, IsTrue}
+use Rattle.std.specs.Prelude.{ℤ, pos, negsuc, ◌*ℤ◌, ◌+ℤ◌, neg_ℤ, unsigned_abs, int_div, int_lt, IsTrue}
 use Rattle.std.specs.Int.{int_signum, IsGcd, ◌∣◌}
 use Rattle.std.proofs.lemmas.Int.{ints, unsigned_abs-mul}
 use Rattle.std.proofs.lemmas.Nat.Gcd.{same_from_IsGcd, IsGcd-swap}
@@ -9,7 +9,8 @@ use Rattle.integer.specs.Gcd.{gcd}
 use Rattle.integer.specs.Lowest.{IsLowest}
 use Rattle.integer.proofs.Laws.{ring, gcd_pos, lowest_over, lowest_whole, quot_scaled, abs_quot, gcd-is, coprime-quotients, coprime_mul, coprime_part}
 use Rattle.rational.specs.Rational.{Rational, over, neg_ℚ, inv_ℚ, whole, ◌*ℚ◌, ◌+ℚ◌}
-use Rattle.rational.proofs.Laws.{over_lowest, over-self, value_same, value_over, value_self, value_neg, value_mul, value_add, cross_scaled}
+use Rattle.rational.proofs.Laws.{over_lowest, over-self, value_same, value_over, value_self, value_neg, value_mul, value_add, cross_scaled, positive_numerator, negative_numerator}
+use Rattle.rational.specs.Compare.{is_positive, is_negative}
 use Rattle.std.proofs.lemmas.Bool.Decides.{nat_tests}
 use Rattle.fraction.specs.Fits.{fits, sum_fits, part_max, left_num, right_num, common_den}
 
@@ -39,6 +40,14 @@ neg_over q = value_same _ _ _ _ _ _ (value_over _ _ q.lowest.positive) (value_ne
 
 pub whole_over : (n : ℤ) → over n 1 ≡ whole n
 whole_over n = over-self (whole n)
+
+-- ---- signs
+
+pub positive_from : (q : Rational) (n : ℤ) → n ≡ q.numerator → int_lt (pos 0) n ≡ is_positive q
+positive_from q n e = ap (int_lt (pos 0)) e ∙ positive_numerator q
+
+pub negative_from : (q : Rational) (n : ℤ) → n ≡ q.numerator → int_lt n (pos 0) ≡ is_negative q
+negative_from q n e = ap (λ z. int_lt z (pos 0)) e ∙ negative_numerator q
 
 -- ---- products
 

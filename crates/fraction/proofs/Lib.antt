@@ -1,12 +1,13 @@
-pub mod FracLemmas
-pub mod CmpLemmas
-pub mod WholeNumbers
-pub mod LiteralLemmas
-pub mod ReadLemmas
-pub mod ReadParts
-pub mod CanonicalLemmas
-pub mod CanonicalLaw
-pub mod FusedLemmas
-pub mod SumLemmas
-pub mod WideLemmas
-pub mod BinaryLemmas
+mod FracLemmas
+mod CmpLemmas
+mod WholeNumbers
+mod LiteralLemmas
+mod ReadLemmas
+mod ReadParts
+mod CanonicalLemmas
+mod CanonicalLaw
+mod FusedLemmas
+mod SumLemmas
+mod WideLemmas
+mod BinaryLemmas
+mod Shares

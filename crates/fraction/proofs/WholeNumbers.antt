@@ -3,8 +3,8 @@ use Rattle.std.proofs.Common.{◌≡◌, ◌∙◌, ◌≤◌, ◌/◌, Bool, tr
 use Rattle.std.specs.Prelude.{ℤ, pos, ◌*ℤ◌, ◌+ℤ◌, unsigned_abs, cond, Result, Ok, Err}
 use Rattle.integer.specs.Gcd.{gcd, gcd_within}
 use Rattle.integer.proofs.Laws as Z
-use Rattle.rational.specs.Rational.{Rational, whole, ◌*ℚ◌, ◌+ℚ◌}
-use Rattle.rational.proofs.Laws.{value_same, value_self, value_mul}
+use Rattle.rational.specs.Rational.{Rational, whole, ◌+ℚ◌}
+use Rattle.rational.proofs.Laws.{whole-mul}
 use Rattle.fraction.specs.Fits.{fits, sum_fits, part_max, common_den}
 use Rattle.fraction.specs.Answers.{add_answer, mul_answer}
 use Rattle.fraction.specs.declared.frac.Op.TheVariants.{Mul}
@@ -14,9 +14,6 @@ use Rattle.fraction.proofs.FracLemmas.{fits_from, sum_from, whole_over}
 cond_true : {A : Type 0} (b : Bool) (x y : A) → IsTrue b → cond b x y ≡ x
 cond_true true x y h = refl
 cond_true false x y h = cc
-
-pub whole-mul : (n m : ℤ) → whole n *ℚ whole m ≡ whole (n *ℤ m)
-whole-mul n m = value_same _ _ _ _ _ _ (value_mul _ _ _ _ _ _ (value_self (whole n)) (value_self (whole m))) (value_self (whole (n *ℤ m))) (simp Z.units)
 
 pub mul_answer-whole : (n m : ℤ) → unsigned_abs (n *ℤ m) ≤ part_max → mul_answer (whole n) (whole m) ≡ Ok (whole (n *ℤ m))
 mul_answer-whole n m small =

@@ -1,5 +1,5 @@
 -- What each operation answers.
-use Rattle.std.specs.Prelude.{cond, Bool, Result, Ok, Err}
+use Rattle.std.specs.Prelude.{◌≡◌, cond, Bool, false, Result, Ok, Err}
 use Rattle.rational.specs.Rational.{Rational, ◌+ℚ◌, ◌-ℚ◌, ◌*ℚ◌, ◌/ℚ◌, neg_ℚ}
 use Rattle.fraction.specs.Fits.{fits, sum_fits}
 use Rattle.fraction.specs.declared.frac.Op.TheVariants.{Add, Sub, Mul, Div}
@@ -26,3 +26,7 @@ mul_add_answer q a b =
 -- whether the result of the operation fits
 abbrev pub result_fits : NoFit → Bool
 result_fits f = elim f.op [ Add ↦ sum_fits f.a f.b | Sub ↦ sum_fits f.a (neg_ℚ f.b) | Mul ↦ fits (f.a *ℚ f.b) | Div ↦ fits (f.a /ℚ f.b) ]
+
+-- the operation does not fit
+abbrev pub DoesNotFit : NoFit → Type 0
+DoesNotFit f = result_fits f ≡ false

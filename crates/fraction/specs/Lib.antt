@@ -6,3 +6,4 @@ pub mod Reading
 pub mod Canonical
 pub mod CanonicalReading
 pub mod WideValue
+pub mod Denominators

@@ -2,7 +2,8 @@
 ghost use Rattle.std.specs.Prelude.{◌≡◌, ℕ, ℤ, pos, neg_ℤ, ◌*ℤ◌, ◌+ℤ◌, ◌*◌, ◌/◌, IsTrue, ◌≢◌, ◌≤◌, ◌<◌, unsigned_abs, int_div, SomeIff, IfOk, string_bytes};
 ghost use Rattle.std.specs.Int.{int_signum};
 ghost use Rattle.integer.specs.Lowest.{IsLowest};
-ghost use Rattle.rational.specs.Rational.{Rational, whole, neg_ℚ, over, ◌+ℚ◌, ◌*ℚ◌, inv_ℚ, floor_ℚ, abs_ℚ};
+ghost use Rattle.rational.specs.Rational.{Rational, whole, zero_ℚ, one_ℚ, neg_ℚ, over, ◌+ℚ◌, ◌*ℚ◌, inv_ℚ, floor_ℚ, abs_ℚ};
+ghost use Rattle.rational.specs.Compare.{is_zero, is_positive, is_negative, is_whole};
 ghost use Rattle.fraction.specs.Fits.{part_max, sum_fits, fits};
 ghost use Rattle.fraction.specs.Text.{text_of};
 ghost use Rattle.fraction.specs.Answers.{add_answer, sub_answer, mul_answer, div_answer};
@@ -88,7 +89,7 @@ fn sum(a: i128, b: i128) -> Option<i128>
 }
 
 // a * b, where it is at most 2^127 - 1.
-fn den_product(a: u128, b: u128) -> Option<u128>
+pub(crate) fn den_product(a: u128, b: u128) -> Option<u128>
     ensures { SomeIff result (a * b ≤ part_max) (a * b) }
 {
     match a.checked_mul(b) {
@@ -158,6 +159,54 @@ impl Frac {
         ensures { result ≡ whole n }
     {
         Frac::new(n, 1)
+    }
+
+    /// The number 0.
+    pub fn zero() -> Frac
+        ensures { result ≡ zero_ℚ }
+    {
+        Frac::whole(0)
+    }
+
+    /// The number 1.
+    pub fn one() -> Frac
+        ensures { result ≡ one_ℚ }
+    {
+        Frac::whole(1)
+    }
+
+    /// It is 0.
+    pub fn is_zero(self) -> bool
+        ensures { result ≡ is_zero self }
+    {
+        let (numerator, _) = self.open();
+        numerator == 0
+    }
+
+    /// It is above 0.
+    #[tactic(auto, using(crate::proofs::FracLemmas::positive_from))]
+    pub fn is_positive(self) -> bool
+        ensures { result ≡ is_positive self }
+    {
+        let (numerator, _) = self.open();
+        numerator > 0
+    }
+
+    /// It is below 0.
+    #[tactic(auto, using(crate::proofs::FracLemmas::negative_from))]
+    pub fn is_negative(self) -> bool
+        ensures { result ≡ is_negative self }
+    {
+        let (numerator, _) = self.open();
+        numerator < 0
+    }
+
+    /// It is a whole number.
+    pub fn is_whole(self) -> bool
+        ensures { result ≡ is_whole self }
+    {
+        let (_, denominator) = self.open();
+        denominator == 1
     }
 
     /// The negative. It always fits.

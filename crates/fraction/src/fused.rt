@@ -2,7 +2,7 @@
 ghost use Rattle.std.specs.Prelude.{◌≡◌, IsTrue, SomeIff, IfErr, cond, false};
 ghost use Rattle.rational.specs.Rational.{◌+ℚ◌, ◌*ℚ◌};
 ghost use Rattle.fraction.specs.Fits.{fits};
-ghost use Rattle.fraction.specs.Answers.{mul_add_answer, result_fits};
+ghost use Rattle.fraction.specs.Answers.{mul_add_answer, DoesNotFit};
 
 use crate::frac::{Frac, NoFit, Op};
 
@@ -12,7 +12,7 @@ impl Frac {
     /// otherwise the sum of that product and `b`.
     pub fn mul_add(self, a: Frac, b: Frac) -> Result<Frac, NoFit>
         ensures value { result ≡ mul_add_answer self a b }
-        ensures fault { IfErr result (λ f. result_fits f ≡ false) }
+        ensures fault { IfErr result DoesNotFit }
     {
         match self.fused(a, b) {
             Some(value) => Ok(value),
@@ -24,7 +24,7 @@ impl Frac {
     fn fused_fault(self, a: Frac, b: Frac) -> NoFit
         requires { fits (self *ℚ a +ℚ b) ≡ false }
         ensures value { result ≡ cond (fits (self *ℚ a)) (record { a = self *ℚ a; op = Op.Add; b = b }) (record { a = self; op = Op.Mul; b = a }) }
-        ensures fault { result_fits result ≡ false }
+        ensures fault { DoesNotFit result }
     {
         match self.exact_product(a) {
             Some(product) => NoFit {

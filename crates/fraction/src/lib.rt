@@ -3,6 +3,7 @@
 #![tactic(auto, using(crate::proofs::FracLemmas::frac_lemmas))]
 
 mod canonical;
+mod denominators;
 mod digits;
 mod euclid;
 mod frac;
@@ -13,6 +14,7 @@ mod read;
 mod tests;
 mod wide_quotient;
 
+pub use denominators::common_denominator;
 pub use frac::{Frac, NoFit, Op};
 pub use laws::{texts, whole_numbers};
 pub use read::ReadFault;

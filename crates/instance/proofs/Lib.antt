@@ -1,4 +1,5 @@
-pub mod Longer
-pub mod Sums
-pub mod Meeting
-pub mod ByColumn
+mod Longer
+mod Sums
+mod Meeting
+mod ByColumn
+mod Directions

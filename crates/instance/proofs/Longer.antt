@@ -1,6 +1,6 @@
 -- A well-formed problem stays so with one more column or row.
-use Rattle.std.proofs.Common.{◌≡◌, ◌∙◌, ℕ, ◌+◌, ◌&&◌, Bool, true, false, not, List, [], ◌∷◌, ◌++◌, length, nat_lt, refl, sym, ap, subst, arith}
-use Rattle.std.proofs.lemmas.Bool.{and_parts}
+use Rattle.std.proofs.Common.{◌≡◌, ◌∙◌, ℕ, ◌+◌, true, false, List, [], ◌∷◌, ◌++◌, length, nat_lt, refl, sym, ap, subst, arith}
+use Rattle.std.proofs.lemmas.Bool.{and_parts, and_from, not_from_false}
 use Rattle.std.proofs.lemmas.Bool.Decides.{nat_tests}
 use Rattle.std.proofs.lemmas.List.{append-nil, append_assoc}
 use Rattle.std.proofs.lemmas.List.Folds.{list_all-append}
@@ -8,13 +8,6 @@ use Rattle.std.specs.List.{list_all}
 use Rattle.milp.specs.Form.{Entry}
 use Rattle.milp.specs.Problem.{Column, Row}
 use Rattle.instance.specs.WellFormed.{are_entries_from, are_entries, has_column, has_row, are_distinct_columns, are_distinct_rows, entry_count, IsWellFormed}
-
-and_true : (a b : Bool) → a ≡ true → b ≡ true → (a && b) ≡ true
-and_true true b h k = k
-and_true false b h k = h
-
-not_true : (b : Bool) → b ≡ false → not b ≡ true
-not_true b h = ap not h
 
 pub length-snoc : {A : Type 0} → (xs : List A) (x : A) → length (xs ++ x ∷ []) ≡ length xs + 1
 length-snoc [] x = refl
@@ -29,23 +22,23 @@ entries_more least n (e ∷ es) h =
     let low = and_parts _ _ h in
     let below = and_parts _ _ low.1 in
     let some = and_parts _ _ below.1 in
-    and_true _ _ low.0 (and_true _ _ (below_next e.column n below.0) (and_true _ _ some.0 (entries_more (e.column + 1) n es some.1)))
+    and_from _ _ low.0 (and_from _ _ (below_next e.column n below.0) (and_from _ _ some.0 (entries_more (e.column + 1) n es some.1)))
 
 rows_more : (n : ℕ) (rows : List Row) → list_all (λ (r : Row). are_entries n r.entries) rows ≡ true → list_all (λ (r : Row). are_entries (n + 1) r.entries) rows ≡ true
 rows_more n [] h = refl
-rows_more n (r ∷ rs) h = let parts = and_parts _ _ h in and_true _ _ (entries_more 0 n r.entries parts.0) (rows_more n rs parts.1)
+rows_more n (r ∷ rs) h = let parts = and_parts _ _ h in and_from _ _ (entries_more 0 n r.entries parts.0) (rows_more n rs parts.1)
 
 columns_distinct : (before cs : List Column) (c : Column) → are_distinct_columns before cs ≡ true → has_column c.name (before ++ cs) ≡ false → are_distinct_columns before (cs ++ c ∷ []) ≡ true
-columns_distinct before [] c h new = and_true _ _ (not_true _ (ap (has_column c.name) (sym (append-nil before)) ∙ new)) refl
+columns_distinct before [] c h new = and_from _ _ (not_from_false _ (ap (has_column c.name) (sym (append-nil before)) ∙ new)) refl
 columns_distinct before (d ∷ ds) c h new =
     let parts = and_parts _ _ h in
-    and_true _ _ parts.0 (columns_distinct (before ++ d ∷ []) ds c parts.1 (ap (has_column c.name) (append_assoc before (d ∷ []) ds) ∙ new))
+    and_from _ _ parts.0 (columns_distinct (before ++ d ∷ []) ds c parts.1 (ap (has_column c.name) (append_assoc before (d ∷ []) ds) ∙ new))
 
 rows_distinct : (before rs : List Row) (r : Row) → are_distinct_rows before rs ≡ true → has_row r.name (before ++ rs) ≡ false → are_distinct_rows before (rs ++ r ∷ []) ≡ true
-rows_distinct before [] r h new = and_true _ _ (not_true _ (ap (has_row r.name) (sym (append-nil before)) ∙ new)) refl
+rows_distinct before [] r h new = and_from _ _ (not_from_false _ (ap (has_row r.name) (sym (append-nil before)) ∙ new)) refl
 rows_distinct before (d ∷ ds) r h new =
     let parts = and_parts _ _ h in
-    and_true _ _ parts.0 (rows_distinct (before ++ d ∷ []) ds r parts.1 (ap (has_row r.name) (append_assoc before (d ∷ []) ds) ∙ new))
+    and_from _ _ parts.0 (rows_distinct (before ++ d ∷ []) ds r parts.1 (ap (has_row r.name) (append_assoc before (d ∷ []) ds) ∙ new))
 
 pub with_column : (columns more : List Column) (rows : List Row) (objective : List Entry) (c : Column) → IsWellFormed columns rows objective → has_column c.name columns ≡ false → more ≡ columns ++ c ∷ [] → IsWellFormed more rows objective
 with_column columns more rows objective c old new is =
@@ -61,7 +54,7 @@ pub with_row : (columns : List Column) (rows more : List Row) (objective : List 
 with_row columns rows more objective r old new form is =
     record {
       objective_form = old.objective_form;
-      row_forms = subst (λ rs. list_all (λ (r : Row). are_entries (length columns) r.entries) rs ≡ true) (sym is) (list_all-append _ rows (r ∷ []) ∙ and_true _ _ old.row_forms (and_true _ _ form refl));
+      row_forms = subst (λ rs. list_all (λ (r : Row). are_entries (length columns) r.entries) rs ≡ true) (sym is) (list_all-append _ rows (r ∷ []) ∙ and_from _ _ old.row_forms (and_from _ _ form refl));
       column_names = old.column_names;
       row_names = subst (λ rs. are_distinct_rows [] rs ≡ true) (sym is) (rows_distinct [] rows r old.row_names new);
     }

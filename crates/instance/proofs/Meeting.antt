@@ -8,7 +8,7 @@ use Rattle.milp.specs.Form.{sum_at}
 use Rattle.milp.specs.Problem.{Column, Row, Problem}
 use Rattle.milp.specs.Points.{Feasible}
 use Rattle.fraction.specs.declared.frac.NoFit.{NoFit}
-use Rattle.verdicts.specs.Compare.{is_whole}
+use Rattle.rational.specs.Compare.{is_whole}
 use Rattle.verdicts.specs.Proves.{lies_above, lies_below, meets_columns, meets_rows, meets}
 use Rattle.verdicts.proofs.Laws.{meets_true, true_meets}
 use Rattle.instance.specs.Sums.{rows_answer, meets_answer}

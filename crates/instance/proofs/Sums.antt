@@ -1,8 +1,7 @@
 -- A sum that fits is the sum.
 use Rattle.std.proofs.Common.{◌≡◌, ◌<◌, ℕ, zero, suc, refl, ◌+◌, ◌&&◌, nat_le, nat_lt, not, List, [], ◌∷◌, length, get_or, slice_get, Bool, true, false, cond, sym, ap, subst, arith, Result, Ok, Err, IfOk}
-use Rattle.std.specs.List.{All, list_all}
-use Rattle.std.proofs.lemmas.Bool.{and_parts}
-use Rattle.std.proofs.lemmas.Bool.Decides.{nat_tests}
+use Rattle.std.specs.List.{All}
+use Rattle.std.proofs.lemmas.Bool.{and_parts, ltb-true}
 use Rattle.rational.specs.Rational.{Rational, zero_ℚ, ◌+ℚ◌, ◌*ℚ◌}
 use Rattle.rational.proofs.Laws as Q
 use Rattle.milp.specs.Form.{Entry, number_at, sum_at}
@@ -11,7 +10,8 @@ use Rattle.milp.specs.Points.{objective_value}
 use Rattle.fraction.specs.declared.frac.NoFit.{NoFit}
 use Rattle.fraction.specs.Fits.{fits, sum_fits}
 use Rattle.fraction.specs.Answers.{add_answer}
-use Rattle.instance.specs.WellFormed.{is_zero, are_entries_from, are_entries}
+use Rattle.rational.specs.Compare.{is_zero}
+use Rattle.instance.specs.WellFormed.{are_entries_from, are_entries}
 use Rattle.instance.specs.Sums.{and_then, sum_answer, form_of, value_answer}
 
 ok_then : {B : Type 0} → (t : Bool) (v : Rational) (e : NoFit) (f : Rational → Result B NoFit) (P : B → Type 0) → IfOk (f v) P → IfOk (and_then (cond t (Ok v) (Err e)) f) P
@@ -59,14 +59,11 @@ value_ok p x r h =
 
 -- ---- the columns of a well-formed form are those of the point
 
-below : (a n : ℕ) → nat_lt a n ≡ true → a < n
-below a n h = grind (arith, nat_tests)
-
 first_in_range : (least n : ℕ) (e : Entry) (es : List Entry) → are_entries_from least n (e ∷ es) ≡ true → (e.column < n) × (are_entries_from (e.column + 1) n es ≡ true)
 first_in_range least n e es h =
     let low = and_parts (nat_le least e.column) (nat_lt e.column n && (not (is_zero e.coefficient) && are_entries_from (e.column + 1) n es)) h in
     let column = and_parts (nat_lt e.column n) (not (is_zero e.coefficient) && are_entries_from (e.column + 1) n es) low.1 in
-    (below e.column n column.0, (and_parts (not (is_zero e.coefficient)) (are_entries_from (e.column + 1) n es) column.1).1)
+    (ltb-true e.column n column.0, (and_parts (not (is_zero e.coefficient)) (are_entries_from (e.column + 1) n es) column.1).1)
 
 in_range : (least n m : ℕ) (es : List Entry) → m ≡ n → are_entries_from least n es ≡ true → (k : ℕ) (d : Entry) → k < length es → (get_or es k d).column < m
 in_range least n m [] is h k d small = absurd (omega arith)
@@ -75,11 +72,6 @@ in_range least n m (e ∷ es) is h (suc k) d small = in_range (e.column + 1) n m
 
 pub form_in_range : (n m : ℕ) (es : List Entry) → m ≡ n → are_entries n es ≡ true → All (λ (e : Entry). e.column < m) es
 form_in_range n m es is h = in_range 0 n m es is h
-
-pub row_in_range : (n m : ℕ) (rows : List Row) (i : ℕ) → m ≡ n → list_all (λ (r : Row). are_entries n r.entries) rows ≡ true → All (λ (e : Entry). e.column < m) (form_of (slice_get rows i))
-row_in_range n m [] i is h = form_in_range n m [] is refl
-row_in_range n m (r ∷ rs) zero is h = form_in_range n m r.entries is (and_parts _ _ h).0
-row_in_range n m (r ∷ rs) (suc i) is h = row_in_range n m rs i is (and_parts _ _ h).1
 
 pub row_at : (rows : List Row) (i : ℕ) (r : Row) → i < length rows → r ≡ get_or rows i r → form_of (slice_get rows i) ≡ r.entries
 row_at [] i r small is = absurd (omega arith)

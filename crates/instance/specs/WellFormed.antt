@@ -1,13 +1,10 @@
 -- What holds of each problem that an `Instance` keeps: places in range, forms in order, names distinct.
-use Rattle.std.specs.Prelude.{ℕ, ◌≤◌, ◌+◌, ◌==◌, nat_le, nat_lt, ◌&&◌, Bool, true, List, [], ◌∷◌, ◌++◌, length, not, unsigned_abs, IsTrue}
+use Rattle.std.specs.Prelude.{ℕ, ◌≤◌, ◌+◌, nat_le, nat_lt, ◌&&◌, Bool, true, List, [], ◌∷◌, ◌++◌, length, not, IsTrue}
 use Rattle.std.specs.List.{list_any, list_all}
 use Rattle.std.specs.Str.{bytes_eq}
-use Rattle.rational.specs.Rational.{Rational}
+use Rattle.rational.specs.Compare.{is_zero}
 use Rattle.milp.specs.Form.{Entry}
 use Rattle.milp.specs.Problem.{Column, Row}
-
-abbrev pub is_zero : Rational → Bool
-is_zero v = unsigned_abs v.numerator == 0
 
 -- entries in ascending order of column, from `least` on and below `count`, none with the coefficient 0
 abbrev pub are_entries_from : ℕ → ℕ → List Entry → Bool

@@ -68,7 +68,7 @@ impl Builder {
             direction: Direction::Min,
             objective_name: Name::new(alloc, "obj")?,
             objective: Entries::new(alloc),
-            constant: Frac::whole(0),
+            constant: Frac::zero(),
         })
     }
 

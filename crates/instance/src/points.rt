@@ -1,13 +1,9 @@
 // The values of forms at points, and the test of a point.
 ghost use Rattle.std.specs.Prelude.{◌≡◌, ◌<◌, ◌↔◌, ◌&&◌, false, length, slice_get, IfOk, IsTrue};
-ghost use Rattle.std.specs.List.{All, list_all};
 ghost use Rattle.rational.specs.Rational.{zero_ℚ};
-ghost use Rattle.milp.specs.Form.{Entry as FormEntry, sum_at};
-ghost use Rattle.milp.specs.Problem.{Row as RowOf};
+ghost use Rattle.milp.specs.Form.{number_at, sum_at};
 ghost use Rattle.milp.specs.Points.{objective_value, Feasible};
-ghost use Rattle.verdicts.specs.Compare.{is_at_most, is_whole};
 ghost use Rattle.verdicts.specs.Proves.{lies_above, lies_below, meets_columns};
-ghost use Rattle.instance.specs.WellFormed.{are_entries};
 ghost use Rattle.instance.specs.Sums.{step_answer, sum_answer, form_of, value_answer, rows_answer, meets_answer};
 
 use crate::{Column, Entry, Instance, Point, Row};
@@ -21,7 +17,6 @@ pub fn activity(instance: &Instance, row: u32, point: &Point) -> Result<Frac, No
     ensures exact { result ≡ sum_answer point.now zero_ℚ (form_of (slice_get instance.now.rows row)) }
     ensures is_sum { IfOk result (λ v. v ≡ sum_at point.now (form_of (slice_get instance.now.rows row))) }
 {
-    let columns = instance.columns();
     let rows = instance.rows();
     sum(rows[row as usize].entries().as_slice(), point.as_slice())
 }
@@ -33,7 +28,6 @@ pub fn value(instance: &Instance, point: &Point) -> Result<Frac, NoFit>
     ensures exact { result ≡ value_answer instance.now point.now }
     ensures is_value { IfOk result (λ v. v ≡ objective_value instance.now point.now) }
 {
-    let columns = instance.columns();
     let total = sum(instance.objective().as_slice(), point.as_slice())?;
     total.add(instance.constant())
 }
@@ -45,9 +39,8 @@ pub fn meets(instance: &Instance, point: &Point) -> Result<bool, NoFit>
     ensures exact { result ≡ meets_answer instance.now point.now }
     ensures feasible { IfOk result (λ b. IsTrue b ↔ Feasible instance.now point.now) }
 {
-    let columns = instance.columns();
     let x = point.as_slice();
-    if !meets_columns(columns, x) {
+    if !meets_columns(instance.columns(), x) {
         return Ok(false);
     }
     meets_rows(instance.rows(), x)
@@ -67,7 +60,7 @@ fn meets_columns(columns: &[Column], x: &[Frac]) -> bool
         if !is_within(column.lower(), column.upper(), v) {
             return false;
         }
-        if column.integer() && !is_whole(v) {
+        if column.integer() && !v.is_whole() {
             return false;
         }
         i += 1;
@@ -77,7 +70,6 @@ fn meets_columns(columns: &[Column], x: &[Frac]) -> bool
 
 // Each row is met, as far as the first that is not.
 fn meets_rows(rows: &[Row], x: &[Frac]) -> Result<bool, NoFit>
-    requires { IsTrue (list_all (λ (r : RowOf). are_entries (length x.now) r.entries) rows.now) }
     ensures { result ≡ rows_answer x.now rows.now }
 {
     for row in rows {
@@ -101,7 +93,7 @@ fn is_above(bound: Option<Frac>, v: Frac) -> bool
 {
     match bound {
         None => true,
-        Some(b) => at_most(b, v),
+        Some(b) => b <= v,
     }
 }
 
@@ -110,28 +102,16 @@ fn is_below(bound: Option<Frac>, v: Frac) -> bool
 {
     match bound {
         None => true,
-        Some(b) => at_most(v, b),
+        Some(b) => v <= b,
     }
 }
 
-fn at_most(a: Frac, b: Frac) -> bool
-    ensures { result ≡ is_at_most a b }
-{
-    a <= b
-}
-
-fn is_whole(v: Frac) -> bool
-    ensures { result ≡ is_whole v }
-{
-    v.parts().1 == 1
-}
-
-// The sum of the entries' products, from the first on.
-fn sum(form: &[Entry], x: &[Frac]) -> Result<Frac, NoFit>
-    requires { All (λ (e : FormEntry). e.column < length x.now) form.now }
+/// The value of a form at a point, summed from the first entry on, or the first product or sum on the way that does not
+/// fit. A column past the end of the point counts as 0.
+pub fn sum(form: &[Entry], x: &[Frac]) -> Result<Frac, NoFit>
     ensures { result ≡ sum_answer x.now zero_ℚ form.now }
 {
-    let mut total = Frac::whole(0);
+    let mut total = Frac::zero();
     for entry in form {
         total = with_product(total, *entry, x)?;
     }
@@ -140,9 +120,18 @@ fn sum(form: &[Entry], x: &[Frac]) -> Result<Frac, NoFit>
 
 // A total plus an entry's product.
 fn with_product(total: Frac, entry: Entry, x: &[Frac]) -> Result<Frac, NoFit>
-    requires { entry.column < length x.now }
     ensures { result ≡ step_answer x.now total entry }
 {
-    let product = entry.coefficient.mul(x[entry.column as usize])?;
+    let product = entry.coefficient.mul(number(x, entry.column))?;
     total.add(product)
+}
+
+// The number of a column; 0 past the end.
+fn number(x: &[Frac], column: u32) -> Frac
+    ensures { result ≡ number_at x.now column }
+{
+    match x.get(column as usize) {
+        Some(v) => *v,
+        None => Frac::zero(),
+    }
 }

@@ -180,12 +180,18 @@ impl Instance {
         }
     }
 
-    /// The columns. The problem is well formed: its places are in range, its forms in order and its names distinct, and
-    /// it has at most 100,000 columns and rows.
-    pub fn columns(&self) -> &[Column]
-        ensures columns { result.now ≡ self.now.columns }
+    /// The problem is well formed: its places are in range, its forms in order and its names distinct; and it has at
+    /// most 100,000 columns and rows. A call does nothing: it says that what follows rests on this.
+    pub fn keeps_its_limits(&self)
         ensures well_formed { IsWellFormed self.now.columns self.now.rows self.now.objective }
         ensures limits { IsWithinLimits self.now.columns self.now.rows }
+    {
+        let _columns = &self.columns;
+    }
+
+    /// The columns.
+    pub fn columns(&self) -> &[Column]
+        ensures { result.now ≡ self.now.columns }
     {
         &self.columns
     }

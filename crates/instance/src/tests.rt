@@ -1,6 +1,7 @@
 // A worked problem and its points.
 ghost use Rattle.std.specs.Prelude.{◌≡◌, ◌+◌, IsTrue, false, IfSome, length};
-ghost use Rattle.instance.specs.WellFormed.{is_zero, are_entries};
+ghost use Rattle.rational.specs.Compare.{is_zero};
+ghost use Rattle.instance.specs.WellFormed.{are_entries};
 
 use crate::{
     Builder, Column, Direction, Entries, Entry, Instance, Name, Point, Row, activity, meets, value,

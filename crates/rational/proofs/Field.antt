@@ -6,8 +6,7 @@ use Rattle.std.specs.Prelude.{ℤ, pos, negsuc, zero, suc, min, ◌+ℤ◌, ◌*
 use Rattle.std.proofs.lemmas.Int.{ints}
 use Rattle.integer.proofs.Laws as Z
 use Rattle.integer.proofs.Laws.{ring}
-use Rattle.integer.specs.Gcd.{gcd, gcd_within}
-use Rattle.rational.specs.Rational.{over, inv_ℚ, ◌<ℚ◌, Rational, ◌≤ℚ◌, ◌+ℚ◌, ◌*ℚ◌, neg_ℚ, zero_ℚ, one_ℚ}
+use Rattle.rational.specs.Rational.{inv_ℚ, ◌<ℚ◌, Rational, ◌≤ℚ◌, ◌+ℚ◌, ◌*ℚ◌, neg_ℚ, zero_ℚ, one_ℚ}
 use Rattle.rational.proofs.Value.{value_over, IsValue, value_self, value_same, value_le, value_add, value_mul, value_neg, IsPositive-denominator, some_pos}
 
 -- two sums or products of the same parts, by their values

@@ -1,10 +1,10 @@
 -- The floor of a number, and the two sides of a split.
-use Rattle.std.proofs.Common.{◌≡◌, ℕ, suc, ◌*◌, ◌+◌, ◌/◌, ◌<◌, ◌≤◌, refl, arith, ◌⊎◌, inl, inr, div-add-mod', mod-lt}
+use Rattle.std.proofs.Common.{◌≡◌, ℕ, suc, ◌*◌, ◌+◌, ◌/◌, ◌<◌, ◌≤◌, arith, ◌⊎◌, inl, inr, div-add-mod', mod-lt}
 use Rattle.std.specs.Prelude.{ℤ, pos, negsuc, ◌+ℤ◌, ◌*ℤ◌, neg_ℤ, ◌≤ℤ◌, ◌<ℤ◌}
 use Rattle.std.specs.Int.{int_div_euclid}
 use Rattle.std.proofs.lemmas.Int.{ints, by_lt_z}
 use Rattle.integer.proofs.Laws as Z
-use Rattle.rational.specs.Rational.{Rational, ◌≤ℚ◌, ◌<ℚ◌, whole, floor_ℚ}
+use Rattle.rational.specs.Rational.{◌≤ℚ◌, whole}
 
 under : (n : ℤ) (d : ℕ) → 0 < d → (int_div_euclid n (pos d) *ℤ pos d) ≤ℤ n
 under (pos n) d h = let e : n / d * d ≤ n = omega (arith, div-add-mod' n d) in omega (arith, ints)

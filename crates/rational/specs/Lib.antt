@@ -1,1 +1,3 @@
 pub mod Rational
+pub mod Compare
+pub mod Denominators

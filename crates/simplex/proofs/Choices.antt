@@ -5,8 +5,8 @@ use Rattle.std.proofs.Math.Decide.{ℕ_discrete}
 use Rattle.rational.specs.Rational.{Rational, zero_ℚ, neg_ℚ, ◌≤ℚ◌, ◌<ℚ◌}
 use Rattle.rational.proofs.Laws as Q
 use Rattle.verdicts.specs.Proves.{lies_above, lies_below}
-use Rattle.verdicts.specs.Compare.{is_less}
-use Rattle.verdicts.proofs.Laws.{at_most_true, at_most_false, less_true, less_false}
+use Rattle.rational.specs.Compare.{is_less}
+use Rattle.rational.proofs.Laws.{at_most_true, at_most_false, less_true, less_false}
 use Rattle.basis.specs.System.{Bounds, System, lower_of, upper_of, CanRise, CanFall}
 use Rattle.basis.specs.Dictionary.{place_of, IsResting, Dictionary, rate_of, gain_of}
 use Rattle.basis.specs.Bland.{IsOutside, HasPassed, CanRaise, CanMend, Mends, Improves}

@@ -4,7 +4,7 @@ use Rattle.std.specs.Prelude.{option_and_then}
 use Rattle.std.proofs.Math.Decide.{ℕ_discrete, dec_lt}
 use Rattle.std.proofs.lemmas.Option.{slice_get_past}
 use Rattle.rational.specs.Rational.{Rational, ◌≤ℚ◌}
-use Rattle.verdicts.proofs.Laws.{less_true, less_false}
+use Rattle.rational.proofs.Laws.{less_true, less_false}
 use Rattle.basis.specs.System.{Bounds, System, size, lower_of, upper_of, IsSystem, AreBoundsInOrder}
 use Rattle.basis.specs.Weights.{IsContradictory}
 use Rattle.simplex.specs.Crossed.{are_crossed, IsInOrder}

@@ -4,8 +4,9 @@ use Rattle.std.specs.Prelude.{pos, negsuc, Result, Ok, Err, IfErr}
 use Rattle.rational.specs.Rational.{Rational, zero_ℚ, one_ℚ, whole, neg_ℚ, ◌+ℚ◌, ◌*ℚ◌, ◌≤ℚ◌, ◌<ℚ◌}
 use Rattle.rational.proofs.Laws as Q
 use Rattle.milp.specs.Form.{number_at}
-use Rattle.verdicts.specs.Compare.{is_less}
-use Rattle.verdicts.proofs.Laws.{less_true, less_false, minus_one-mul}
+use Rattle.rational.specs.Compare.{is_less}
+use Rattle.rational.proofs.Laws.{less_true, less_false}
+use Rattle.verdicts.proofs.Laws.{minus_one-mul}
 use Rattle.basis.specs.System.{Bounds, System, size, lower_of, upper_of}
 use Rattle.basis.specs.Dictionary.{IsBasic, IsResting, RestsAt, rate_of, gain_of}
 use Rattle.basis.specs.Bland.{exchanged, IsOutside, HasPassed, IsLeast, Improves, MendStep, ImproveStep, IsHeading, IsDirection, Reaches, ReachesNone, BlandStep, IsOptimalBasis}

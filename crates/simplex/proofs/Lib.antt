@@ -18,7 +18,6 @@ pub mod StateLemmas
 pub mod Crossing
 pub mod WeightItems
 pub mod PointNumbers
-pub mod Shares
 pub mod RayNumbers
 pub mod Narrowing
 pub mod NodeEnds

@@ -7,7 +7,7 @@ use Rattle.std.proofs.lemmas.Bool.Decides.{nat_tests}
 use Rattle.std.proofs.lemmas.Option.{slice_get_past, slice_get_within, slice_get_read}
 use Rattle.std.proofs.lemmas.List.{take_all}
 use Rattle.rational.specs.Rational.{Rational, one_ℚ, whole, ◌+ℚ◌}
-use Rattle.verdicts.proofs.Laws.{whole-add}
+use Rattle.rational.proofs.Laws.{whole-add}
 use Rattle.milp.specs.Problem.{Problem}
 use Rattle.verdicts.specs.Certificate.{Split, Side as SideOf, Low as LowOf, High as HighOf}
 use Rattle.verdicts.specs.Proves.{lower_under, upper_under, greater}

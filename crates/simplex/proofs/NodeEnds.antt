@@ -13,7 +13,8 @@ use Rattle.basis.specs.System.{System, size}
 use Rattle.basis.specs.Dictionary.{place_of, IsBasic, rate_of}
 use Rattle.basis.specs.Bland.{IsHeading}
 use Rattle.basis.specs.Node.{system_of, integer_at}
-use Rattle.basis.specs.Weights.{weights_of, contradiction_weights, numbers_from, common_denominator, IsContradictory, IsDirectionOfRun}
+use Rattle.rational.specs.Denominators.{common_denominator}
+use Rattle.basis.specs.Weights.{weights_of, contradiction_weights, numbers_from, IsContradictory, IsDirectionOfRun}
 use Rattle.basis.specs.Numbers.{IsSiteNumber, IsSitePair, IsRunBase, IsCoefficient, IsRunCommon, IsProblemNumber, IsNodeBase, run_numbers, node_numbers}
 use Rattle.basis.specs.Relaxation.{IsBlocked, IsOptimalRelaxation, IsInfeasibleRelaxation, IsUnboundedRelaxation}
 use Rattle.basis.specs.declared.Place.{Place}

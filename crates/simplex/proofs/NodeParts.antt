@@ -16,7 +16,8 @@ use Rattle.milp.specs.Points.{sign_of}
 use Rattle.verdicts.specs.WeightedSums.{scaled}
 use Rattle.verdicts.specs.Certificate.{Side, Derived}
 use Rattle.certificate.specs.Written.{count_max, IsDerived}
-use Rattle.instance.specs.WellFormed.{is_zero, are_entries_from, IsWellFormed}
+use Rattle.rational.specs.Compare.{is_zero}
+use Rattle.instance.specs.WellFormed.{are_entries_from, IsWellFormed}
 use Rattle.basis.specs.System.{Bounds}
 use Rattle.basis.specs.Node.{column_bounds, row_bounds, derived_bounds, system_of}
 use Rattle.simplex.specs.Ascending.{IsAscending, AreAscending}

@@ -6,7 +6,8 @@ use Rattle.std.proofs.lemmas.Bool.Decides.{nat_tests}
 use Rattle.milp.specs.Form.{Entry}
 use Rattle.milp.specs.Problem.{Row, Problem}
 use Rattle.verdicts.specs.WeightedSums.{AllBelow}
-use Rattle.instance.specs.WellFormed.{is_zero, are_entries_from, IsWellFormed}
+use Rattle.rational.specs.Compare.{is_zero}
+use Rattle.instance.specs.WellFormed.{are_entries_from, IsWellFormed}
 use Rattle.basis.specs.Node.{IsOverColumns}
 
 order_test : (a b : ℕ) → nat_lt a b ≡ true → a < b

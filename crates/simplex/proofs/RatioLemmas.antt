@@ -5,8 +5,8 @@ use Rattle.std.proofs.Math.Decide.{ℕ_discrete}
 use Rattle.rational.specs.Rational.{Rational, zero_ℚ, inv_ℚ, neg_ℚ, ◌+ℚ◌, ◌-ℚ◌, ◌*ℚ◌, ◌/ℚ◌, ◌≤ℚ◌, ◌<ℚ◌}
 use Rattle.rational.proofs.Laws as Q
 use Rattle.milp.specs.Form.{number_at}
-use Rattle.verdicts.specs.Compare.{is_less}
-use Rattle.verdicts.proofs.Laws.{less_true, less_false}
+use Rattle.rational.specs.Compare.{is_less}
+use Rattle.rational.proofs.Laws.{less_true, less_false}
 use Rattle.basis.specs.System.{Bounds, System, size, lower_of, upper_of}
 use Rattle.basis.specs.Dictionary.{place_of, rate_of}
 use Rattle.basis.specs.Bland.{Reaches}

@@ -8,7 +8,8 @@ use Rattle.rational.specs.Rational.{Rational, zero_ℚ, whole, ◌*ℚ◌}
 use Rattle.milp.specs.Form.{number_at}
 use Rattle.milp.specs.Problem.{Column}
 use Rattle.verdicts.specs.Proves.{is_integer}
-use Rattle.basis.specs.Weights.{numbers_from, common_denominator}
+use Rattle.rational.specs.Denominators.{common_denominator}
+use Rattle.basis.specs.Weights.{numbers_from}
 use Rattle.basis.proofs.Laws.{length-numbers, numbers-below}
 use Rattle.fraction.specs.declared.frac.NoFit.{NoFit}
 use Rattle.simplex.specs.Rays.{IsFault, IsDenominatorFault, IsProduct, IsProductFault, IsRayFault, AreScaled, numbers_to_be_whole, denominator_of, whole_ray}

@@ -11,7 +11,7 @@ use Rattle.rational.proofs.Laws as Q
 use Rattle.milp.specs.Form.{number_at}
 use Rattle.verdicts.proofs.Laws.{minus_one-mul}
 use Rattle.basis.proofs.Laws.{zero_numerator}
-use Rattle.instance.specs.WellFormed.{is_zero}
+use Rattle.rational.specs.Compare.{is_zero}
 use Rattle.fraction.specs.Fits.{fits}
 use Rattle.fraction.specs.Answers.{mul_add_answer, result_fits}
 use Rattle.fraction.specs.declared.frac.Op.TheVariants.{Add, Mul}
@@ -90,15 +90,9 @@ substitution_fault old new ss at i k z s x e inside r f same j fit h read_s read
 
 -- ---- a row whose number is 0 there stays
 
-zero_by_test : (a : Rational) → is_zero a ≡ true → a ≡ zero_ℚ
-zero_by_test a e = zero_numerator a (none a.numerator e)
-  where
-    none : (n : ℤ) → (unsigned_abs n == 0) ≡ true → n ≡ pos 0
-    none n e = let k : unsigned_abs n ≡ 0 = grind (arith, nat_tests) in omega (arith, ints)
-
 -- a product with 0 adds nothing
 pub nothing_added : (k a b : Rational) (t : Bool) → t ≡ is_zero a → t ≡ true → b ≡ k *ℚ a +ℚ b
-nothing_added k a b t f g = sym (ap (λ u. k *ℚ u +ℚ b) (zero_by_test a (sym f ∙ g)) ∙ none b)
+nothing_added k a b t f g = sym (ap (λ u. k *ℚ u +ℚ b) (Q.zero_true a (sym f ∙ g)) ∙ none b)
   where
     none : (b : Rational) → k *ℚ zero_ℚ +ℚ b ≡ b
     none b = ap (λ u. u +ℚ b) (Q.mul-zero k) ∙ Q.zero-add b
@@ -111,7 +105,7 @@ substituted_zero old ss at k t e f g = record {
 }
   where
     zero : number_at old at ≡ zero_ℚ
-    zero = sym e ∙ zero_by_test k (sym f ∙ g)
+    zero = sym e ∙ Q.zero_true k (sym f ∙ g)
 
 -- ---- a product and a sum at once
 

@@ -1,7 +1,7 @@
 -- Lower bounds above upper ones.
 use Rattle.std.specs.Prelude.{ℕ, Bool, false, Option, Some, None, IfSome}
 use Rattle.rational.specs.Rational.{Rational, ◌≤ℚ◌}
-use Rattle.verdicts.specs.Compare.{is_less}
+use Rattle.rational.specs.Compare.{is_less}
 use Rattle.basis.specs.System.{System, lower_of, upper_of}
 
 abbrev pub is_above : Rational → Option Rational → Bool

@@ -2,7 +2,7 @@
 use Rattle.std.specs.Prelude.{ℕ, ◌<◌, ◌≡◌, Bool, true, false, List, Option, Some, None, option_map, if◌then◌else◌}
 use Rattle.rational.specs.Rational.{Rational, zero_ℚ, neg_ℚ, ◌-ℚ◌}
 use Rattle.milp.specs.Form.{number_at}
-use Rattle.verdicts.specs.Compare.{is_less}
+use Rattle.rational.specs.Compare.{is_less}
 use Rattle.basis.specs.System.{Bounds, System, size}
 use Rattle.basis.specs.Dictionary.{IsBasic, rate_of}
 use Rattle.basis.specs.Bland.{Reaches, IsFirst, ReachesNone}

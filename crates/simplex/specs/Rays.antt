@@ -4,8 +4,9 @@ use Rattle.rational.specs.Rational.{Rational, zero_ℚ, whole, over, ◌*ℚ◌}
 use Rattle.milp.specs.Form.{number_at}
 use Rattle.milp.specs.Problem.{Column}
 use Rattle.verdicts.specs.Proves.{is_integer}
-use Rattle.basis.specs.Numbers.{prefix_denominator}
-use Rattle.basis.specs.Weights.{numbers_from, common_denominator}
+use Rattle.rational.specs.Denominators.{prefix_denominator}
+use Rattle.rational.specs.Denominators.{common_denominator}
+use Rattle.basis.specs.Weights.{numbers_from}
 use Rattle.fraction.specs.Answers.{result_fits}
 use Rattle.fraction.specs.declared.frac.NoFit.{NoFit}
 use Rattle.simplex.specs.declared.fault.Fault.{Fault}

@@ -3,7 +3,7 @@ use Rattle.std.specs.Prelude.{ℕ, ◌<◌, ◌≡◌, ◌==◌, cond, Bool, tru
 use Rattle.rational.specs.Rational.{Rational, zero_ℚ, one_ℚ, neg_ℚ, ◌+ℚ◌, ◌*ℚ◌}
 use Rattle.milp.specs.Form.{number_at}
 use Rattle.verdicts.specs.Proves.{lies_above, lies_below}
-use Rattle.verdicts.specs.Compare.{is_less}
+use Rattle.rational.specs.Compare.{is_less}
 use Rattle.basis.specs.System.{Bounds}
 use Rattle.basis.specs.Dictionary.{place_of, IsBasic, rate_of}
 use Rattle.fraction.specs.Fits.{sum_fits}

@@ -3,7 +3,7 @@ ghost use Rattle.std.specs.Prelude.{ℕ, pos, ◌≡◌, ◌<◌, ◌≤◌, ◌
 ghost use Rattle.integer.specs.Gcd.{gcd};
 ghost use Rattle.rational.specs.Rational.{over, whole};
 ghost use Rattle.fraction.specs.Fits.{part_max};
-ghost use Rattle.basis.specs.Weights.{common_denominator};
+ghost use Rattle.rational.specs.Denominators.{common_denominator};
 ghost use Rattle.simplex.specs.Rays.{IsShareFault, IsDenominatorFault};
 
 use fraction::{Frac, NoFit, Op};

@@ -2,7 +2,7 @@
 ghost use Rattle.std.specs.Prelude.{ℕ, pos, [], length, true, ◌≡◌, ◌≢◌, ◌<◌, OnOk, IfOk, IfErr};
 ghost use Rattle.rational.specs.Rational.{Rational, neg_ℚ, ◌+ℚ◌, ◌*ℚ◌, ◌/ℚ◌};
 ghost use Rattle.milp.specs.Form.{number_at};
-ghost use Rattle.instance.specs.WellFormed.{is_zero};
+ghost use Rattle.rational.specs.Compare.{is_zero};
 ghost use Rattle.simplex.specs.Rows.{IsSolved, IsSubstituted, IsSolvingFault, IsSubstitutionFault, IsProductOrSum, IsQuotient};
 
 use fraction::{Frac, NoFit};

@@ -6,15 +6,15 @@ use Rattle.rational.specs.Rational.{Rational, ◌≤ℚ◌, zero_ℚ, ◌*ℚ◌
 use Rattle.milp.specs.Form.{Entry}
 use Rattle.rational.proofs.Laws as Q
 use Rattle.verdicts.proofs.Duality.{value-scaled}
-use Rattle.verdicts.specs.Compare.{is_at_most, is_whole}
+use Rattle.rational.specs.Compare.{is_at_most, is_whole}
 use Rattle.milp.specs.Points.{IsWhole}
 use Rattle.milp.specs.Problem.{Column, Problem}
 use Rattle.milp.specs.Form.{number_at, sum_at}
 use Rattle.milp.specs.Points.{IsWithin, Relaxed, Feasible}
 use Rattle.verdicts.specs.Certificate.{FormSplit, Proof, Plain, BySplit, Derived}
 use Rattle.verdicts.specs.Proves.{terms, joined, shows, is_integer, is_whole_form, in_range, low_term, high_term, proof_passes, derived_passes}
-use Rattle.verdicts.proofs.Tests.{at_most_true, whole_true}
-use Rattle.verdicts.proofs.Numbers.{le_by, neg_le, neg_whole, minus_one-mul, IsWhole-add, IsWhole-mul, sides}
+use Rattle.rational.proofs.Laws.{at_most_true, whole_true}
+use Rattle.verdicts.proofs.Numbers.{le_by, neg_le, minus_one-mul, IsWhole-add, IsWhole-mul, sides}
 use Rattle.verdicts.proofs.Sums.{Meets, terms_meet, joined_meets, shows_sound}
 use Rattle.verdicts.specs.Proves.{InsideBounds, MeetsDerived}
 
@@ -38,7 +38,7 @@ whole_value p x (e ∷ es) h t =
     IsWhole-add (e.coefficient *ℚ number_at x e.column) (sum_at x es) (IsWhole-mul e.coefficient (number_at x e.column) (whole_true e.coefficient here.0) (integer_whole (slice_get p.columns e.column) (number_at x e.column) (h.integers e.column) here.1)) (whole_value p x es h both.1)
 
 low_meets : (s : FormSplit) (x : List Rational) → zero_ℚ ≤ℚ s.low → sum_at x s.form ≤ℚ whole s.at → Meets x (low_term s)
-low_meets s x w h = record { scaled = Q.mul-le-mul s.low _ _ w (le_by _ _ _ _ (neg_whole s.at) (value-scaled (number_at x) (whole (negsuc 0)) s.form ∙ minus_one-mul (sum_at x s.form)) (neg_le _ _ h)) }
+low_meets s x w h = record { scaled = Q.mul-le-mul s.low _ _ w (le_by _ _ _ _ (Q.neg_whole s.at) (value-scaled (number_at x) (whole (negsuc 0)) s.form ∙ minus_one-mul (sum_at x s.form)) (neg_le _ _ h)) }
 
 high_meets : (s : FormSplit) (x : List Rational) → zero_ℚ ≤ℚ s.high → whole (s.at +ℤ pos 1) ≤ℚ sum_at x s.form → Meets x (high_term s)
 high_meets s x w h = record { scaled = Q.mul-le-mul s.high _ _ w h }

@@ -9,10 +9,10 @@ use Rattle.milp.specs.Form.{Entry, value_at}
 use Rattle.verdicts.specs.WeightedSums.{coefficient_of, sum_below, scaled, Weighted, combined}
 use Rattle.rational.proofs.Laws as Q
 use Rattle.verdicts.proofs.Coefficients.{sum_zero, sum_same, sum_add}
-use Rattle.verdicts.specs.Compare.{is_same}
+use Rattle.rational.specs.Compare.{is_same}
 use Rattle.milp.specs.Form.{number_at, sum_at}
 use Rattle.verdicts.specs.Proves.{same_form}
-use Rattle.verdicts.proofs.Tests.{same_true}
+use Rattle.rational.proofs.Laws.{same_true}
 
 -- one column's part
 part : ℕ → Rational → (ℕ → Rational) → ℕ → Rational
@@ -60,7 +60,7 @@ same_form-value n x f g e h =
 
 -- ---- a combined form's coefficient, term by term
 
-coefficient-append : (f g : List Entry) (j : ℕ) → coefficient_of (f ++ g) j ≡ coefficient_of f j +ℚ coefficient_of g j
+pub coefficient-append : (f g : List Entry) (j : ℕ) → coefficient_of (f ++ g) j ≡ coefficient_of f j +ℚ coefficient_of g j
 coefficient-append [] g j = sym (Q.zero-add (coefficient_of g j))
 coefficient-append (e ∷ f) g j = rw (coefficient-append f g j) (sym (Q.add_assoc _ _ _))
 

@@ -5,7 +5,7 @@ use Rattle.milp.specs.Problem.{Problem}
 use Rattle.milp.specs.Points.{Feasible}
 use Rattle.verdicts.specs.Certificate.{Verdict, Optimal, Infeasible, Unbounded, Derived, Certificate}
 use Rattle.verdicts.specs.Proves.{derived_passes, Part, Test, derived_tests, node_tests, tree_tests, point_passes, value_passes, ray_passes, verdict_tests, first_failing, Proves, Holds}
-use Rattle.verdicts.proofs.Tests.{same_true}
+use Rattle.rational.proofs.Laws.{same_true}
 use Rattle.verdicts.proofs.Points.{meets_true, ray_true}
 use Rattle.verdicts.specs.Proves.{MeetsDerived}
 use Rattle.verdicts.proofs.DerivedRows.{derived_sound, inside_own}

@@ -1,10 +1,15 @@
 -- The laws of certificates and of the tests on points and rays that other crates cite.
+
+-- order and signs of numbers
+pub use Rattle.verdicts.proofs.Numbers.{le_by, minus_one-mul, mul-le-mul_neg, neg-zero, neg_le}
+-- values of forms, and their coefficients by column
 pub use Rattle.verdicts.proofs.Coefficients.{same_value, sum_zero, value_by_column}
 pub use Rattle.verdicts.proofs.Duality.{value-append, value-scaled}
-pub use Rattle.verdicts.proofs.Tests.{at_most_false, at_most_true, less_false, less_true, same_true}
-pub use Rattle.verdicts.proofs.Numbers.{le_by, minus_one-mul, mul-le-mul_neg, neg-zero, neg_le, neg_whole, whole-add}
-pub use Rattle.verdicts.proofs.Forms.{coefficient-combined, coefficient-scaled}
+pub use Rattle.verdicts.proofs.Forms.{coefficient-append, coefficient-combined, coefficient-scaled}
+-- the tests of a point and of a ray hold exactly of feasible points and improving rays
 pub use Rattle.verdicts.proofs.Points.{meets_true}
-pub use Rattle.verdicts.proofs.Law.{certificate_right}
 pub use Rattle.verdicts.proofs.Converse.{true_meets, true_ray}
+-- a certificate that proves its verdict makes it true
+pub use Rattle.verdicts.proofs.Law.{certificate_right}
+-- ways in a tree
 pub use Rattle.verdicts.proofs.Trees.{ways_step}

@@ -1,6 +1,5 @@
 mod Coefficients
 mod Duality
-mod Tests
 mod Numbers
 mod Forms
 mod Sums

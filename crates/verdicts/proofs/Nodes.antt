@@ -7,7 +7,7 @@ use Rattle.verdicts.specs.WeightedSums.{scaled, Weighted}
 use Rattle.rational.proofs.Laws as Q
 use Rattle.rational.proofs.Laws.{field, field_units, signs}
 use Rattle.verdicts.proofs.Duality.{value-scaled}
-use Rattle.verdicts.specs.Compare.{is_at_most}
+use Rattle.rational.specs.Compare.{is_at_most}
 use Rattle.milp.specs.Problem.{Problem}
 use Rattle.milp.specs.Form.{number_at, sum_at}
 use Rattle.milp.specs.Points.{Feasible, objective_value, sign_of}

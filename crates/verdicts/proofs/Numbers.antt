@@ -1,10 +1,9 @@
 -- Negatives in the order, and whole numbers among the rational ones.
 use Rattle.std.proofs.Common.{◌≡◌, ◌∙◌, refl, sym, ap, ◌⊎◌}
-use Rattle.std.specs.Prelude.{ℤ, pos, negsuc, ◌+ℤ◌, ◌*ℤ◌, neg_ℤ}
-use Rattle.integer.proofs.Laws as Z
-use Rattle.rational.specs.Rational.{Rational, ◌≤ℚ◌, ◌<ℚ◌, ◌+ℚ◌, ◌*ℚ◌, neg_ℚ, zero_ℚ, one_ℚ, whole}
+use Rattle.std.specs.Prelude.{ℤ, pos, negsuc, ◌+ℤ◌}
+use Rattle.rational.specs.Rational.{Rational, ◌≤ℚ◌, ◌+ℚ◌, ◌*ℚ◌, neg_ℚ, zero_ℚ, one_ℚ, whole}
 use Rattle.rational.proofs.Laws as Q
-use Rattle.rational.proofs.Laws.{field, field_units, signs, same_parts, value_same, value_self, value_add, value_mul}
+use Rattle.rational.proofs.Laws.{field, field_units, signs, same_parts, neg_whole, whole-add, whole-mul}
 use Rattle.milp.specs.Points.{IsWhole}
 
 pub le_by : (a b x y : Rational) → a ≡ x → b ≡ y → x ≤ℚ y → a ≤ℚ b
@@ -28,10 +27,6 @@ mul-le-mul_neg k a b h g =
     back : (k c : Rational) → k *ℚ c ≡ neg_ℚ (neg_ℚ k *ℚ c)
     back k c = sym (ap neg_ℚ (Q.neg_mul k c) ∙ Q.neg_neg (k *ℚ c))
 
-pub neg_whole : (t : ℤ) → whole (neg_ℤ t) ≡ neg_ℚ (whole t)
-unfolding neg_ℚ
-neg_whole t = same_parts _ _ refl refl
-
 pub minus_one-mul : (a : Rational) → whole (negsuc 0) *ℚ a ≡ neg_ℚ a
 minus_one-mul a = ap (λ m. m *ℚ a) (neg_whole (pos 1)) ∙ Q.neg_mul one_ℚ a ∙ ap neg_ℚ (Q.one-mul a)
 
@@ -39,12 +34,6 @@ minus_one-mul a = ap (λ m. m *ℚ a) (neg_whole (pos 1)) ∙ Q.neg_mul one_ℚ 
 
 pub whole-numerator : (a : Rational) → IsWhole a → whole a.numerator ≡ a
 whole-numerator a h = same_parts _ _ refl (sym h)
-
-pub whole-add : (n m : ℤ) → whole n +ℚ whole m ≡ whole (n +ℤ m)
-whole-add n m = value_same _ _ _ _ _ _ (value_add _ _ _ _ _ _ (value_self (whole n)) (value_self (whole m))) (value_self (whole (n +ℤ m))) (simp Z.units)
-
-whole-mul : (n m : ℤ) → whole n *ℚ whole m ≡ whole (n *ℤ m)
-whole-mul n m = value_same _ _ _ _ _ _ (value_mul _ _ _ _ _ _ (value_self (whole n)) (value_self (whole m))) (value_self (whole (n *ℤ m))) (simp Z.units)
 
 pub IsWhole-add : (a b : Rational) → IsWhole a → IsWhole b → IsWhole (a +ℚ b)
 IsWhole-add a b h k = sym (ap (λ (q : Rational). q.denominator) (sym (whole-add a.numerator b.numerator) ∙ ap (λ x. x +ℚ whole b.numerator) (whole-numerator a h) ∙ ap (λ y. a +ℚ y) (whole-numerator b k)))

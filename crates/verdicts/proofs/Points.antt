@@ -3,13 +3,13 @@ use Rattle.std.proofs.Common.{◌≡◌, ℕ, zero, suc, List, [], ◌∷◌, Bo
 use Rattle.std.proofs.lemmas.Bool.{and_parts}
 use Rattle.std.proofs.lemmas.Option.{IfSome_then}
 use Rattle.rational.specs.Rational.{Rational, ◌≤ℚ◌, zero_ℚ, ◌*ℚ◌}
-use Rattle.verdicts.specs.Compare.{is_less, is_whole}
+use Rattle.rational.specs.Compare.{is_less, is_whole}
 use Rattle.milp.specs.Points.{IsWhole}
 use Rattle.milp.specs.Problem.{Column, Row, Problem}
 use Rattle.milp.specs.Form.{number_at, sum_at}
 use Rattle.milp.specs.Points.{IsWithin, IsHarmless, Feasible, IsImprovingRay, sign_of}
 use Rattle.verdicts.specs.Proves.{lies_above, lies_below, meets_columns, meets_rows, meets, bound_for, is_improving_ray}
-use Rattle.verdicts.proofs.Tests.{at_most_true, whole_true, less_true}
+use Rattle.rational.proofs.Laws.{at_most_true, whole_true, less_true}
 
 within_true : (lower upper : Option Rational) (v : Rational) → (lies_above lower v && lies_below upper v) ≡ true → IsWithin lower upper v
 within_true lower upper v h =

@@ -1,19 +1,19 @@
 -- Steps along an improving ray stay feasible, and longer ones are better.
 use Rattle.std.proofs.Common.{◌≡◌, ◌∙◌, ℕ, zero, suc, ◌+◌, ◌-◌, ◌<◌, List, [], ◌∷◌, Bool, true, false, refl, sym, ap, Option, Some, None, IfSome, slice_get, length, IsTrue, arith}
-use Rattle.std.specs.Prelude.{pos, ◌*ℤ◌, ◌≤ℤ◌, ◌+ℤ◌}
+use Rattle.std.specs.Prelude.{pos, ◌+ℤ◌}
 use Rattle.std.proofs.lemmas.Int.{ints}
 use Rattle.rational.specs.Rational.{Rational, ◌≤ℚ◌, ◌<ℚ◌, zero_ℚ, one_ℚ, ◌*ℚ◌, ◌+ℚ◌, neg_ℚ, whole}
 use Rattle.milp.specs.Form.{Entry}
 use Rattle.rational.proofs.Laws as Q
 use Rattle.rational.proofs.Laws.{field, field_units, signs}
-use Rattle.verdicts.specs.Compare.{is_less}
+use Rattle.rational.specs.Compare.{is_less}
 use Rattle.milp.specs.Points.{IsWhole}
 use Rattle.milp.specs.Problem.{Column, Row, Problem}
 use Rattle.milp.specs.Form.{number_at, sum_at}
 use Rattle.milp.specs.Points.{IsWithin, IsHarmless, Feasible, IsUnbounded, IsBetter, sign_of, objective_value}
 use Rattle.verdicts.specs.Rays.{moved}
-use Rattle.verdicts.proofs.Tests.{less_true, less_false}
-use Rattle.verdicts.proofs.Numbers.{le_by, IsWhole-add, IsWhole-mul, whole-add}
+use Rattle.rational.proofs.Laws.{less_true, less_false}
+use Rattle.verdicts.proofs.Numbers.{le_by, IsWhole-add, IsWhole-mul}
 
 moved_size : (x r : List Rational) (t : ℕ) → length x ≡ length r → length (moved x t r) ≡ length x
 moved_size [] r t e = refl
@@ -37,22 +37,16 @@ moved_sum x r t (a ∷ es) e = rw (moved_number x r t a.column e, moved_sum x r 
     parts : (c v t d s u : Rational) → c *ℚ (v +ℚ t *ℚ d) +ℚ (s +ℚ t *ℚ u) ≡ (c *ℚ v +ℚ s) +ℚ t *ℚ (c *ℚ d +ℚ u)
     parts c v t d s u = simp field
 
-at_least_zero : (t : ℕ) → zero_ℚ ≤ℚ whole (pos t)
-at_least_zero t = record { cross = go t }
-  where
-    go : (t : ℕ) → (pos 0 *ℤ pos 1) ≤ℤ (pos t *ℤ pos 1)
-    go t = omega (arith, ints)
-
 stays_within : (lower upper : Option Rational) (v d : Rational) (t : ℕ) → IsWithin lower upper v → IsHarmless lower upper d → IsWithin lower upper (v +ℚ whole (pos t) *ℚ d)
 stays_within lower upper v d t h k = record { low = low lower h.low k.low; high = high upper h.high k.high }
   where
     low : (o : Option Rational) → IfSome o (λ b. b ≤ℚ v) → IfSome o (λ b. zero_ℚ ≤ℚ d) → IfSome o (λ b. b ≤ℚ v +ℚ whole (pos t) *ℚ d)
     low None i j = tt
-    low (Some b) i j = le_by _ _ _ _ (sym (Q.add-zero b)) refl (Q.add-le-add _ _ _ _ i (le_by _ _ _ _ (sym (Q.mul-zero (whole (pos t)))) refl (Q.mul-le-mul (whole (pos t)) zero_ℚ d (at_least_zero t) j)))
+    low (Some b) i j = le_by _ _ _ _ (sym (Q.add-zero b)) refl (Q.add-le-add _ _ _ _ i (le_by _ _ _ _ (sym (Q.mul-zero (whole (pos t)))) refl (Q.mul-le-mul (whole (pos t)) zero_ℚ d (Q.zero-le_whole t) j)))
 
     high : (o : Option Rational) → IfSome o (λ b. v ≤ℚ b) → IfSome o (λ b. d ≤ℚ zero_ℚ) → IfSome o (λ b. v +ℚ whole (pos t) *ℚ d ≤ℚ b)
     high None i j = tt
-    high (Some b) i j = le_by _ _ _ _ refl (sym (Q.add-zero b)) (Q.add-le-add _ _ _ _ i (le_by _ _ _ _ refl (sym (Q.mul-zero (whole (pos t)))) (Q.mul-le-mul (whole (pos t)) d zero_ℚ (at_least_zero t) j)))
+    high (Some b) i j = le_by _ _ _ _ refl (sym (Q.add-zero b)) (Q.add-le-add _ _ _ _ i (le_by _ _ _ _ refl (sym (Q.mul-zero (whole (pos t)))) (Q.mul-le-mul (whole (pos t)) d zero_ℚ (Q.zero-le_whole t) j)))
 
 pub step_feasible : (p : Problem) (x r : List Rational) → IsUnbounded p x r → (t : ℕ) → Feasible p (moved x t r)
 step_feasible p x r h t =
@@ -94,8 +88,8 @@ le_cancel a b c h = le_by _ _ _ _ (sym (Q.cancel_right a b)) (sym (Q.cancel_righ
 -- m below 0: k + (t + 1 + n) * m is below k + t * m
 falls : (k m : Rational) (t n : ℕ) → m <ℚ zero_ℚ → k +ℚ whole (pos (t + suc n)) *ℚ m <ℚ k +ℚ whole (pos t) *ℚ m
 falls k m t n h = lt_from_not _ _ (λ g.
-    let split : whole (pos (t + suc n)) ≡ whole (pos t) +ℚ (whole (pos n) +ℚ one_ℚ) = ap whole (later t n) ∙ sym (ap (λ y. whole (pos t) +ℚ y) (whole-add (pos n) (pos 1)) ∙ whole-add (pos t) (pos n +ℤ pos 1)) in
-    let less : m *ℚ whole (pos n) ≤ℚ zero_ℚ = rw (Q.mul_comm m (whole (pos n))) (le_by _ _ _ _ refl (sym (Q.mul-zero (whole (pos n)))) (Q.mul-le-mul (whole (pos n)) m zero_ℚ (at_least_zero n) (Q.le_of_lt _ _ h))) in
+    let split : whole (pos (t + suc n)) ≡ whole (pos t) +ℚ (whole (pos n) +ℚ one_ℚ) = ap whole (later t n) ∙ sym (ap (λ y. whole (pos t) +ℚ y) (Q.whole-add (pos n) (pos 1)) ∙ Q.whole-add (pos t) (pos n +ℤ pos 1)) in
+    let less : m *ℚ whole (pos n) ≤ℚ zero_ℚ = rw (Q.mul_comm m (whole (pos n))) (le_by _ _ _ _ refl (sym (Q.mul-zero (whole (pos n)))) (Q.mul-le-mul (whole (pos n)) m zero_ℚ (Q.zero-le_whole n) (Q.le_of_lt _ _ h))) in
     let apart : k +ℚ (whole (pos t) +ℚ (whole (pos n) +ℚ one_ℚ)) *ℚ m ≡ (k +ℚ whole (pos t) *ℚ m) +ℚ (m *ℚ whole (pos n) +ℚ m) = regroup k m (whole (pos t)) (whole (pos n)) in
     let rest : zero_ℚ ≤ℚ m *ℚ whole (pos n) +ℚ m = le_cancel (k +ℚ whole (pos t) *ℚ m) zero_ℚ _ (le_by _ _ _ _ (Q.add-zero _) (sym (ap (λ w. k +ℚ w *ℚ m) split ∙ apart)) g) in
     Q.lt-not-le _ _ h (Q.le_trans _ _ _ rest (le_by _ _ _ _ refl (sym (Q.zero-add m)) (Q.add-le-add _ _ _ _ less (Q.le_refl m)))))

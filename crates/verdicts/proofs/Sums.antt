@@ -6,13 +6,13 @@ use Rattle.milp.specs.Form.{Entry}
 use Rattle.verdicts.specs.WeightedSums.{scaled, Weighted, combined, combined_bound}
 use Rattle.rational.proofs.Laws as Q
 use Rattle.verdicts.proofs.Duality.{value-append, value-scaled}
-use Rattle.verdicts.specs.Compare.{is_less, is_at_most}
+use Rattle.rational.specs.Compare.{is_less, is_at_most}
 use Rattle.milp.specs.Problem.{Row, Problem}
 use Rattle.milp.specs.Form.{number_at, sum_at}
 use Rattle.milp.specs.Points.{IsWithin, Relaxed}
 use Rattle.verdicts.specs.Certificate.{Item, Weights, Side, Derived}
 use Rattle.verdicts.specs.Proves.{term, bound_used, row_term, column_term, derived_term, joined, gathered, terms, same_form, shows, refutes, lower_under, upper_under, MeetsDerived, AllDerived, InsideBounds}
-use Rattle.verdicts.proofs.Tests.{less_true, less_false, at_most_true}
+use Rattle.rational.proofs.Laws.{less_true, less_false, at_most_true}
 use Rattle.verdicts.proofs.Numbers.{le_by, mul-le-mul_neg}
 use Rattle.verdicts.proofs.Forms.{same_form-value}
 

@@ -1,5 +1,5 @@
 -- A tree passes where its preorder does, and a scan back from a node finds its way.
-use Rattle.std.proofs.Common.{◌≡◌, ◌∙◌, ℕ, zero, suc, ◌+◌, List, [], ◌∷◌, ◌++◌, true, refl, sym, ap, Option, None, length, append_assoc, append-nil, arith}
+use Rattle.std.proofs.Common.{◌≡◌, ◌∙◌, ℕ, zero, suc, ◌+◌, List, ◌∷◌, ◌++◌, true, refl, sym, ap, Option, None, length, append_assoc, arith}
 use Rattle.rational.specs.Rational.{Rational}
 use Rattle.milp.specs.Problem.{Problem}
 use Rattle.verdicts.specs.Certificate.{Split, Side, Low, High, Derived, TreeNode, Branch, Empty, Bound}

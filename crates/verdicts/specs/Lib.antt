@@ -1,4 +1,3 @@
-pub mod Compare
 pub mod WeightedSums
 pub mod Rays
 pub mod Certificate

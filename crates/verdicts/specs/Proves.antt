@@ -3,7 +3,7 @@ use Rattle.std.specs.Prelude.{ℕ, pos, negsuc, ◌+ℤ◌, neg_ℤ, zero, suc, 
 use Rattle.rational.specs.Rational.{Rational, zero_ℚ, one_ℚ, whole, ◌*ℚ◌, ◌-ℚ◌, ◌≤ℚ◌}
 use Rattle.milp.specs.Form.{Entry}
 use Rattle.verdicts.specs.WeightedSums.{scaled, Weighted, combined, combined_bound, coefficient_of}
-use Rattle.verdicts.specs.Compare.{is_less, is_at_most, is_same, is_whole}
+use Rattle.rational.specs.Compare.{is_less, is_at_most, is_same, is_whole}
 use Rattle.milp.specs.Problem.{Column, Row, Problem}
 use Rattle.milp.specs.Points.{IsWithin, objective_value, sign_of, IsOptimal, Feasible, IsUnbounded}
 use Rattle.milp.specs.Form.{number_at, sum_at}

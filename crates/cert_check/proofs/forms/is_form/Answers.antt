@@ -1,5 +1,5 @@
 use Rattle.std.proofs.Common.{◌≡◌, false, rules}
-use Rattle.verdicts.specs.Compare.{is_same}
+use Rattle.rational.specs.Compare.{is_same}
 use Rattle.verdicts.specs.WeightedSums.{coefficient_of}
 use Rattle.cert_check.specs.Sums.{weight_products}
 use Rattle.cert_check.specs.Parts.{signed_by}

@@ -1,7 +1,7 @@
 use Rattle.std.proofs.Common.{◌≡◌, ◌<◌, ◌≤◌}
 use Rattle.fraction.specs.Fits.{part_max}
-use Rattle.basis.specs.Numbers.{prefix_denominator}
-use Rattle.simplex.proofs.denominators.common_denominator.Given as goal
+use Rattle.rational.specs.Denominators.{prefix_denominator}
+use Rattle.fraction.proofs.denominators.common_denominator.Given as goal
 
 abbrev pub invariant-loop-number : goal.invariant-loop-number
 invariant-loop-number l = record {

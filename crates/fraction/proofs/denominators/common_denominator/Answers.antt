@@ -1,10 +1,9 @@
-use Rattle.simplex.proofs.RowNumbers.{err_from}
-use Rattle.simplex.proofs.Shares.{number_read, one_more_denominator, denominator_fault}
-use Rattle.simplex.proofs.denominators.common_denominator.Goals as goal
+use Rattle.fraction.proofs.Shares.{fault_kept, number_read, one_more_denominator, denominator_fault}
+use Rattle.fraction.proofs.denominators.common_denominator.Goals as goal
 
 pub returns-in_err-common-clause-err : goal.returns-in_err-common-clause-err
 returns-in_err-common-clause-err c =
-    err_from c.from_residual.result c.in_err-common.field-0.0 _ c.from_residual.ensures.1
+    fault_kept c.from_residual.result c.in_err-common.field-0.0 _ c.from_residual.ensures.1
     (denominator_fault c.args.numbers.now c.loop-number.number-index c.number-item.result c.loop-number.common c.denominator.result c.in_err-common.field-0.0
     (number_read c.args.numbers.now c.loop-number.number-index c.number-item.result c.loop-number-test.true c.number-item.is) c.loop-number.invariant.done c.denominator.ensures.same c.in_err-common.ensures.err)
 

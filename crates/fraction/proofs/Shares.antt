@@ -1,62 +1,21 @@
 -- Sums of 1 over two denominators, which do not fit where their common denominator does not.
-use Rattle.std.proofs.Common.{◌≡◌, ◌∙◌, ℕ, zero, suc, ◌+◌, ◌*◌, ◌/◌, ◌<◌, ◌≤◌, ◌&&◌, nat_le, Bool, true, false, List, [], ◌∷◌, length, take, get_or, mul-pos, lit≤, refl, sym, ap, subst, arith, cond, Option, Some, None, slice_get, inl}
-use Rattle.std.specs.Prelude.{pos, ◌+ℤ◌, min, Result, Ok, Err, SomeIff}
-use Rattle.std.proofs.lemmas.List.{take_all}
-use Rattle.std.proofs.lemmas.Option.{slice_get_read}
+use Rattle.std.proofs.Common.{◌≡◌, ◌∙◌, ℕ, zero, suc, ◌+◌, ◌*◌, ◌/◌, ◌<◌, ◌≤◌, ◌&&◌, nat_le, Bool, true, false, List, [], ◌∷◌, length, take, get_or, mul-pos, refl, sym, ap, subst, arith, Option, Some, None, slice_get, inl}
+use Rattle.std.specs.Prelude.{pos, ◌+ℤ◌, Result, Ok, Err, SomeIff, IfErr, IsErrAnd}
+use Rattle.std.proofs.lemmas.Option.{slice_get_read, same_Some}
 use Rattle.std.proofs.lemmas.Bool.Decides.{nat_tests}
 use Rattle.integer.specs.Gcd.{gcd}
 use Rattle.integer.specs.Lowest.{IsLowest}
-use Rattle.integer.proofs.Laws.{gcd_pos}
-use Rattle.rational.specs.Rational.{Rational, one_ℚ, whole, over, inv_ℚ, ◌/ℚ◌}
-use Rattle.rational.proofs.Laws as Q
-use Rattle.fraction.specs.Answers.{div_answer}
-use Rattle.fraction.specs.Fits.{fits, part_max, num_fits, den_fits, common_den, left_num, right_num}
-use Rattle.fraction.proofs.FracLemmas.{over-numerator, over-denominator, fits_from, quot_some}
+use Rattle.rational.specs.Rational.{Rational, over}
+use Rattle.fraction.specs.Fits.{part_max, num_fits, den_fits, common_den, left_num, right_num}
+use Rattle.fraction.proofs.FracLemmas.{over-denominator, quot_some}
 use Rattle.fraction.proofs.CmpLemmas.{one_of}
-use Rattle.basis.specs.Numbers.{prefix_denominator}
-use Rattle.basis.specs.Weights.{common_denominator}
-use Rattle.fraction.specs.declared.frac.Op.TheVariants.{Add, Div}
+use Rattle.rational.specs.Denominators.{common_denominator, prefix_denominator}
+use Rattle.fraction.specs.declared.frac.Op.TheVariants.{Add}
 use Rattle.fraction.specs.declared.frac.NoFit.{NoFit}
-use Rattle.simplex.specs.Rays.{IsShareFault, IsDenominatorFault}
+use Rattle.fraction.specs.Denominators.{IsShareFault, IsDenominatorFault}
 
-pub divisor_some : (a b : ℕ) → 0 < b → 0 < gcd a b
-divisor_some a b h = gcd_pos a b h
-
-lowest_share : (m : ℕ) → 0 < m → IsLowest (pos 1) m
+pub lowest_share : (m : ℕ) → 0 < m → IsLowest (pos 1) m
 lowest_share m h = record { positive = h; coprime = sym (one_of 1 m (inl refl)) }
-
-inverse : (m : ℕ) → 0 < m → inv_ℚ (whole (pos m)) ≡ over (pos 1) m
-unfolding inv_ℚ
-inverse zero h = absurd (omega arith)
-inverse (suc m) h = let k : min (suc m) 1 * 1 ≡ 1 = omega arith in ap (λ n. over (pos n) (suc m)) k
-
-pub share_is : (m : ℕ) (a b : Rational) → 0 < m → a ≡ one_ℚ → b ≡ whole (pos m) → a /ℚ b ≡ over (pos 1) m
-share_is m a b h e f = rw (e, f) (Q.one-mul (inv_ℚ (whole (pos m))) ∙ inverse m h)
-
-pub share_fits : (m : ℕ) (a b : Rational) → 0 < m → m ≤ part_max → a ≡ one_ℚ → b ≡ whole (pos m) → fits (a /ℚ b) ≡ true
-share_fits m a b h k e f = rw (share_is m a b h e f) (fits_from (over (pos 1) m) (rw (over-numerator (pos 1) m (lowest_share m h)) (lit≤ tt)) (rw (over-denominator (pos 1) m (lowest_share m h)) k))
-
-share_ok : (m : ℕ) (a b : Rational) (r : Result Rational NoFit) → 0 < m → m ≤ part_max → a ≡ one_ℚ → b ≡ whole (pos m) → r ≡ div_answer a b → r ≡ Ok (over (pos 1) m)
-share_ok m a b r h k e f g = g ∙ by (fits (a /ℚ b)) (share_fits m a b h k e f) ∙ ap Ok (share_is m a b h e f)
-  where
-    by : (t : Bool) → t ≡ true → cond {A = Result Rational NoFit} t (Ok (a /ℚ b)) (Err (record { a = a; op = Div; b = b })) ≡ Ok (a /ℚ b)
-    by true w = refl
-    by false w = absurd (clash w)
-      where
-        clash : ¬ (false ≡ true)
-        clash x = cc
-
-pub share_never : (m : ℕ) (a b : Rational) (r : Result Rational NoFit) (f : NoFit) → 0 < m → m ≤ part_max → a ≡ one_ℚ → b ≡ whole (pos m) → r ≡ div_answer a b → r ≡ Err f → ⊥
-share_never m a b r f h k e g is err = clash (sym (share_ok m a b r h k e g is) ∙ err)
-  where
-    clash : ¬ (Ok (over (pos 1) m) ≡ Err f)
-    clash x = cc
-
-pub share_value : (m : ℕ) (a b : Rational) (r : Result Rational NoFit) (x : Rational) → 0 < m → m ≤ part_max → a ≡ one_ℚ → b ≡ whole (pos m) → r ≡ div_answer a b → r ≡ Ok x → x ≡ over (pos 1) m
-share_value m a b r x h k e g is ok = same x (over (pos 1) m) r ok (share_ok m a b r h k e g is)
-  where
-    same : (u v : Rational) (q : Result Rational NoFit) → q ≡ Ok u → q ≡ Ok v → u ≡ v
-    same u v q w z = cc
 
 past : (a b : ℕ) → ¬ (a ≤ b) → nat_le a b ≡ false
 past a b n = grind (arith, nat_tests)
@@ -99,10 +58,7 @@ common_more m [] i a e = absurd (none_some e)
   where
     none_some : ¬ (None ≡ Some a)
     none_some k = cc
-common_more m (b ∷ numbers) zero a e = ap (λ (c : Rational). m * (c.denominator / gcd m c.denominator)) (same_some b a e)
-  where
-    same_some : (f g : Rational) → Some f ≡ Some g → f ≡ g
-    same_some f g k = cc
+common_more m (b ∷ numbers) zero a e = ap (λ (c : Rational). m * (c.denominator / gcd m c.denominator)) (same_Some b a e)
 common_more m (b ∷ numbers) (suc i) a e = common_more (m * (b.denominator / gcd m b.denominator)) numbers i a e
 
 pub one_more_denominator : (numbers : List Rational) (i : ℕ) (a : Rational) (old d new : ℕ) → slice_get numbers i ≡ Some a → old ≡ prefix_denominator numbers i → d ≡ a.denominator → new ≡ old * (d / gcd old d) → new ≡ prefix_denominator numbers (i + 1)
@@ -115,3 +71,7 @@ denominator_fault numbers i a old d f is e g h = record { index = i; number = a;
 
 pub number_read : (numbers : List Rational) (i : ℕ) (a : Rational) → i < length numbers → a ≡ get_or numbers i a → slice_get numbers i ≡ Some a
 number_read numbers i a h e = slice_get_read numbers (length numbers) i a refl h e
+
+pub fault_kept : {X : Type 0} (r : Result X NoFit) (e : NoFit) (P : NoFit → Type 0) → IsErrAnd r (λ d. d ≡ e) → P e → IfErr r P
+fault_kept (Ok u) e P h p = tt
+fault_kept (Err d) e P h p = subst P (sym h) p
