@@ -18,8 +18,7 @@ use Rattle.basis.specs.Numbers.{IsSitePair, sum_onto, IsNodeBase, IsNodeProducts
 use Rattle.cert_check.specs.Sums.{and_also, with_product, lower_answer, row_bound, derived_bound, then_there, are_there, all_there, with_bound, with_bounds, bound_sum, Product, products, derived_form, item_products, weight_products, with_products, are_forms}
 use Rattle.cert_check.specs.Parts.{ascending, shown_answer}
 use Rattle.cert_check.specs.Lookup.{entry_at}
-use Rattle.cert_check.proofs.Exact.{if_ok, ok_then, product_ok, all_there_ok}
-use Rattle.cert_check.proofs.Ascending.{coefficient_found, coefficient_none, products_found, products_none}
+use Rattle.cert_check.proofs.Laws.{if_ok, ok_then, product_ok, all_there_ok, coefficient_found, coefficient_none, products_found, products_none}
 use Rattle.branch_solve.specs.Leaves.{AreFormsAscending, node_setting}
 use Rattle.branch_solve.proofs.Told.{Told, then_told, next_told, also_told, cond_told, product_told, sum_one_more, one_more, next_pair, Thinned, AreBase, all_told, thinned-append, base-append}
 use Rattle.branch_solve.proofs.NodeNumbers.{one_base, AreCoefficients, row_coefficients, derived_coefficients, row_bound_base, column_bound_base, derived_bound_base, lower_told, lower_ok}

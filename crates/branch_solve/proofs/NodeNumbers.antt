@@ -19,7 +19,7 @@ use Rattle.basis.specs.Node.{system_of, IsOverColumns}
 use Rattle.basis.specs.Numbers.{base_number, left_base, at_of, IsGivenNumber, IsRunBase, IsProblemNumber, IsNodeBase, node_numbers, AllOf}
 use Rattle.basis.proofs.Laws.{row_form, derived_form, row-lower, row-upper, derived-lower}
 use Rattle.cert_check.specs.Sums.{next_answer, lower_answer}
-use Rattle.cert_check.proofs.Exact.{ok_then, next_ok}
+use Rattle.cert_check.proofs.Laws.{ok_then, next_ok}
 use Rattle.branch_solve.proofs.Told.{Told, next_told, add_told}
 
 by_used : (P : Rational → Type 0) (w : Rational) (lower upper : Option Rational) (b : Rational) → (lower ≡ Some b → P b) → (upper ≡ Some b → P b) → bound_used w lower upper ≡ Some b → P b

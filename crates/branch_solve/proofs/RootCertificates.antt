@@ -16,7 +16,7 @@ use Rattle.basis.specs.Numbers.{Numbers, node_numbers}
 use Rattle.basis.specs.declared.Place.{Place}
 use Rattle.basis.proofs.Laws.{optimal_point, optimal_weights_show, unbounded_point, unbounded_ray, infeasible_shows, optimal_proves, infeasible_proves, unbounded_proves}
 use Rattle.cert_check.specs.Outcome.{Trial, Outcome, Acceptance, Refusal, Fault, judged, outcome, trials}
-use Rattle.cert_check.proofs.Ascending.{entries_ascend}
+use Rattle.cert_check.proofs.Laws.{entries_ascend}
 use Rattle.search_node.specs.Faults.{IsSiteFault}
 use Rattle.branch_solve.specs.Leaves.{AreFormsAscending}
 use Rattle.branch_solve.specs.Root.{NoneInteger, IsRootOptimum, IsRootCertificate}

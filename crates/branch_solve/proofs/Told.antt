@@ -10,7 +10,7 @@ use Rattle.fraction.specs.Answers.{add_answer, mul_answer}
 use Rattle.instance.specs.Sums.{and_then}
 use Rattle.basis.specs.Numbers.{Numbers, IsSiteNumber, base_number, sum_of_products, IsSitePair, left_base, next_product, sum_onto}
 use Rattle.cert_check.specs.Sums.{and_also, with_product, Product, with_products}
-use Rattle.cert_check.proofs.Exact.{product_ok}
+use Rattle.cert_check.proofs.Laws.{product_ok}
 use Rattle.search_node.specs.Faults.{IsSiteFault}
 
 -- its fault, if it has one, is an operation on a pair of site numbers that does not fit

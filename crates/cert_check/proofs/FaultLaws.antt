@@ -8,7 +8,7 @@ use Rattle.milp.specs.Points.{sign_of}
 use Rattle.fraction.specs.declared.frac.NoFit.{NoFit}
 use Rattle.fraction.specs.declared.frac.Op.TheVariants.{Add, Mul}
 use Rattle.fraction.specs.Fits.{fits, sum_fits}
-use Rattle.fraction.specs.Answers.{add_answer, mul_answer}
+use Rattle.fraction.specs.Answers.{add_answer, mul_answer, DoesNotFit}
 use Rattle.rational.specs.Compare.{is_zero, is_less, is_at_most, is_same}
 use Rattle.instance.specs.Sums.{and_then, step_answer, sum_answer, rows_answer}
 use Rattle.verdicts.specs.WeightedSums.{coefficient_of}
@@ -17,7 +17,7 @@ use Rattle.verdicts.specs.Proves.{lies_above, lies_below, bound_for, meets_colum
 use Rattle.cert_check.specs.Setting.{Setting}
 use Rattle.cert_check.specs.Sums.{and_also, with_product, next_answer, lower_answer, bound_of, then_there, are_there, all_there, with_bound, with_bounds, bound_sum, Product, with_products, weight_products, are_forms}
 use Rattle.cert_check.specs.Parts.{point_answer, goal_answer, value_answer, ray_rows_answer, ray_answer, shown_answer, problem_alone, side_weights, side_products, side_bound, side_answer, proof_answer, derived_answer, bound_answer, node_answer}
-use Rattle.cert_check.specs.Outcome.{Trial, Outcome, Acceptance, Refusal, Fault, judged, outcome, derived_trials, node_trials, tree_trials, form_goal, verdict_trials, trials, outcome_of, DoesNotFit}
+use Rattle.cert_check.specs.Outcome.{Trial, Outcome, Acceptance, Refusal, Fault, judged, outcome, derived_trials, node_trials, tree_trials, form_goal, verdict_trials, trials, outcome_of}
 use Rattle.cert_check.specs.declared.kind.Kind.{Kind}
 use Rattle.cert_check.specs.declared.kind.Kind.TheVariants.{OfRow, OfColumn, OfDerived}
 use Rattle.cert_check.specs.declared.kind.FormSide.{FormSide}
@@ -47,14 +47,14 @@ add_honest a b = go (sum_fits a b) refl
   where
     go : (t : Bool) → sum_fits a b ≡ t → IfErr (cond t (Ok (a +ℚ b)) (Err (record { a = a; op = Add; b = b }))) DoesNotFit
     go true e = tt
-    go false e = rw e refl
+    go false e = e
 
 mul_honest : (a b : Rational) → IsHonest (mul_answer a b)
 mul_honest a b = go (fits (a *ℚ b)) refl
   where
     go : (t : Bool) → fits (a *ℚ b) ≡ t → IfErr (cond t (Ok (a *ℚ b)) (Err (record { a = a; op = Mul; b = b }))) DoesNotFit
     go true e = tt
-    go false e = rw e refl
+    go false e = e
 
 product_honest : (total a b : Rational) → IsHonest (with_product total a b)
 product_honest total a b = then_honest (mul_answer a b) (λ p. add_answer total p) (mul_honest a b) (λ p. add_honest total p)

@@ -1,14 +1,15 @@
-pub mod Elements
-pub mod Walk
-pub mod Products
-pub mod ItemOrder
-pub mod Merge
-pub mod Signs
-pub mod Ascending
-pub mod Meeting
-pub mod Places
-pub mod Trials
-pub mod Exact
-pub mod PartLaws
-pub mod OutcomeLaws
-pub mod FaultLaws
+mod Elements
+mod Walk
+mod Products
+mod ItemOrder
+mod Merge
+mod Signs
+mod Ascending
+mod Meeting
+mod Places
+mod Trials
+mod Exact
+mod PartLaws
+mod OutcomeLaws
+mod FaultLaws
+pub mod Laws

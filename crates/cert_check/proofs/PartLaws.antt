@@ -14,6 +14,7 @@ use Rattle.fraction.specs.declared.frac.NoFit.{NoFit}
 use Rattle.fraction.specs.Answers.{add_answer}
 use Rattle.rational.specs.Compare.{is_zero, is_less, is_at_most, is_same}
 use Rattle.instance.specs.Sums.{and_then, step_answer, sum_answer, rows_answer}
+use Rattle.instance.proofs.Laws.{sum_fits_ok, and_rest, rows_ok}
 use Rattle.verdicts.specs.WeightedSums.{Weighted, scaled, combined, combined_bound, coefficient_of}
 use Rattle.verdicts.specs.Certificate.{Weights, Side, FormSplit, Proof, Plain, BySplit, Derived, TreeNode, Branch, Empty, Bound}
 use Rattle.verdicts.specs.Proves.{lies_above, lies_below, bound_for, meets_columns, meets_rows, is_improving_ray, joined, terms, same_form, shows, refutes, in_range, is_whole_form, low_term, high_term, proof_passes, derived_passes, bound_passes, node_passes, point_passes, value_passes, ray_passes}
@@ -138,36 +139,11 @@ node_ok p goal ds sides (Bound w) = bound_ok (record { problem = p; derived = ds
 
 -- ---- points and rays
 
-step_ok : (x : List Rational) (total : Rational) (e : Entry) → IfOk (step_answer x total e) (λ v. v ≡ total +ℚ e.coefficient *ℚ number_at x e.column)
-step_ok x total e = product_ok total e.coefficient (number_at x e.column)
-
-sum_from : (x : List Rational) (total : Rational) (es : List Entry) → IfOk (sum_answer x total es) (λ v. v ≡ total +ℚ sum_at x es)
-sum_from x total [] = sym (Q.add-zero total)
-sum_from x total (e ∷ es) =
-    let p = e.coefficient *ℚ number_at x e.column in
-    ok_then (step_answer x total e) (λ s. sum_answer x s es) (λ v. v ≡ total +ℚ p) (λ v. v ≡ total +ℚ sum_at x (e ∷ es)) (step_ok x total e)
-    (λ v ev. if_ok (sum_answer x v es) (v +ℚ sum_at x es) (total +ℚ sum_at x (e ∷ es)) (sum_from x v es) (ap (λ z. z +ℚ sum_at x es) ev ∙ Q.add_assoc total p (sum_at x es)))
-
-sum_ok : (x : List Rational) (es : List Entry) → IfOk (sum_answer x zero_ℚ es) (λ v. v ≡ sum_at x es)
-sum_ok x es = if_ok (sum_answer x zero_ℚ es) (zero_ℚ +ℚ sum_at x es) (sum_at x es) (sum_from x zero_ℚ es) (Q.zero-add (sum_at x es))
-
--- a test, and then what answers the rest
-and_rest : (t b : Bool) (rest : Result Bool NoFit) → IfOk rest (λ c. c ≡ b) → IfOk (cond t rest (Ok false)) (λ c. c ≡ (t && b))
-and_rest true b rest h = h
-and_rest false b rest h = refl
-
-rows_ok : (x : List Rational) (rows : List Row) → IfOk (rows_answer x rows) (λ b. b ≡ meets_rows false rows x)
-rows_ok x [] = refl
-rows_ok x (r ∷ rs) =
-    let met : Rational → Bool = λ v. lies_above r.lower v && lies_below r.upper v in
-    ok_then (sum_answer x zero_ℚ r.entries) (λ v. cond (met v) (rows_answer x rs) (Ok false)) (λ v. v ≡ sum_at x r.entries) (λ b. b ≡ meets_rows false (r ∷ rs) x) (sum_ok x r.entries)
-    (λ v e. if_ok (cond (met v) (rows_answer x rs) (Ok false)) (met v && meets_rows false rs x) (met (sum_at x r.entries) && meets_rows false rs x) (and_rest (met v) (meets_rows false rs x) (rows_answer x rs) (rows_ok x rs)) (ap (λ v. met v && meets_rows false rs x) e))
-
 ray_rows_ok : (x : List Rational) (rows : List Row) → IfOk (ray_rows_answer x rows) (λ b. b ≡ meets_rows true rows x)
 ray_rows_ok x [] = refl
 ray_rows_ok x (r ∷ rs) =
     let met : Rational → Bool = λ v. lies_above (bound_for true r.lower) v && lies_below (bound_for true r.upper) v in
-    ok_then (sum_answer x zero_ℚ r.entries) (λ v. cond (met v) (ray_rows_answer x rs) (Ok false)) (λ v. v ≡ sum_at x r.entries) (λ b. b ≡ meets_rows true (r ∷ rs) x) (sum_ok x r.entries)
+    ok_then (sum_answer x zero_ℚ r.entries) (λ v. cond (met v) (ray_rows_answer x rs) (Ok false)) (λ v. v ≡ sum_at x r.entries) (λ b. b ≡ meets_rows true (r ∷ rs) x) (sum_fits_ok x r.entries)
     (λ v e. if_ok (cond (met v) (ray_rows_answer x rs) (Ok false)) (met v && meets_rows true rs x) (met (sum_at x r.entries) && meets_rows true rs x) (and_rest (met v) (meets_rows true rs x) (ray_rows_answer x rs) (ray_rows_ok x rs)) (ap (λ v. met v && meets_rows true rs x) e))
 
 pub point_ok : (p : Problem) (x : Option (List Rational)) → IfOk (point_answer p x) (λ b. b ≡ point_passes p x)
@@ -177,7 +153,7 @@ point_ok p (Some x) = and_rest (meets_columns false p.columns x) (meets_rows fal
 improving_ok : (p : Problem) (x : List Rational) → IfOk (is_improving_answer p x) (λ b. b ≡ is_improving_ray p x)
 improving_ok p x =
     let improves : Rational → Bool = λ v. is_less (sign_of p.direction *ℚ v) zero_ℚ in
-    let slope : IfOk (and_then (sum_answer x zero_ℚ p.objective) (λ v. Ok (improves v))) (λ b. b ≡ improves (sum_at x p.objective)) = ok_then (sum_answer x zero_ℚ p.objective) (λ v. Ok (improves v)) (λ v. v ≡ sum_at x p.objective) (λ b. b ≡ improves (sum_at x p.objective)) (sum_ok x p.objective) (λ v e. ap improves e) in
+    let slope : IfOk (and_then (sum_answer x zero_ℚ p.objective) (λ v. Ok (improves v))) (λ b. b ≡ improves (sum_at x p.objective)) = ok_then (sum_answer x zero_ℚ p.objective) (λ v. Ok (improves v)) (λ v. v ≡ sum_at x p.objective) (λ b. b ≡ improves (sum_at x p.objective)) (sum_fits_ok x p.objective) (λ v e. ap improves e) in
     if_ok (is_improving_answer p x) _ _ (first_ok (meets_columns true p.columns x) (meets_rows true p.rows x && improves (sum_at x p.objective)) _ (λ h. also_ok _ _ (meets_rows true p.rows x) (improves (sum_at x p.objective)) (ray_rows_ok x p.rows) (λ k. slope))) (grouped (meets_columns true p.columns x) (meets_rows true p.rows x) (improves (sum_at x p.objective)))
   where
     grouped : (a b c : Bool) → (a && (b && c)) ≡ ((a && b) && c)
@@ -193,7 +169,7 @@ value_ok p None v = refl
 value_ok p (Some x) None = refl
 value_ok p (Some x) (Some v) =
     ok_then (form_value_answer p x v) (λ f. Ok (is_some f)) (λ o. is_some o ≡ is_same v (objective_value p x)) (λ b. b ≡ is_same v (objective_value p x))
-    (ok_then (sum_answer x zero_ℚ p.objective) (λ f. and_then (add_answer f p.constant) (λ t. Ok (if is_same v t then Some f else None))) (λ f. f ≡ sum_at x p.objective) (λ o. is_some o ≡ is_same v (objective_value p x)) (sum_ok x p.objective)
+    (ok_then (sum_answer x zero_ℚ p.objective) (λ f. and_then (add_answer f p.constant) (λ t. Ok (if is_same v t then Some f else None))) (λ f. f ≡ sum_at x p.objective) (λ o. is_some o ≡ is_same v (objective_value p x)) (sum_fits_ok x p.objective)
     (λ f ef. ok_then (add_answer f p.constant) (λ t. Ok (if is_same v t then Some f else None)) (λ t. t ≡ f +ℚ p.constant) (λ o. is_some o ≡ is_same v (objective_value p x)) (add_ok f p.constant)
     (λ t et. picked f (is_same v t) ∙ ap (is_same v) (et ∙ ap (λ z. z +ℚ p.constant) ef))))
     (λ o e. e)

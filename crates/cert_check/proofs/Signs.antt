@@ -5,11 +5,5 @@ use Rattle.rational.specs.Rational.{Rational, ◌*ℚ◌, neg_ℚ, one_ℚ, whol
 use Rattle.rational.proofs.Laws as Q
 use Rattle.rational.proofs.Laws.{neg_whole}
 
-pub least : (a : Rational) → a ≡ one_ℚ *ℚ a
-least a = sym (Q.one-mul a)
-
-pub greatest : (a : Rational) → neg_ℚ a ≡ whole (negsuc 0) *ℚ a
-greatest a = sym (minus_one-mul a)
-
 pub whole_negative : (t : ℤ) → neg_ℚ (whole t) ≡ whole (neg_ℤ t)
 whole_negative t = sym (neg_whole t)

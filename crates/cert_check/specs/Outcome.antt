@@ -3,9 +3,6 @@ use Rattle.std.specs.Prelude.{ℕ, ◌+◌, ◌≡◌, ◌⊎◌, ◌++◌, List
 use Rattle.rational.specs.Rational.{Rational, ◌-ℚ◌}
 use Rattle.milp.specs.Problem.{Problem}
 use Rattle.fraction.specs.declared.frac.NoFit.{NoFit}
-use Rattle.fraction.specs.declared.frac.Op.{Op}
-use Rattle.fraction.specs.declared.frac.Op.TheVariants.{Add, Sub, Mul, Div}
-use Rattle.fraction.specs.Answers.{add_answer, sub_answer, mul_answer, div_answer}
 use Rattle.verdicts.specs.Certificate.{Verdict, Optimal, Infeasible, Unbounded, Derived, TreeNode, Side, Certificate}
 use Rattle.verdicts.specs.Proves.{Part as PartOf, Test, below}
 use Rattle.verdicts.specs.Proves as of
@@ -97,13 +94,3 @@ IfRefused (Refused part) P = P (part_of part)
 abbrev pub HoldsUpTo : PartOf → List Test → Type 0
 HoldsUpTo part [] = ⊥
 HoldsUpTo part (t ∷ ts) = (t.part ≡ part) ⊎ (IsTrue t.passes × HoldsUpTo part ts)
-
-abbrev pub answer_of : Op → Rational → Rational → Result Rational NoFit
-answer_of Add a b = add_answer a b
-answer_of Sub a b = sub_answer a b
-answer_of Mul a b = mul_answer a b
-answer_of Div a b = div_answer a b
-
--- the operation does not fit
-abbrev pub DoesNotFit : NoFit → Type 0
-DoesNotFit e = answer_of e.op e.a e.b ≡ Err e

@@ -1,14 +1,14 @@
 // The bounds of columns under the splits on the way to a node.
 ghost use Rattle.std.specs.Prelude.{◌≡◌, ◌≤◌, ◌+ℤ◌, pos, [], length, unsigned_abs, IfSome};
 ghost use Rattle.fraction.specs.Fits.{part_max};
-ghost use Rattle.verdicts.specs.Proves.{lower_under, upper_under, greater, lesser};
+ghost use Rattle.verdicts.specs.Proves.{lower_under, upper_under};
 ghost use Rattle.certificate.specs.Ways.{side_of, way};
 ghost use Rattle.cert_check.specs.Sums.{next_answer, lower_answer};
 ghost use Rattle.cert_check.specs.Walk.{found_lower, found_upper, merged_lower, merged_upper};
 
 use certificate::{Side, Tree, WholeNumber};
 use fraction::{Frac, NoFit, whole_numbers};
-use instance::Instance;
+use instance::{Instance, greater, lesser};
 
 // The lower bound of a column at a place: the greatest of its own and of the sums P + 1 on the way, or the first of these
 // from the place back that does not fit.
@@ -82,7 +82,7 @@ pub(crate) fn next(at: WholeNumber) -> Result<Frac, NoFit>
             whole_numbers();
             Ok(next.to_frac())
         }
-        None => at.to_frac().add(Frac::whole(1)),
+        None => at.to_frac().add(Frac::one()),
     }
 }
 
@@ -95,24 +95,6 @@ fn one_more(at: WholeNumber) -> Option<WholeNumber>
         Some(WholeNumber::new(n + 1))
     } else {
         None
-    }
-}
-
-fn greater(bound: Option<Frac>, b: Frac) -> Frac
-    ensures { result ≡ greater bound b }
-{
-    match bound {
-        None => b,
-        Some(a) => if a <= b { b } else { a },
-    }
-}
-
-fn lesser(bound: Option<Frac>, b: Frac) -> Frac
-    ensures { result ≡ lesser bound b }
-{
-    match bound {
-        None => b,
-        Some(a) => if a <= b { a } else { b },
     }
 }
 

@@ -2,7 +2,8 @@
 ghost use Rattle.std.specs.Prelude.{◌≡◌, ◌==◌, ◌&&◌, length, Some, IfOk, IfErr};
 ghost use Rattle.verdicts.specs.Certificate.{Optimal, Unbounded};
 ghost use Rattle.verdicts.specs.Proves.{Proves, Holds, tests, first_failing};
-ghost use Rattle.cert_check.specs.Outcome.{outcome, outcome_of, part_of, IfRefused, HoldsUpTo, DoesNotFit, trials, value_trials, ray_trials, verdict_trials, tree_trials};
+ghost use Rattle.fraction.specs.Answers.{DoesNotFit};
+ghost use Rattle.cert_check.specs.Outcome.{outcome, outcome_of, part_of, IfRefused, HoldsUpTo, trials, value_trials, ray_trials, verdict_trials, tree_trials};
 
 use crate::derived::check_derived;
 use crate::nodes::check_nodes;

@@ -12,7 +12,6 @@ ghost use Rattle.cert_check.specs.Outcome.{outcome, outcome_of, derived_trials};
 use crate::bounds::next;
 use crate::forms::{is_form, is_side_form, weights_of};
 use crate::kind::FormSide;
-use crate::numbers::{at_most, is_whole, is_zero};
 use crate::part::{CheckFault, Checked, Part};
 use crate::setting::Setting;
 use crate::sums::{all_there, bound_sum, with_product};
@@ -46,7 +45,7 @@ pub(crate) fn is_integer(problem: &Instance, column: u32) -> bool
 fn is_whole_entry(problem: &Instance, entry: Entry) -> bool
     ensures { result ≡ (is_whole entry.coefficient && is_integer (slice_get problem.now.columns entry.column)) }
 {
-    is_whole(entry.coefficient) && is_integer(problem, entry.column)
+    entry.coefficient.is_whole() && is_integer(problem, entry.column)
 }
 
 // The form is whole at each feasible point: whole coefficients on integer columns alone.
@@ -67,13 +66,13 @@ fn side_bound(split: &FormSplit, side: FormSide) -> Result<Frac, NoFit>
     ensures { result ≡ side_bound split.now side }
 {
     match side {
-        FormSide::AtMost => with_product(Frac::whole(0), split.low(), split.at().to_frac().neg()),
+        FormSide::AtMost => with_product(Frac::zero(), split.low(), split.at().to_frac().neg()),
         FormSide::AtLeast => {
-            if is_zero(split.high()) {
-                return Ok(Frac::whole(0));
+            if split.high().is_zero() {
+                return Ok(Frac::zero());
             }
             let bound = next(split.at())?;
-            with_product(Frac::whole(0), split.high(), bound)
+            with_product(Frac::zero(), split.high(), bound)
         }
     }
 }
@@ -98,7 +97,7 @@ fn side_passes(
     }
     let start = side_bound(split, side)?;
     let sum = bound_sum(setting, start, weights)?;
-    Ok(at_most(bound, sum))
+    Ok(bound <= sum)
 }
 
 // Both sides of a split show that the form is at least the bound.
@@ -124,9 +123,9 @@ fn split_passes(
 fn is_split(problem: &Instance, split: &FormSplit) -> bool
     ensures { result ≡ (is_whole_form problem.now split.now.form && (is_at_most zero_ℚ split.now.low && is_at_most zero_ℚ split.now.high)) }
 {
-    let zero = Frac::whole(0);
+    let zero = Frac::zero();
     is_whole_form(problem, split.form().as_slice())
-        && (at_most(zero, split.low()) && at_most(zero, split.high()))
+        && (zero <= split.low() && zero <= split.high())
 }
 
 // Weights show that the form is at least the bound.
@@ -145,8 +144,8 @@ fn plain_passes(
     if !is_form(setting, weights, form, None)? {
         return Ok(false);
     }
-    let sum = bound_sum(setting, Frac::whole(0), weights)?;
-    Ok(at_most(bound, sum))
+    let sum = bound_sum(setting, Frac::zero(), weights)?;
+    Ok(bound <= sum)
 }
 
 fn proof_passes(

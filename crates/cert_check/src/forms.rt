@@ -8,12 +8,11 @@ ghost use Rattle.cert_check.specs.Parts.{problem_alone, side_weights, side_produ
 
 use crate::kind::FormSide;
 use crate::lookup::entry_of;
-use crate::numbers::{same, signed};
 use crate::setting::Setting;
 use crate::sums::{column_sum, with_form, with_product};
 use certificate::{FormSplit, Weights};
 use fraction::{Frac, NoFit};
-use instance::Entry;
+use instance::{Entry, signed};
 use milp::Direction;
 
 // The coefficient of a column in a form.
@@ -23,7 +22,7 @@ fn coefficient(form: &[Entry], column: u32) -> Frac
     ensures { result ≡ coefficient_of form.now column }
 {
     match entry_of(form, column) {
-        None => Frac::whole(0),
+        None => Frac::zero(),
         Some(coefficient) => coefficient,
     }
 }
@@ -52,8 +51,8 @@ pub(crate) fn is_form(
 {
     let columns = setting.problem().columns();
     for (j, _) in columns.iter().enumerate() {
-        let sum = column_sum(setting, weights, j as u32, Frac::whole(0))?;
-        if !same(sum, wanted_at(wanted, sign, j as u32)) {
+        let sum = column_sum(setting, weights, j as u32, Frac::zero())?;
+        if sum != wanted_at(wanted, sign, j as u32) {
             return Ok(false);
         }
     }
@@ -61,7 +60,6 @@ pub(crate) fn is_form(
 }
 
 // A total plus a weight times the negative of an entry's coefficient, where the entry is of the column.
-#[tactic(auto, using(crate::proofs::Signs::greatest))]
 fn with_negative_entry(total: Frac, weight: Frac, entry: Entry, column: u32) -> Result<Frac, NoFit>
     ensures { result ≡ with_products total (products weight (scaled (whole (negsuc 0)) (entry ∷ [])) column) }
 {
@@ -89,8 +87,8 @@ fn side_sum(split: &FormSplit, side: FormSide, column: u32) -> Result<Frac, NoFi
 {
     let form = split.form().as_slice();
     match side {
-        FormSide::AtMost => with_negative_form(Frac::whole(0), split.low(), form, column),
-        FormSide::AtLeast => with_form(Frac::whole(0), split.high(), form, column),
+        FormSide::AtMost => with_negative_form(Frac::zero(), split.low(), form, column),
+        FormSide::AtLeast => with_form(Frac::zero(), split.high(), form, column),
     }
 }
 
@@ -132,7 +130,7 @@ pub(crate) fn is_side_form(
     let columns = setting.problem().columns();
     for (j, _) in columns.iter().enumerate() {
         let sum = side_column_sum(setting, split, side, j as u32)?;
-        if !same(sum, coefficient(wanted, j as u32)) {
+        if sum != coefficient(wanted, j as u32) {
             return Ok(false);
         }
     }

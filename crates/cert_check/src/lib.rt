@@ -8,7 +8,6 @@ mod forms;
 mod kind;
 mod lookup;
 mod nodes;
-mod numbers;
 mod part;
 mod points;
 mod setting;

@@ -13,13 +13,12 @@ ghost use Rattle.cert_check.specs.Outcome.{outcome, outcome_of, node_trials};
 
 use crate::derived::is_integer;
 use crate::forms::is_form;
-use crate::numbers::{at_most, less, signed};
 use crate::part::{CheckFault, Checked, Part};
 use crate::setting::Setting;
 use crate::sums::{all_there, bound_sum};
 use certificate::{Derived, Tree, TreeNode, Weights};
 use fraction::{Frac, NoFit};
-use instance::Instance;
+use instance::{Instance, signed};
 
 // F is zero, and R above 0.
 fn empty_passes(setting: &Setting, weights: &Weights) -> Result<bool, NoFit>
@@ -31,8 +30,8 @@ fn empty_passes(setting: &Setting, weights: &Weights) -> Result<bool, NoFit>
     if !is_form(setting, weights, &[], None)? {
         return Ok(false);
     }
-    let sum = bound_sum(setting, Frac::whole(0), weights)?;
-    Ok(less(Frac::whole(0), sum))
+    let sum = bound_sum(setting, Frac::zero(), weights)?;
+    Ok(sum.is_positive())
 }
 
 // F is the objective's form with the direction's sign, and R at least the value with that sign.
@@ -47,8 +46,8 @@ fn bound_passes(setting: &Setting, weights: &Weights, value: Frac) -> Result<boo
     if !is_objective(setting, weights)? {
         return Ok(false);
     }
-    let sum = bound_sum(setting, Frac::whole(0), weights)?;
-    Ok(at_most(signed(direction, value), sum))
+    let sum = bound_sum(setting, Frac::zero(), weights)?;
+    Ok(signed(direction, value) <= sum)
 }
 
 // F is the objective's form with the direction's sign.
@@ -56,7 +55,7 @@ fn is_objective(setting: &Setting, weights: &Weights) -> Result<bool, NoFit>
     ensures { result ≡ are_forms (weight_products setting.now weights.now) (λ j. sign_of setting.now.problem.direction *ℚ coefficient_of setting.now.problem.objective j) 0 setting.now.problem.columns }
 {
     let problem = setting.problem();
-    let _columns = problem.columns();
+    problem.keeps_its_limits();
     let form = problem.objective().as_slice();
     is_form(setting, weights, form, Some(problem.direction()))
 }

@@ -1,44 +1,11 @@
 // Sums at points, and the tests of the value and of the ray.
 ghost use Rattle.std.specs.Prelude.{◌≡◌, ◌&&◌, true, Some};
 ghost use Rattle.std.specs.Option.{option_map};
-ghost use Rattle.rational.specs.Rational.{zero_ℚ};
-ghost use Rattle.milp.specs.Form.{number_at};
-ghost use Rattle.instance.specs.Sums.{step_answer, sum_answer};
 ghost use Rattle.verdicts.specs.Proves.{lies_above, lies_below, bound_for, meets_columns};
 ghost use Rattle.cert_check.specs.Parts.{point_answer, form_value_answer, goal_answer, ray_rows_answer, is_improving_answer, ray_answer};
 
-use crate::numbers::{at_most, is_whole, less, same, signed};
 use fraction::{Frac, NoFit};
-use instance::{Column, Entry, Instance, Point, Row, meets};
-
-// The number of a column; 0 past the end.
-fn number(x: &[Frac], column: u32) -> Frac
-    ensures { result ≡ number_at x.now column }
-{
-    match x.get(column as usize) {
-        Some(v) => *v,
-        None => Frac::whole(0),
-    }
-}
-
-// A total plus an entry's product.
-fn with_entry(total: Frac, entry: Entry, x: &[Frac]) -> Result<Frac, NoFit>
-    ensures { result ≡ step_answer x.now total entry }
-{
-    let product = entry.coefficient.mul(number(x, entry.column))?;
-    total.add(product)
-}
-
-// The value of a form, summed from the first entry on.
-fn sum(form: &[Entry], x: &[Frac]) -> Result<Frac, NoFit>
-    ensures { result ≡ sum_answer x.now zero_ℚ form.now }
-{
-    let mut total = Frac::whole(0);
-    for entry in form {
-        total = with_entry(total, *entry, x)?;
-    }
-    Ok(total)
-}
+use instance::{Column, Instance, Point, Row, meets, signed, sum};
 
 // The point is feasible.
 pub(crate) fn point_passes(problem: &Instance, point: Option<&Point>) -> Result<bool, NoFit>
@@ -56,7 +23,7 @@ fn form_value(problem: &Instance, x: &Point, value: Frac) -> Result<Option<Frac>
 {
     let linear = sum(problem.objective().as_slice(), x.as_slice())?;
     let total = linear.add(problem.constant())?;
-    if same(value, total) {
+    if value == total {
         Ok(Some(linear))
     } else {
         Ok(None)
@@ -90,8 +57,8 @@ fn goal_at(problem: &Instance, x: &Point, value: Option<Frac>) -> Result<Option<
 fn is_harmless(lower: Option<Frac>, upper: Option<Frac>, v: Frac) -> bool
     ensures { result ≡ (lies_above (bound_for true lower) v && lies_below (bound_for true upper) v) }
 {
-    let low = lower.is_none() || at_most(Frac::whole(0), v);
-    let high = upper.is_none() || at_most(v, Frac::whole(0));
+    let low = lower.is_none() || Frac::zero() <= v;
+    let high = upper.is_none() || v <= Frac::zero();
     low && high
 }
 
@@ -109,7 +76,7 @@ fn ray_columns(columns: &[Column], x: &[Frac]) -> bool
         if !is_harmless(column.lower(), column.upper(), v) {
             return false;
         }
-        if column.integer() && !is_whole(v) {
+        if column.integer() && !v.is_whole() {
             return false;
         }
         i += 1;
@@ -142,7 +109,7 @@ fn is_improving(problem: &Instance, ray: &Point) -> Result<bool, NoFit>
         return Ok(false);
     }
     let value = sum(problem.objective().as_slice(), x)?;
-    Ok(less(signed(problem.direction(), value), Frac::whole(0)))
+    Ok(signed(problem.direction(), value).is_negative())
 }
 
 // There is a ray, and it improves without end.

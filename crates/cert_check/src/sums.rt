@@ -1,7 +1,6 @@
 // What weights add up to.
 ghost use Rattle.std.specs.Prelude.{◌<◌, length, ◌≡◌, [], ◌∷◌};
 ghost use Rattle.rational.specs.Rational.{zero_ℚ, one_ℚ};
-ghost use Rattle.rational.specs.Compare.{is_less};
 ghost use Rattle.verdicts.specs.Proves.{bound_used};
 ghost use Rattle.certificate.specs.Written.{AreItemsFrom};
 ghost use Rattle.cert_check.specs.Sums.{with_product, bound_of, row_bound, derived_bound, are_there, all_there, with_bound, with_bounds, bound_sum, products, form_at, item_products, weight_products, with_products};
@@ -22,16 +21,10 @@ pub(crate) fn with_product(total: Frac, a: Frac, b: Frac) -> Result<Frac, NoFit>
     total.add(product)
 }
 
-fn is_positive(w: Frac) -> bool
-    ensures { result ≡ is_less zero_ℚ w }
-{
-    Frac::whole(0) < w
-}
-
 fn used(w: Frac, lower: Option<Frac>, upper: Option<Frac>) -> Option<Frac>
     ensures { result ≡ bound_used w lower upper }
 {
-    if is_positive(w) { lower } else { upper }
+    if w.is_positive() { lower } else { upper }
 }
 
 fn row_bound(setting: &Setting, item: Item) -> Option<Frac>
@@ -46,7 +39,7 @@ fn row_bound(setting: &Setting, item: Item) -> Option<Frac>
 fn column_bound(setting: &Setting, item: Item) -> Result<Option<Frac>, NoFit>
     ensures { result ≡ bound_of setting.now Kind.OfColumn item }
 {
-    if is_positive(item.weight) {
+    if item.weight.is_positive() {
         setting.lower(item.index)
     } else {
         Ok(setting.upper(item.index))
@@ -58,7 +51,7 @@ fn derived_bound(setting: &Setting, item: Item) -> Option<Frac>
 {
     match setting.derived().get(item.index as usize) {
         None => None,
-        Some(row) => if is_positive(item.weight) {
+        Some(row) => if item.weight.is_positive() {
             Some(row.bound())
         } else {
             None
@@ -172,17 +165,16 @@ fn with_rows(setting: &Setting, items: &[Item], column: u32, start: Frac) -> Res
     ensures { result ≡ with_products start (item_products (form_at setting.now Kind.OfRow) items.now column) }
 {
     let problem = setting.problem();
-    let _columns = problem.columns();
+    problem.keeps_its_limits();
     with_entries(start, problem.column_entries(column), items)
 }
 
 // A total plus the weights of a column.
-
 fn with_column(setting: &Setting, items: &[Item], column: u32, start: Frac) -> Result<Frac, NoFit>
     requires { AreItemsFrom 0 items.now }
     ensures { result ≡ with_products start (item_products (form_at setting.now Kind.OfColumn) items.now column) }
 {
-    with_index(start, items, column, Frac::whole(1))
+    with_index(start, items, column, Frac::one())
 }
 
 // A total plus a weight times the coefficient of a column in a derived row.

@@ -4,6 +4,7 @@ use Rattle.std.specs.declared.option.Option.{Option}
 use Rattle.milp.specs.Problem.{Problem}
 use Rattle.milp.specs.Points.{IsOptimal, Feasible, IsUnbounded, objective_value}
 use Rattle.rational.specs.Rational.{Rational}
+use Rattle.fraction.specs.Answers.{DoesNotFit}
 use Rattle.fraction.specs.declared.frac.NoFit.{NoFit}
 use Rattle.verdicts.specs.Certificate.{Certificate, Verdict}
 use Rattle.verdicts.specs.Certificate as kind
@@ -17,7 +18,7 @@ use Rattle.branch_solve.specs.Solved.{IsRoot}
 use Rattle.basis.specs.declared.Place.{Place}
 use Rattle.certificate.specs.Reading.{read_of}
 use Rattle.certificate.specs.declared.fault.CertFault.{CertFault}
-use Rattle.cert_check.specs.Outcome.{Fault, outcome, trials, part_of, DoesNotFit}
+use Rattle.cert_check.specs.Outcome.{Fault, outcome, trials, part_of}
 use Rattle.cert_check.specs.declared.part.Part.{Part}
 use Rattle.search_node.specs.declared.node.Node.{Node}
 use Rattle.outside.specs.Told.{Lacks, Has}

@@ -3,3 +3,4 @@ mod Sums
 mod Meeting
 mod ByColumn
 mod Directions
+pub mod Laws

@@ -1,6 +1,6 @@
 -- A well-formed problem stays so with one more column or row.
-use Rattle.std.proofs.Common.{◌≡◌, ◌∙◌, ℕ, ◌+◌, true, false, List, [], ◌∷◌, ◌++◌, length, nat_lt, refl, sym, ap, subst, arith}
-use Rattle.std.proofs.lemmas.Bool.{and_parts, and_from, not_from_false}
+use Rattle.std.proofs.Common.{◌≡◌, ◌∙◌, ℕ, ◌+◌, ◌<◌, ◌≤◌, true, false, List, [], ◌∷◌, ◌++◌, length, nat_lt, refl, sym, ap, subst, arith}
+use Rattle.std.proofs.lemmas.Bool.{and_parts, and_from, not_from_false, ltb-true, lt-ltb}
 use Rattle.std.proofs.lemmas.Bool.Decides.{nat_tests}
 use Rattle.std.proofs.lemmas.List.{append-nil, append_assoc}
 use Rattle.std.proofs.lemmas.List.Folds.{list_all-append}
@@ -13,16 +13,18 @@ pub length-snoc : {A : Type 0} → (xs : List A) (x : A) → length (xs ++ x ∷
 length-snoc [] x = refl
 length-snoc (y ∷ ys) x = let rest = length-snoc ys x in omega (arith, rest)
 
-below_next : (a n : ℕ) → nat_lt a n ≡ true → nat_lt a (n + 1) ≡ true
-below_next a n h = grind (arith, nat_tests)
-
-entries_more : (least n : ℕ) (es : List Entry) → are_entries_from least n es ≡ true → are_entries_from least (n + 1) es ≡ true
-entries_more least n [] h = refl
-entries_more least n (e ∷ es) h =
+-- entries in places below m are in places below a greater n
+pub entries_within : (least m n : ℕ) → m ≤ n → (es : List Entry) → are_entries_from least m es ≡ true → are_entries_from least n es ≡ true
+entries_within least m n le [] h = refl
+entries_within least m n le (e ∷ es) h =
     let low = and_parts _ _ h in
     let below = and_parts _ _ low.1 in
     let some = and_parts _ _ below.1 in
-    and_from _ _ low.0 (and_from _ _ (below_next e.column n below.0) (and_from _ _ some.0 (entries_more (e.column + 1) n es some.1)))
+    let within : e.column < m = ltb-true e.column m below.0 in
+    and_from _ _ low.0 (and_from _ _ (lt-ltb e.column n (omega arith)) (and_from _ _ some.0 (entries_within (e.column + 1) m n le es some.1)))
+
+entries_more : (least n : ℕ) (es : List Entry) → are_entries_from least n es ≡ true → are_entries_from least (n + 1) es ≡ true
+entries_more least n es h = entries_within least n (n + 1) (omega arith) es h
 
 rows_more : (n : ℕ) (rows : List Row) → list_all (λ (r : Row). are_entries n r.entries) rows ≡ true → list_all (λ (r : Row). are_entries (n + 1) r.entries) rows ≡ true
 rows_more n [] h = refl

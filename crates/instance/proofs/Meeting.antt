@@ -15,11 +15,11 @@ use Rattle.instance.specs.Sums.{rows_answer, meets_answer}
 use Rattle.instance.proofs.Sums.{then_sum}
 
 -- a test, and then what answers the rest
-and_rest : (t b : Bool) (rest : Result Bool NoFit) → IfOk rest (λ c. c ≡ b) → IfOk (cond t rest (Ok false)) (λ c. c ≡ (t && b))
+pub and_rest : (t b : Bool) (rest : Result Bool NoFit) → IfOk rest (λ c. c ≡ b) → IfOk (cond t rest (Ok false)) (λ c. c ≡ (t && b))
 and_rest true b rest h = h
 and_rest false b rest h = refl
 
-rows_ok : (x : List Rational) (rows : List Row) → IfOk (rows_answer x rows) (λ b. b ≡ meets_rows false rows x)
+pub rows_ok : (x : List Rational) (rows : List Row) → IfOk (rows_answer x rows) (λ b. b ≡ meets_rows false rows x)
 rows_ok x [] = refl
 rows_ok x (r ∷ rs) =
     let met : Rational → Bool = λ v. lies_above r.lower v && lies_below r.upper v in
