@@ -2,8 +2,9 @@
 use Rattle.std.proofs.Common.{◌≡◌, ◌∙◌, ℕ, zero, suc, Some, None, ◌+◌, ◌<◌, ◌≤◌, ◌==◌, ◌&&◌, nat_le, nat_lt, not, true, false, length, get_or, drop, add-one, List, [], ◌∷◌, refl, sym, ap, subst, arith}
 use mathlib.Core.Path.{ap₂}
 use Rattle.std.proofs.Math.Decide.{ℕ_discrete}
-use Rattle.std.proofs.lemmas.Bool.{and_parts}
+use Rattle.std.proofs.lemmas.Bool.{and_parts, leb-true, eq-eqb}
 use Rattle.std.proofs.lemmas.Bool.Decides.{nat_tests}
+use Rattle.std.proofs.lemmas.Option.{same_Some}
 use Rattle.rational.specs.Rational.{Rational, zero_ℚ}
 use Rattle.rational.proofs.Laws as Q
 use Rattle.milp.specs.Form.{Entry}
@@ -14,9 +15,6 @@ use Rattle.cert_check.specs.Sums.{products}
 use Rattle.cert_check.specs.Lookup.{entry_at}
 use Rattle.cert_check.specs.Parts.{ascending}
 use Rattle.cert_check.proofs.Products.{next}
-
-pub from_test : (a b : ℕ) → nat_le a b ≡ true → a ≤ b
-from_test a b h = grind (arith, nat_tests)
 
 pub entries_ascend : (least n : ℕ) (es : List Entry) → are_entries_from least n es ≡ true → ascending least es ≡ true
 entries_ascend least n [] h = refl
@@ -34,7 +32,7 @@ before : (least : ℕ) (es : List Entry) (j : ℕ) → ascending least es ≡ tr
 before least [] j h k = refl
 before least (e ∷ es) j h k =
     let parts = and_parts (nat_le least e.column) (ascending (e.column + 1) es) h in
-    let low : least ≤ e.column = from_test least e.column parts.0 in
+    let low : least ≤ e.column = leb-true least e.column parts.0 in
     let rest : coefficient_of es j ≡ zero_ℚ = before (e.column + 1) es j parts.1 (omega arith) in
     rw (other j e.column (omega arith), rest) (Q.add-zero zero_ℚ)
 
@@ -47,9 +45,6 @@ rest_ascends least (f ∷ fs) (suc i) e h k is =
     let parts = and_parts (nat_le least f.column) (ascending (f.column + 1) fs) h in
     rest_ascends (f.column + 1) fs i e parts.1 (omega arith) is
 
-self : (a b : ℕ) → a ≡ b → (a == b) ≡ true
-self a b h = grind (arith, nat_tests)
-
 -- one entry of another column less
 not_here : (e : Entry) (es : List Entry) (j : ℕ) → ¬ (e.column ≡ j) → entry_at (e ∷ es) j ≡ entry_at es j
 not_here e es j h = let it : (e.column == j) ≡ false = grind (arith, nat_tests) in rw it refl
@@ -58,11 +53,11 @@ column_from : (least : ℕ) (es : List Entry) (n : ℕ) (x : Entry) → ascendin
 column_from least [] n x h small is = absurd (omega arith)
 column_from least (e ∷ es) zero x h small is =
     let parts = and_parts (nat_le least e.column) (ascending (e.column + 1) es) h in
-    subst (λ (y : Entry). least ≤ y.column) (sym is) (from_test least e.column parts.0)
+    subst (λ (y : Entry). least ≤ y.column) (sym is) (leb-true least e.column parts.0)
 column_from least (e ∷ es) (suc n) x h small is =
     let parts = and_parts (nat_le least e.column) (ascending (e.column + 1) es) h in
     let rest : e.column + 1 ≤ x.column = column_from (e.column + 1) es n x parts.1 (omega arith) is in
-    omega (arith, rest, from_test least e.column parts.0)
+    omega (arith, rest, leb-true least e.column parts.0)
 
 skipped : (least : ℕ) (es : List Entry) (n : ℕ) (x : Entry) (j : ℕ) → ascending least es ≡ true → n < length es → x ≡ get_or es n x → x.column < j → entry_at (drop (suc n) es) j ≡ entry_at es j
 skipped least [] n x j h small is low = absurd (omega arith)
@@ -79,7 +74,7 @@ none_before : (least : ℕ) (es : List Entry) (j : ℕ) → ascending least es �
 none_before least [] j h k = (refl, λ w. refl)
 none_before least (e ∷ es) j h k =
     let parts = and_parts (nat_le least e.column) (ascending (e.column + 1) es) h in
-    let low : least ≤ e.column = from_test least e.column parts.0 in
+    let low : least ≤ e.column = leb-true least e.column parts.0 in
     let rest = none_before (e.column + 1) es j parts.1 (omega arith) in
     let not_it : (e.column == j) ≡ false = other j e.column (omega arith) in
     (rw not_it rest.0, λ w. rw not_it (rest.1 w))
@@ -96,8 +91,8 @@ found least (f ∷ es) j c h e =
     let parts = and_parts (nat_le least f.column) (ascending (f.column + 1) es) h in
     elim (ℕ_discrete f.column j) [
       | yes q ↦
-          let it : (f.column == j) ≡ true = self f.column j q in
-          let same : f.coefficient ≡ c = some_same f.coefficient c (rw it at e) in
+          let it : (f.column == j) ≡ true = eq-eqb f.column j q in
+          let same : f.coefficient ≡ c = same_Some f.coefficient c (rw it at e) in
           let none = none_before (f.column + 1) es j parts.1 (omega arith) in
           let rest : coefficient_of es j ≡ zero_ℚ = before (f.column + 1) es j parts.1 (omega arith) in
           (rw (it, rest) (Q.add-zero f.coefficient ∙ same), λ w. rw it (ap₂ (λ c ps. record { weight = w; factor = c } ∷ ps) same (none.1 w)))
@@ -106,14 +101,11 @@ found least (f ∷ es) j c h e =
           let rest = found (f.column + 1) es j c parts.1 (rw it at e) in
           (rw it (Q.zero-add (coefficient_of es j) ∙ rest.0), λ w. rw it (rest.1 w))
     ]
-  where
-    some_same : (a b : Rational) → Some a ≡ Some b → a ≡ b
-    some_same a b e = cc
 
 missing : (es : List Entry) (j : ℕ) → entry_at es j ≡ None → (coefficient_of es j ≡ zero_ℚ) × ((w : Rational) → products w es j ≡ [])
 missing [] j e = (refl, λ w. refl)
 missing (f ∷ es) j e = elim (ℕ_discrete f.column j) [
-  | yes q ↦ let it : (f.column == j) ≡ true = self f.column j q in absurd (not_none f.coefficient (rw it at e))
+  | yes q ↦ let it : (f.column == j) ≡ true = eq-eqb f.column j q in absurd (not_none f.coefficient (rw it at e))
   | no d ↦
       let it : (f.column == j) ≡ false = grind (arith, nat_tests) in
       let rest = missing es j (rw it at e) in

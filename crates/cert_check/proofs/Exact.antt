@@ -4,6 +4,7 @@ use Rattle.std.specs.Prelude.{ℤ, pos, ◌+ℤ◌, option_and_then}
 use mathlib.Core.Path.{ap₂}
 use Rattle.std.proofs.lemmas.Bool.{and_left, and_right}
 use Rattle.std.proofs.Math.Decide.{ℕ_discrete}
+use Rattle.std.proofs.lemmas.Option.{same_Some}
 use Rattle.rational.specs.Rational.{Rational, zero_ℚ, one_ℚ, whole, ◌+ℚ◌, ◌*ℚ◌}
 use Rattle.rational.proofs.Laws as Q
 use Rattle.milp.specs.Form.{Entry}
@@ -181,9 +182,6 @@ record Begins (s : Setting) (kind : Kind) (items : List Item) (rest : Option (Li
   more : rest ≡ Some us
   whole : all ≡ ts ++ us
 
-some_same : {A : Type 0} → (a b : A) → Some a ≡ Some b → a ≡ b
-some_same a b e = cc
-
 taken : (s : Setting) (kind : Kind) (items : List Item) (rest : Option (List Weighted)) (all : List Weighted) → gathered (term_of s kind) items rest ≡ Some all → Begins s kind items rest all
 unfolding AreTerms
 taken s kind [] rest all e = record { ts = []; us = all; terms = tt; more = e; whole = refl }
@@ -194,7 +192,7 @@ taken s kind (i ∷ is) rest all e = go (term_of s kind i) refl (gathered (term_
     go (Some t) h None k e = cc
     go (Some t) h (Some rs) k e =
         let tail = k rs refl in
-        record { ts = t ∷ tail.ts; us = tail.us; terms = (h, tail.terms); more = tail.more; whole = sym (some_same (t ∷ rs) all e) ∙ ap (λ xs. t ∷ xs) tail.whole }
+        record { ts = t ∷ tail.ts; us = tail.us; terms = (h, tail.terms); more = tail.more; whole = sym (same_Some (t ∷ rs) all e) ∙ ap (λ xs. t ∷ xs) tail.whole }
 
 -- ---- R
 
@@ -210,7 +208,7 @@ term_parts s kind i t e = go (exact_bound s kind i) refl (sym (term_is s kind i)
     go : (o : Option Rational) → exact_bound s kind i ≡ o → term i.weight (form_at s kind i.index) o ≡ Some t → IsTerm s kind i t
     go None h k = cc
     go (Some b) h k =
-        let same = some_same (record { weight = i.weight; form = form_at s kind i.index; bound = b }) t k in
+        let same = same_Some (record { weight = i.weight; form = form_at s kind i.index; bound = b }) t k in
         record { weight = sym (ap (λ (t : Weighted). t.weight) same); form = sym (ap (λ (t : Weighted). t.form) same); bound = h ∙ ap (λ (t : Weighted). Some t.bound) same }
 
 bounds_ok : (s : Setting) (kind : Kind) (items : List Item) (ts : List Weighted) (total : Rational) → AreTerms s kind items ts → IfOk (with_bounds (bound_of s kind) total items) (λ v. v ≡ total +ℚ combined_bound ts)
@@ -226,7 +224,7 @@ bounds_ok s kind (i ∷ is) (t ∷ ts) total h =
     at_bound : (o : Option Rational) → o ≡ Some t.bound → t.weight ≡ i.weight → ((total : Rational) → IfOk (with_bounds (bound_of s kind) total is) (λ v. v ≡ total +ℚ combined_bound ts)) → IfOk (and_then (with_bound total i.weight o) (λ t. with_bounds (bound_of s kind) t is)) (λ v. v ≡ total +ℚ combined_bound (t ∷ ts))
     at_bound None e w k = cc
     at_bound (Some b) e w k =
-        let same : b ≡ t.bound = some_same b t.bound e in
+        let same : b ≡ t.bound = same_Some b t.bound e in
         ok_then (with_product total i.weight b) (λ t. with_bounds (bound_of s kind) t is) (λ v. v ≡ total +ℚ i.weight *ℚ b) (λ v. v ≡ total +ℚ combined_bound (t ∷ ts)) (product_ok total i.weight b)
         (λ v e. if_ok (with_bounds (bound_of s kind) v is) (v +ℚ combined_bound ts) (total +ℚ combined_bound (t ∷ ts)) (k v)
         (ap (λ v. v +ℚ combined_bound ts) (e ∙ ap₂ (λ w b. total +ℚ w *ℚ b) (sym w) same) ∙ Q.add_assoc total (t.weight *ℚ t.bound) (combined_bound ts)))
@@ -254,7 +252,7 @@ parted s w all e =
     let first = taken s OfRow w.rows more all e in
     let second = taken s OfColumn w.columns derived first.us first.more in
     let third = taken s OfDerived w.derived none second.us second.more in
-    let last : second.us ≡ third.ts = third.whole ∙ ap (λ us. third.ts ++ us) (sym (some_same [] third.us third.more)) ∙ append-nil third.ts in
+    let last : second.us ≡ third.ts = third.whole ∙ ap (λ us. third.ts ++ us) (sym (same_Some [] third.us third.more)) ∙ append-nil third.ts in
     record { rows = first.ts; columns = second.ts; derived = third.ts; are_rows = first.terms; are_columns = second.terms; are_derived = third.terms; whole = first.whole ∙ ap (λ us. first.ts ++ us) (second.whole ∙ ap (λ us. second.ts ++ us) last) }
 
 pub bound_sum_ok : (s : Setting) (w : Weights) (all : List Weighted) (total : Rational) → terms s.problem s.derived s.sides w ≡ Some all → IfOk (bound_sum s total w) (λ v. v ≡ total +ℚ combined_bound all)

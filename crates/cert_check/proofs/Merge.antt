@@ -2,7 +2,7 @@
 use Rattle.std.proofs.Common.{◌≡◌, ◌∙◌, ℕ, suc, ◌+◌, ◌-◌, ◌*◌, ◌<◌, ◌≤◌, ◌==◌, nat_le, Bool, true, false, if◌then◌else◌, length, slice_get, get_or, drop, Result, Ok, Err, List, [], ◌∷◌, ◌++◌, append_assoc, refl, sym, ap, arith}
 use mathlib.Core.Path.{ap₂}
 use Rattle.std.proofs.Math.Decide.{ℕ_discrete}
-use Rattle.std.proofs.lemmas.Bool.{and_parts}
+use Rattle.std.proofs.lemmas.Bool.{and_parts, eq-eqb, leb-true}
 use Rattle.std.proofs.lemmas.Bool.Decides.{nat_tests}
 use Rattle.std.specs.List.{list_all}
 use Rattle.rational.specs.Rational.{Rational, one_ℚ}
@@ -20,15 +20,12 @@ use Rattle.cert_check.specs.Sums.{products, item_products, form_at, with_product
 use Rattle.cert_check.specs.declared.kind.Kind.TheVariants.{OfColumn}
 use Rattle.cert_check.specs.Lookup.{at_index, at_entries}
 use Rattle.cert_check.specs.Parts.{ascending}
-use Rattle.cert_check.proofs.Ascending.{entries_ascend, from_test}
+use Rattle.cert_check.proofs.Ascending.{entries_ascend}
 use Rattle.cert_check.proofs.Products.{next, products_then}
 use Rattle.cert_check.proofs.ItemOrder.{least_place, greatest_place, other, not_here, none_left}
 
-self : (a b : ℕ) → a ≡ b → (a == b) ≡ true
-self a b h = grind (arith, nat_tests)
-
 here : (i : Item) (is : List Item) (index : ℕ) (factor : Rational) → i.index ≡ index → at_index (i ∷ is) index factor ≡ record { weight = i.weight; factor = factor } ∷ at_index is index factor
-here i is index factor h = rw (self i.index index h) refl
+here i is index factor h = rw (eq-eqb i.index index h) refl
 
 entries-append : (xs ys : List ColumnEntry) (items : List Item) → at_entries (xs ++ ys) items ≡ at_entries xs items ++ at_entries ys items
 entries-append [] ys items = refl
@@ -45,7 +42,7 @@ none_in : (row least : ℕ) (es : List Entry) (j : ℕ) → ascending least es �
 none_in row least [] j h k = (refl, λ w. refl)
 none_in row least (e ∷ es) j h k =
     let parts = and_parts (nat_le least e.column) (ascending (e.column + 1) es) h in
-    let low : least ≤ e.column = from_test least e.column parts.0 in
+    let low : least ≤ e.column = leb-true least e.column parts.0 in
     let rest = none_in row (e.column + 1) es j parts.1 (omega arith) in
     let not_it : (e.column == j) ≡ false = other e.column j (λ q. absurd (omega arith)) in
     (rw not_it rest.0, λ w. rw not_it (rest.1 w))
@@ -57,7 +54,7 @@ at_most_one row least (e ∷ es) j h =
     elim (ℕ_discrete e.column j) [
       | yes q ↦
           let none = none_in row (e.column + 1) es j parts.1 (omega arith) in
-          let it : (e.column == j) ≡ true = self e.column j q in
+          let it : (e.column == j) ≡ true = eq-eqb e.column j q in
           OneEntry e.coefficient (rw it (ap (λ xs. record { row = row; coefficient = e.coefficient } ∷ xs) none.0)) (λ w. rw it (ap (λ xs. record { weight = w; factor = e.coefficient } ∷ xs) (none.1 w)))
       | no d ↦
           let not_it : (e.column == j) ≡ false = other e.column j d in
@@ -78,7 +75,7 @@ later_from : (row least : ℕ) (items : List Item) → 2 * row ≤ least → Are
 unfolding later
 later_from row least [] low h = tt
 later_from row least (i ∷ is) low h = elim (ℕ_discrete i.index row) [
-  | yes q ↦ rw (self i.index row q) (later_from row (place_of i + 1) is (omega (arith, low, h.0)) h.2)
+  | yes q ↦ rw (eq-eqb i.index row q) (later_from row (place_of i + 1) is (omega (arith, low, h.0)) h.2)
   | no d ↦ rw (other i.index row d) (omega (arith, low, h.0, greatest_place i, least_place i, d), h.1, h.2)
 ]
 
@@ -87,7 +84,7 @@ later_index : (row index : ℕ) (items : List Item) (factor : Rational) → row 
 unfolding later
 later_index row index [] factor h = refl
 later_index row index (i ∷ is) factor h = elim (ℕ_discrete i.index row) [
-  | yes q ↦ rw (self i.index row q) (later_index row index is factor h ∙ sym (not_here i is index factor (λ k. absurd (omega (arith, h, q, k)))))
+  | yes q ↦ rw (eq-eqb i.index row q) (later_index row index is factor h ∙ sym (not_here i is index factor (λ k. absurd (omega (arith, h, q, k)))))
   | no d ↦ rw (other i.index row d) refl
 ]
 
@@ -112,7 +109,7 @@ one_row : (f : ℕ → List Entry) (row least : ℕ) (items : List Item) (j : �
 unfolding later
 one_row f row least [] j c low h one = refl
 one_row f row least (i ∷ is) j c low h one = elim (ℕ_discrete i.index row) [
-  | yes q ↦ rw (self i.index row q) (ap (λ ps. record { weight = i.weight; factor = c } ∷ ps) (one_row f row (place_of i + 1) is j c (omega (arith, low, h.0)) h.2 one) ∙ ap (λ ps. ps ++ item_products f is j) (sym (ap (λ n. products i.weight (f n) j) q ∙ one i.weight)))
+  | yes q ↦ rw (eq-eqb i.index row q) (ap (λ ps. record { weight = i.weight; factor = c } ∷ ps) (one_row f row (place_of i + 1) is j c (omega (arith, low, h.0)) h.2 one) ∙ ap (λ ps. ps ++ item_products f is j) (sym (ap (λ n. products i.weight (f n) j) q ∙ one i.weight)))
   | no d ↦ rw (other i.index row d) (ap (λ ps. ps ++ item_products f (i ∷ is) j) (none_left (place_of i + 1) is row c h.2 (omega (arith, low, h.0, greatest_place i, least_place i, d))))
 ]
 
@@ -120,7 +117,7 @@ no_row : (f : ℕ → List Entry) (row : ℕ) (items : List Item) (j : ℕ) → 
 unfolding later
 no_row f row [] j none = refl
 no_row f row (i ∷ is) j none = elim (ℕ_discrete i.index row) [
-  | yes q ↦ rw (self i.index row q) (no_row f row is j none ∙ ap (λ ps. ps ++ item_products f is j) (sym (ap (λ n. products i.weight (f n) j) q ∙ none i.weight)))
+  | yes q ↦ rw (eq-eqb i.index row q) (no_row f row is j none ∙ ap (λ ps. ps ++ item_products f is j) (sym (ap (λ n. products i.weight (f n) j) q ∙ none i.weight)))
   | no d ↦ rw (other i.index row d) refl
 ]
 

@@ -124,8 +124,7 @@ fn is_split(problem: &Instance, split: &FormSplit) -> bool
     ensures { result ≡ (is_whole_form problem.now split.now.form && (is_at_most zero_ℚ split.now.low && is_at_most zero_ℚ split.now.high)) }
 {
     let zero = Frac::zero();
-    is_whole_form(problem, split.form().as_slice())
-        && (zero <= split.low() && zero <= split.high())
+    is_whole_form(problem, split.form().as_slice()) && (zero <= split.low() && zero <= split.high())
 }
 
 // Weights show that the form is at least the bound.

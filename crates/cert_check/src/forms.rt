@@ -49,7 +49,9 @@ pub(crate) fn is_form(
     requires { IsTrue (ascending 0 wanted.now) }
     ensures { result ≡ are_forms (weight_products setting.now weights.now) (λ j. signed_by sign (coefficient_of wanted.now j)) 0 setting.now.problem.columns }
 {
-    let columns = setting.problem().columns();
+    let problem = setting.problem();
+    problem.keeps_its_limits();
+    let columns = problem.columns();
     for (j, _) in columns.iter().enumerate() {
         let sum = column_sum(setting, weights, j as u32, Frac::zero())?;
         if sum != wanted_at(wanted, sign, j as u32) {
@@ -127,7 +129,9 @@ pub(crate) fn is_side_form(
     requires { IsTrue (ascending 0 wanted.now) }
     ensures { result ≡ are_forms (λ j. side_products split.now side j ++ weight_products setting.now (side_weights split.now side) j) (coefficient_of wanted.now) 0 setting.now.problem.columns }
 {
-    let columns = setting.problem().columns();
+    let problem = setting.problem();
+    problem.keeps_its_limits();
+    let columns = problem.columns();
     for (j, _) in columns.iter().enumerate() {
         let sum = side_column_sum(setting, split, side, j as u32)?;
         if sum != coefficient(wanted, j as u32) {

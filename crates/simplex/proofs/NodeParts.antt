@@ -2,7 +2,7 @@
 use Rattle.std.proofs.Common.{◌≡◌, ◌∙◌, ℕ, zero, suc, ◌+◌, ◌<◌, ◌≤◌, ◌&&◌, nat_le, nat_lt, not, List, [], ◌∷◌, ◌++◌, length, map, drop, refl, sym, ap, arith, true, Option, Some, IfSome, slice_get}
 use Rattle.std.specs.Prelude.{negsuc, option_and_then}
 use Rattle.std.specs.List.{list_all, AllByRecursion}
-use Rattle.std.proofs.lemmas.Bool.{and_parts}
+use Rattle.std.proofs.lemmas.Bool.{and_parts, leb-true}
 use Rattle.std.proofs.lemmas.Bool.Decides.{nat_tests}
 use Rattle.std.proofs.lemmas.List.{drop_all}
 use Rattle.rational.specs.Rational.{Rational, one_ℚ, whole, neg_ℚ, ◌*ℚ◌}
@@ -22,12 +22,6 @@ use Rattle.basis.specs.System.{Bounds}
 use Rattle.basis.specs.Node.{column_bounds, row_bounds, derived_bounds, system_of}
 use Rattle.simplex.specs.Ascending.{IsAscending, AreAscending}
 use Rattle.simplex.specs.Bounds as B
-
-pub least : (a : Rational) → a ≡ one_ℚ *ℚ a
-least a = sym (Q.one-mul a)
-
-pub greatest : (a : Rational) → neg_ℚ a ≡ whole (negsuc 0) *ℚ a
-greatest a = sym (minus_one-mul a)
 
 -- ---- its parts
 
@@ -59,16 +53,13 @@ is_made p ds sides columns form direction rows more forms bounds objective a b c
 
 -- ---- its forms are ascending
 
-least_test : (a b : ℕ) → nat_le a b ≡ true → a ≤ b
-least_test a b h = grind (arith, nat_tests)
-
 ascending : (n least : ℕ) (form : List Entry) → are_entries_from least n form ≡ true → IsAscending least form
 ascending n least [] h = tt
 ascending n least (e ∷ es) h =
     let low = and_parts (nat_le least e.column) (nat_lt e.column n && (not (is_zero e.coefficient) && are_entries_from (e.column + 1) n es)) h in
     let column = and_parts (nat_lt e.column n) (not (is_zero e.coefficient) && are_entries_from (e.column + 1) n es) low.1 in
     let rest = and_parts (not (is_zero e.coefficient)) (are_entries_from (e.column + 1) n es) column.1 in
-    (least_test least e.column low.0, ascending n (e.column + 1) es rest.1)
+    (leb-true least e.column low.0, ascending n (e.column + 1) es rest.1)
 
 scaled_ascending : (w : Rational) (least : ℕ) (form : List Entry) → IsAscending least form → IsAscending least (scaled w form)
 scaled_ascending w least [] h = tt

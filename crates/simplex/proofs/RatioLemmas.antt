@@ -2,6 +2,7 @@
 use Rattle.std.proofs.Common.{◌≡◌, ◌∙◌, ℕ, ◌+◌, ◌<◌, List, refl, sym, ap, subst, arith, Bool, true, false, cond, ◌==◌, Option, Some, None, slice_get, ◌⊎◌, inl, inr, if◌then◌else◌}
 use Rattle.std.specs.Prelude.{pos, option_map, Result, Ok, Err, IfOk}
 use Rattle.std.proofs.Math.Decide.{ℕ_discrete}
+use Rattle.std.proofs.lemmas.Option.{same_Some}
 use Rattle.rational.specs.Rational.{Rational, zero_ℚ, inv_ℚ, neg_ℚ, ◌+ℚ◌, ◌-ℚ◌, ◌*ℚ◌, ◌/ℚ◌, ◌≤ℚ◌, ◌<ℚ◌}
 use Rattle.rational.proofs.Laws as Q
 use Rattle.milp.specs.Form.{number_at}
@@ -114,9 +115,6 @@ ahead_none s v b c e h bound = go (is_less zero_ℚ c) refl (is_less c zero_ℚ)
     go false k true l m AtLower w = clash _ (lower_at s v b e ∙ placed_none AtLower b.lower m) w.1
     go false k false l m AtLower w = Q.lt-not-le c zero_ℚ w.0 (less_false c zero_ℚ l)
 
-same_some : (a b : Rational) → Some a ≡ Some b → a ≡ b
-same_some a b k = cc
-
 ahead_same : (s : System) (v : ℕ) (c a b : Rational) (p o : Place) → IsAhead s v c a p → IsAhead s v c b o → a ≡ b
 ahead_same s v c a b Basic o h k = absurd h
 ahead_same s v c a b AtZero o h k = absurd h
@@ -124,8 +122,8 @@ ahead_same s v c a b AtLower Basic h k = absurd k
 ahead_same s v c a b AtLower AtZero h k = absurd k
 ahead_same s v c a b AtUpper Basic h k = absurd k
 ahead_same s v c a b AtUpper AtZero h k = absurd k
-ahead_same s v c a b AtLower AtLower h k = same_some a b (sym h.1 ∙ k.1)
-ahead_same s v c a b AtUpper AtUpper h k = same_some a b (sym h.1 ∙ k.1)
+ahead_same s v c a b AtLower AtLower h k = same_Some a b (sym h.1 ∙ k.1)
+ahead_same s v c a b AtUpper AtUpper h k = same_Some a b (sym h.1 ∙ k.1)
 ahead_same s v c a b AtLower AtUpper h k = absurd (Q.lt-not-le c zero_ℚ h.0 (Q.le_of_lt _ _ k.0))
 ahead_same s v c a b AtUpper AtLower h k = absurd (Q.lt-not-le c zero_ℚ k.0 (Q.le_of_lt _ _ h.0))
 

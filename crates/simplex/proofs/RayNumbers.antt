@@ -12,7 +12,8 @@ use Rattle.rational.specs.Denominators.{common_denominator}
 use Rattle.basis.specs.Weights.{numbers_from}
 use Rattle.basis.proofs.Laws.{length-numbers, numbers-below}
 use Rattle.fraction.specs.declared.frac.NoFit.{NoFit}
-use Rattle.simplex.specs.Rays.{IsFault, IsDenominatorFault, IsProduct, IsProductFault, IsRayFault, AreScaled, numbers_to_be_whole, denominator_of, whole_ray}
+use Rattle.fraction.specs.Denominators.{IsDenominatorFault}
+use Rattle.simplex.specs.Rays.{IsFault, IsProduct, IsProductFault, IsRayFault, AreScaled, numbers_to_be_whole, denominator_of, whole_ray}
 use Rattle.simplex.specs.declared.fault.Fault.{Fault}
 use Rattle.simplex.specs.declared.fault.Fault.TheVariants as F
 use Rattle.simplex.proofs.PointNumbers.{first_numbers, one_more_number, numbers_alike}

@@ -2,7 +2,7 @@
 use Rattle.std.proofs.Common.{◌≡◌, ◌∙◌, ℕ, zero, suc, ◌+◌, ◌<◌, ◌≤◌, List, [], ◌∷◌, ◌++◌, length, get_or, set, refl, sym, ap, subst, arith, Option, Some, IfSome, slice_get}
 use Rattle.std.specs.Prelude.{option_and_then}
 use mathlib.Core.Path.{ap₂}
-use Rattle.std.proofs.lemmas.List.{length-set, get_or-set_same, get_or-set_other, length-append, get_or_append_left, get_or-append-add}
+use Rattle.std.proofs.lemmas.List.{length-set, get_or-set_same, get_or-set_other, length-append, get_or_append_left, get_or-append-add, get_or_default}
 use Rattle.std.proofs.lemmas.Option.{slice_get-get_or}
 use Rattle.std.proofs.Math.Decide.{ℕ_discrete}
 use Rattle.rational.specs.Rational.{Rational, zero_ℚ, ◌*ℚ◌}
@@ -101,13 +101,8 @@ start_fault s values n k form e h n_is l f (same, all) fault = record {
 
 -- ---- the form that was read
 
-other_default : {X : Type 0} (xs : List X) (i : ℕ) (a b : X) → i < length xs → get_or xs i a ≡ get_or xs i b
-other_default [] i a b h = absurd (omega arith)
-other_default (x ∷ xs) zero a b h = refl
-other_default (x ∷ xs) (suc i) a b h = other_default xs i a b (omega arith)
-
 pub form_read : (s : System) (forms : List (List Entry)) (k : ℕ) (form r : List Entry) → forms ≡ s.forms → k < length forms → form ≡ r → r ≡ get_or forms k r → form ≡ get_or s.forms k []
-form_read s forms k form r e h f is = f ∙ is ∙ other_default forms k r [] h ∙ ap (λ fs. get_or fs k []) e
+form_read s forms k form r e h f is = f ∙ is ∙ get_or_default forms k r [] h ∙ ap (λ fs. get_or fs k []) e
 
 pub form_known : (s : System) (forms : List (List Entry)) (k : ℕ) → forms ≡ s.forms → k < length forms → k < length s.forms
 form_known s forms k e h = let P : List (List Entry) → Type 0 = λ fs. k < length fs in subst P e h

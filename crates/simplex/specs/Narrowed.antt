@@ -5,7 +5,7 @@ use Rattle.verdicts.specs.Certificate.{Side, Low, High}
 use Rattle.verdicts.specs.Proves.{lesser, greater}
 use Rattle.basis.specs.System.{Bounds}
 use Rattle.basis.specs.Numbers.{at_of}
-use Rattle.fraction.specs.Answers.{result_fits}
+use Rattle.fraction.specs.Answers.{DoesNotFit}
 use Rattle.fraction.specs.declared.frac.NoFit.{NoFit}
 use Rattle.search_node.specs.declared.node.SplitTaken.{SplitTaken}
 
@@ -28,7 +28,7 @@ AreOnColumns n taken = (k : ℕ) → IfSome (slice_get taken k) (λ t. t.split.c
 pub record IsNextFault (a : Rational) (f : NoFit) : Type 0 where
   pub left : f.a ≡ a
   pub right : f.b ≡ one_ℚ
-  pub not_fit : result_fits f ≡ false
+  pub not_fit : DoesNotFit f
 
 -- f is the sum of the number at which a side's split is and 1, and does not fit
 abbrev pub IsSplitFault : Side → NoFit → Type 0

@@ -8,7 +8,7 @@ use Rattle.basis.specs.Dictionary.{IsBasic, rate_of}
 use Rattle.basis.specs.Bland.{Reaches, IsFirst, ReachesNone}
 use Rattle.basis.specs.Pivots.{IsLengthOperation}
 use Rattle.fraction.specs.Fits.{sum_fits}
-use Rattle.fraction.specs.Answers.{result_fits}
+use Rattle.fraction.specs.Answers.{DoesNotFit}
 use Rattle.fraction.specs.declared.frac.Op.TheVariants.{Sub}
 use Rattle.fraction.specs.declared.frac.NoFit.{NoFit}
 use Rattle.simplex.specs.Rows.{IsQuotient}
@@ -39,7 +39,7 @@ pub record IsReach (s : System) (x r : ℕ → Rational) (v : ℕ) (t : Rational
 -- e is an operation that finds the length of a step, and does not fit
 pub record IsLengthFault (s : System) (x : List Rational) (t : Table) (q : ℕ) (e : NoFit) : Type 0 where
   pub operation : IsLengthOperation s t.places (number_at x) (dictionary_of t) q e.a e.b
-  pub not_fit : result_fits e ≡ false
+  pub not_fit : DoesNotFit e
 
 -- e is the way from x to the bound, or the quotient of this way by the rate of the basic variable v, and does not fit
 pub data IsStepFault (t : Table) (q v : ℕ) (x bound : Rational) (e : NoFit) : Type 0 where

@@ -7,7 +7,7 @@ use Rattle.verdicts.specs.Proves.{is_integer}
 use Rattle.rational.specs.Denominators.{prefix_denominator}
 use Rattle.rational.specs.Denominators.{common_denominator}
 use Rattle.basis.specs.Weights.{numbers_from}
-use Rattle.fraction.specs.Answers.{result_fits}
+use Rattle.fraction.specs.Answers.{DoesNotFit}
 use Rattle.fraction.specs.declared.frac.NoFit.{NoFit}
 use Rattle.simplex.specs.declared.fault.Fault.{Fault}
 use Rattle.simplex.specs.declared.fault.Fault.TheVariants as F
@@ -16,19 +16,6 @@ use Rattle.simplex.specs.declared.fault.Fault.TheVariants as F
 abbrev pub IsFault : (NoFit → Type 0) → Fault → Type 0
 IsFault P (F.NoFit f) = P f
 IsFault P F.NoMemory = Unit {0}
-
--- f is the sum of 1 / m and 1 / d, and does not fit
-pub record IsShareFault (m d : ℕ) (f : NoFit) : Type 0 where
-  pub left : f.a ≡ over (pos 1) m
-  pub right : f.b ≡ over (pos 1) d
-  pub not_fit : result_fits f ≡ false
-
--- f is the sum of 1 over the common denominator of the first numbers and 1 over the next number's, and does not fit
-pub record IsDenominatorFault (numbers : List Rational) (f : NoFit) : Type 0 where
-  pub index : ℕ
-  pub number : Rational
-  pub is_number : slice_get numbers index ≡ Some number
-  pub fault : IsShareFault (prefix_denominator numbers index) number.denominator f
 
 -- the numbers on the columns that are to be whole, and 0 for the others
 abbrev pub numbers_to_be_whole : List Column → (ℕ → Rational) → List Rational
@@ -51,7 +38,7 @@ pub record AreScaled (old : List Rational) (b : Rational) (new : List Rational) 
 pub record IsProduct (a b : Rational) (f : NoFit) : Type 0 where
   pub left : f.a ≡ a
   pub right : f.b ≡ b
-  pub not_fit : result_fits f ≡ false
+  pub not_fit : DoesNotFit f
 
 -- f is such a product of one of the numbers, and does not fit
 pub record IsProductFault (old : List Rational) (b : Rational) (f : NoFit) : Type 0 where

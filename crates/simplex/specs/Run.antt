@@ -7,7 +7,7 @@ use Rattle.basis.specs.Dictionary.{IsDictionary, IsBasicPoint}
 use Rattle.basis.specs.Bland.{IsRun, IsOptimalBasis, IsPivotLimit}
 use Rattle.basis.specs.Relaxation.{IsBlocked, IsUnboundedBasis}
 use Rattle.basis.specs.Numbers.{IsSitePair, run_numbers}
-use Rattle.fraction.specs.Answers.{result_fits}
+use Rattle.fraction.specs.Answers.{DoesNotFit}
 use Rattle.fraction.specs.declared.frac.NoFit.{NoFit}
 use Rattle.simplex.specs.Table.{Table, dictionary_of}
 use Rattle.simplex.specs.Ratio.{along}
@@ -39,7 +39,7 @@ pub record IsEnded (s : System) (t : Table) (numbers : List Rational) (end : End
 -- e is an operation of a run, and does not fit
 pub record IsRunFault (s : System) (e : NoFit) : Type 0 where
   pub operation : (integer : ℕ → Bool) → IsSitePair (run_numbers s integer) e.a e.b
-  pub not_fit : result_fits e ≡ false
+  pub not_fit : DoesNotFit e
 
 -- bases are all that a run of `limit` steps went through, the latest first, and one more step leads on
 pub record IsLimited (s : System) (limit : ℕ) (bases : List (List Place)) : Type 0 where

@@ -4,7 +4,7 @@ use Rattle.rational.specs.Rational.{Rational}
 use Rattle.milp.specs.Form.{Entry, number_at}
 use Rattle.basis.specs.Dictionary.{place_of, IsBasic, IsResting, Dictionary}
 use Rattle.basis.specs.Pivots.{IsPivotOperation}
-use Rattle.fraction.specs.Answers.{result_fits}
+use Rattle.fraction.specs.Answers.{DoesNotFit}
 use Rattle.fraction.specs.declared.frac.NoFit.{NoFit}
 use Rattle.simplex.specs.Rows.{IsSolved, IsSubstituted, IsSolvingFault, IsSubstitutionFault}
 use Rattle.basis.specs.declared.Place.{Place}
@@ -87,4 +87,4 @@ pub data IsPivotedFault (old : List (List Rational)) (gains : List Rational) (li
 -- e is an operation of the pivot of q into the place of r, and does not fit
 pub record IsPivotFault (t : Table) (q r : ℕ) (e : NoFit) : Type 0 where
   pub operation : IsPivotOperation t.places (dictionary_of t) q r e.a e.b
-  pub not_fit : result_fits e ≡ false
+  pub not_fit : DoesNotFit e

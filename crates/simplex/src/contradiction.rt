@@ -52,6 +52,7 @@ pub(crate) fn contradiction_weights(
 ) -> Result<Weights, AllocError>
     ensures { IfOk result (λ w. w ≡ weights_of instance.now derived.now (contradiction_weights v)) }
 {
+    instance.keeps_its_limits();
     let columns = instance.columns().len();
     let rows = instance.rows().len();
     let derived = derived.as_slice().len();
@@ -82,7 +83,7 @@ fn both_bounds(alloc: Global, index: u32) -> Result<Items, AllocError>
     let mut items = Items::new(alloc);
     items.push(Item {
         index,
-        weight: Frac::whole(1),
+        weight: Frac::one(),
     })?;
     items.push(Item {
         index,

@@ -123,7 +123,7 @@ fn enter(system: &System, state: &State, enters: usize) -> Result<Choice, NoFit>
     ensures ok { IfOk result (IsChoice system.now state.now.dictionary state.now.values.items) }
     ensures err { IfErr result (IsRunFault system.now) }
 {
-    let rises = state.dictionary.gain(enters) < Frac::whole(0);
+    let rises = state.dictionary.gain(enters).is_negative();
     match first_reach(system, &state.dictionary, &state.values, enters, rises)? {
         None => Ok(Choice::Stop(End::Endless(enters, rises))),
         Some(reach) => Ok(Choice::Next(Step {

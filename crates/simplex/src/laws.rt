@@ -8,5 +8,5 @@ use instance::Instance;
 pub fn root_is_over_columns(instance: &Instance)
     ensures { IsOverColumns instance.now [] [] }
 {
-    let _columns = instance.columns();
+    instance.keeps_its_limits();
 }

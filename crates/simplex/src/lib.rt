@@ -5,7 +5,6 @@ mod answers;
 mod choose;
 mod contradiction;
 mod decision;
-mod denominators;
 mod dictionary;
 mod fault;
 mod laws;

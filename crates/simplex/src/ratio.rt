@@ -119,10 +119,10 @@ pub(crate) fn change(dictionary: &Dictionary, q: usize, v: usize) -> Frac
     ensures { result ≡ direction_of dictionary.now q v }
 {
     if v == q {
-        return Frac::whole(1);
+        return Frac::one();
     }
     if !dictionary.is_basic(v) {
-        return Frac::whole(0);
+        return Frac::zero();
     }
     dictionary.rate(q, v)
 }
@@ -138,11 +138,10 @@ pub(crate) fn turned(rises: bool, a: Frac) -> Frac
 pub(crate) fn bound_ahead(bounds: Bounds, change: Frac) -> Option<(Frac, Place)>
     ensures { result ≡ bound_ahead bounds change }
 {
-    let zero = Frac::whole(0);
-    if zero < change {
+    if change.is_positive() {
         return with_place(bounds.upper, Place::AtUpper);
     }
-    if change < zero {
+    if change.is_negative() {
         return with_place(bounds.lower, Place::AtLower);
     }
     None

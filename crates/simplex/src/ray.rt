@@ -1,17 +1,17 @@
 // The ray along which the problem improves without end.
-ghost use Rattle.std.specs.Prelude.{length, cond, ◌≡◌, ◌≤◌, IfOk, OnOk, IfErr};
-ghost use Rattle.rational.specs.Rational.{zero_ℚ, ◌*ℚ◌};
+ghost use Rattle.std.specs.Prelude.{length, pos, cond, ◌≡◌, ◌≤◌, IfOk, OnOk, IfErr};
+ghost use Rattle.rational.specs.Rational.{zero_ℚ, whole, ◌*ℚ◌};
 ghost use Rattle.milp.specs.Form.{number_at};
+ghost use Rattle.fraction.specs.Fits.{part_max};
 ghost use Rattle.basis.specs.Dictionary.{IsResting};
 ghost use Rattle.basis.specs.Weights.{numbers_from};
 ghost use Rattle.simplex.specs.Ratio.{along};
 ghost use Rattle.simplex.specs.Rays.{IsFault, IsRayFault, IsProduct, IsProductFault, AreScaled, numbers_to_be_whole, whole_ray};
 
-use crate::denominators::{common_denominator, whole};
 use crate::dictionary::Dictionary;
 use crate::fault::Fault;
 use crate::ratio::{change, turned};
-use fraction::{Frac, NoFit};
+use fraction::{Frac, NoFit, common_denominator};
 use instance::{Column, Point};
 use std::alloc::{AllocError, Global};
 
@@ -73,7 +73,7 @@ fn where_integer(column: &Column, number: Frac) -> Frac
     if column.integer() {
         number
     } else {
-        Frac::whole(0)
+        Frac::zero()
     }
 }
 
@@ -93,4 +93,12 @@ fn product(a: Frac, b: Frac) -> Result<Frac, NoFit>
     ensures err { IfErr result (IsProduct a b) }
 {
     a.mul(b)
+}
+
+// The whole number m.
+fn whole(m: u128) -> Frac
+    requires { m ≤ part_max }
+    ensures { result ≡ whole (pos m) }
+{
+    Frac::whole(m as i128)
 }

@@ -1,11 +1,11 @@
 // The system of a node.
 ghost use Rattle.std.specs.Prelude.{length, set, Some, ◌≡◌, ◌<◌, ◌++◌, map, IfOk, IfErr, OnOk};
-ghost use Rattle.rational.specs.Rational.{one_ℚ, ◌+ℚ◌, ◌*ℚ◌};
+ghost use Rattle.rational.specs.Rational.{one_ℚ, ◌+ℚ◌};
 ghost use Rattle.milp.specs.Problem.{Row as RowOf};
 ghost use Rattle.milp.specs.Points.{sign_of};
 ghost use Rattle.verdicts.specs.Certificate.{Derived as DerivedOf};
 ghost use Rattle.verdicts.specs.WeightedSums.{scaled};
-ghost use Rattle.verdicts.specs.Proves.{lesser, greater};
+ghost use Rattle.verdicts.specs.Proves.{greater};
 ghost use Rattle.search_node.specs.Sides.{side_of, sides_of};
 ghost use Rattle.basis.specs.Node.{system_of, row_bounds, derived_bounds, column_bounds as column_bounds_under, IsOverColumns};
 ghost use Rattle.simplex.specs.Bounds.{column_bounds};
@@ -16,7 +16,7 @@ use crate::fault::Fault;
 use crate::system::{Bounds, System};
 use certificate::{Derived, DerivedRows, Split};
 use fraction::{Frac, NoFit};
-use instance::{Column, Direction, Entries, Entry, Instance, Row};
+use instance::{Column, Direction, Entries, Entry, Instance, Row, greater, lesser, signed};
 use search_node::{Node, Side, SplitTaken};
 use std::alloc::{AllocError, Global};
 
@@ -33,6 +33,7 @@ pub(crate) fn node_system(
     ensures err { IfErr result (IsFault (AreSplitFaults (sides_of node.now.splits))) }
 {
     basis::node_systems();
+    instance.keeps_its_limits();
     let objective = turned(alloc, instance.direction(), instance.objective().as_slice())?;
     let forms = node_forms(alloc, instance.rows(), derived.as_slice())?;
     let bounds = node_bounds(alloc, instance, node, derived)?;
@@ -112,29 +113,11 @@ fn at_least(bounds: Bounds, at: Frac) -> Result<Bounds, NoFit>
     ensures ok { IfOk result (λ b. b ≡ record { lower = Some (greater bounds.lower (at +ℚ one_ℚ)); upper = bounds.upper }) }
     ensures err { IfErr result (IsNextFault at) }
 {
-    let next = at.add(Frac::whole(1))?;
+    let next = at.add(Frac::one())?;
     Ok(Bounds {
         lower: Some(greater(bounds.lower, next)),
         upper: bounds.upper,
     })
-}
-
-fn lesser(bound: Option<Frac>, b: Frac) -> Frac
-    ensures { result ≡ lesser bound b }
-{
-    match bound {
-        None => b,
-        Some(a) => if a <= b { a } else { b },
-    }
-}
-
-fn greater(bound: Option<Frac>, b: Frac) -> Frac
-    ensures { result ≡ greater bound b }
-{
-    match bound {
-        None => b,
-        Some(a) => if a <= b { b } else { a },
-    }
 }
 
 fn add_forms(alloc: Global, forms: &mut Vec<Entries>, derived: &[Derived]) -> Result<(), AllocError>
@@ -170,16 +153,6 @@ fn turned(alloc: Global, direction: Direction, form: &[Entry]) -> Result<Entries
         })?;
     }
     Ok(Entries::from_vec(entries))
-}
-
-#[tactic(auto, using(crate::proofs::NodeParts::least, crate::proofs::NodeParts::greatest))]
-fn signed(direction: Direction, a: Frac) -> Frac
-    ensures { result ≡ sign_of direction *ℚ a }
-{
-    match direction {
-        Direction::Min => a,
-        Direction::Max => a.neg(),
-    }
 }
 
 fn forms_of(alloc: Global, rows: &[Row]) -> Result<Vec<Entries>, AllocError>

@@ -2,7 +2,6 @@
 ghost use Rattle.std.specs.Prelude.{ℕ, pos, [], length, true, ◌≡◌, ◌≢◌, ◌<◌, OnOk, IfOk, IfErr};
 ghost use Rattle.rational.specs.Rational.{Rational, neg_ℚ, ◌+ℚ◌, ◌*ℚ◌, ◌/ℚ◌};
 ghost use Rattle.milp.specs.Form.{number_at};
-ghost use Rattle.rational.specs.Compare.{is_zero};
 ghost use Rattle.simplex.specs.Rows.{IsSolved, IsSubstituted, IsSolvingFault, IsSubstitutionFault, IsProductOrSum, IsQuotient};
 
 use fraction::{Frac, NoFit};
@@ -68,7 +67,7 @@ impl Row {
         ensures err { IfErr result (IsSubstitutionFault self.old solved.now at) }
     {
         // times 0 it adds nothing
-        if is_zero(self.at(at)) {
+        if self.at(at).is_zero() {
             return Ok(());
         }
         substitute(&mut self.numbers, &solved.numbers, at)
@@ -107,7 +106,7 @@ fn substitute(row: &mut [Frac], solved: &[Frac], at: usize) -> Result<(), NoFit>
     ensures err { IfErr result (IsSubstitutionFault row.old solved.now at) }
 {
     let factor = row[at];
-    row[at] = Frac::whole(0);
+    row[at] = Frac::zero();
     for place in 0..row.len() {
         row[place] = mul_add(factor, solved[place], row[place])?;
     }
@@ -120,14 +119,8 @@ pub(crate) fn mul_add(factor: Frac, a: Frac, b: Frac) -> Result<Frac, NoFit>
     ensures err { IfErr result (IsProductOrSum factor a b) }
 {
     // nothing is added
-    if is_zero(a) {
+    if a.is_zero() {
         return Ok(b);
     }
     factor.mul_add(a, b)
-}
-
-fn is_zero(a: Frac) -> bool
-    ensures { result ≡ is_zero a }
-{
-    a.parts().0 == 0
 }

@@ -83,7 +83,7 @@ pub(crate) fn dense(alloc: Global, columns: usize, form: &Entries) -> Result<Row
     requires ascending { IsAscending 0 form.now }
     ensures { IfOk result (λ row. IsDense columns form.now row) }
 {
-    let mut numbers = vec![in alloc; Frac::whole(0); columns]?;
+    let mut numbers = vec![in alloc; Frac::zero(); columns]?;
     for entry in form.as_slice() {
         numbers[entry.column as usize] = entry.coefficient;
     }

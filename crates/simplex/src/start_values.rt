@@ -29,7 +29,7 @@ fn first_value(bounds: Bounds) -> Frac
         Some(lower) => lower,
         None => match bounds.upper {
             Some(upper) => upper,
-            None => Frac::whole(0),
+            None => Frac::zero(),
         },
     }
 }
@@ -38,7 +38,7 @@ fn lengthen(values: &mut Vec<Frac>, count: usize) -> Result<(), AllocError>
     ensures { OnOk result (AreLonger values.old.items count values.new.items) }
 {
     for _k in 0..count {
-        values.push(Frac::whole(0))?;
+        values.push(Frac::zero())?;
     }
     Ok(())
 }

@@ -14,7 +14,7 @@ pub(crate) fn form_value(form: &[Entry], x: &[Frac]) -> Result<Frac, NoFit>
     ensures ok { IfOk result (λ v. v ≡ value_at (number_at x.now) form.now) }
     ensures err { IfErr result (IsSumFault form.now (number_at x.now)) }
 {
-    let mut total = Frac::whole(0);
+    let mut total = Frac::zero();
     for entry in form {
         total = plus_product(total, entry.coefficient, x[entry.column as usize])?;
     }

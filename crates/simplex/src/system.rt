@@ -142,11 +142,10 @@ fn is_below(bound: Option<Frac>, x: Frac) -> bool
 pub(crate) fn may_raise(bounds: Bounds, x: Frac, rate: Frac) -> bool
     ensures { result ≡ can_raise bounds x rate }
 {
-    let zero = Frac::whole(0);
-    if zero < rate {
+    if rate.is_positive() {
         return may_rise(bounds, x);
     }
-    if rate < zero {
+    if rate.is_negative() {
         return may_fall(bounds, x);
     }
     false

@@ -34,6 +34,7 @@ pub(crate) fn weights(
     requires basic { IsFromBasic dictionary.now.places source }
     ensures { IfOk result (λ w. w ≡ weights_of instance.now derived.now (weights_from dictionary.now source)) }
 {
+    instance.keeps_its_limits();
     let columns = instance.columns().len();
     let rows = instance.rows().len();
     let derived = derived.as_slice().len();
@@ -100,7 +101,7 @@ fn gain(dictionary: &Dictionary, v: usize) -> Frac
     ensures { result ≡ gain_of (dictionary_of dictionary.now) v }
 {
     if dictionary.is_basic(v) {
-        return Frac::whole(0);
+        return Frac::zero();
     }
     dictionary.gain(v)
 }
@@ -112,10 +113,10 @@ fn row_weight(dictionary: &Dictionary, r: usize, v: usize) -> Frac
     ensures { result ≡ row_weight (dictionary_of dictionary.now) r v }
 {
     if v == r {
-        return Frac::whole(1);
+        return Frac::one();
     }
     if dictionary.is_basic(v) {
-        return Frac::whole(0);
+        return Frac::zero();
     }
     dictionary.rate(v, r).neg()
 }

@@ -13,10 +13,10 @@ returns-in_err-first_reach-clause-err c =
 
 pub returns-in-None-clause-ok : goal.returns-in-None-clause-ok
 returns-in-None-clause-ok c =
-    is_endless c.args.system.now c.args.state.now.dictionary c.args.state.now.values.items c.args.state.now.bases c.requires.reached c.args.enters c.lt-rises.result c.gain.result c.requires.inside c.requires.first c.gain.ensures (search rules)
+    is_endless c.args.system.now c.args.state.now.dictionary c.args.state.now.values.items c.args.state.now.bases c.requires.reached c.args.enters c.is_negative-rises.result c.gain.result c.requires.inside c.requires.first c.gain.ensures (search rules)
     (search rules)
 
 pub returns-in-Some-clause-ok : goal.returns-in-Some-clause-ok
 returns-in-Some-clause-ok c =
-    enter_step c.args.system.now c.args.state.now.dictionary c.args.state.now.values.items c.args.state.now.bases c.requires.reached c.args.enters c.lt-rises.result c.gain.result c.requires.inside c.requires.first c.gain.ensures (search rules)
+    enter_step c.args.system.now c.args.state.now.dictionary c.args.state.now.values.items c.args.state.now.bases c.requires.reached c.args.enters c.is_negative-rises.result c.gain.result c.requires.inside c.requires.first c.gain.ensures (search rules)
     c.in-Some.reach c.turned.result c.turned.ensures (search rules)

@@ -7,7 +7,7 @@ use Rattle.simplex.proofs.Narrowing.{split_read, split_on, length_under, split_f
 use Rattle.simplex.proofs.relaxation.narrowed_bounds.Goals as goal
 
 pub loop-taken-init : goal.loop-taken-init
-loop-taken-init c = c.in_ok-bounds.ensures ∙ ap (map column_bounds) c.columns.ensures.columns ∙ columns_alone c.args.instance.now
+loop-taken-init c = c.in_ok-bounds.ensures ∙ ap (map column_bounds) c.columns.ensures ∙ columns_alone c.args.instance.now
 
 pub narrow-requires : goal.narrow-requires
 narrow-requires c =

@@ -15,5 +15,5 @@ new-requires-clause-ascending c =
     let sides = sides_of c.args.node.now.splits in
     subst AreAscending
     (sym (is_made p ds sides c.columns.result.now c.as_slice.result.now c.direction.result c.rows.result.now c.as_slice-2.result.now c.in_ok-forms.forms.items c.in_ok-bounds.bounds.items c.in_ok-objective.objective
-    c.columns.ensures.columns c.rows.ensures c.as_slice-2.ensures.rows (c.as_slice.ensures ∙ c.objective.ensures.form) c.direction.ensures c.in_ok-forms.ensures c.in_ok-bounds.ensures.ok c.in_ok-objective.ensures))
-    (are_ascending p ds sides c.columns.ensures.well_formed c.as_slice-2.ensures.written)
+    c.columns.ensures c.rows.ensures c.as_slice-2.ensures.rows (c.as_slice.ensures ∙ c.objective.ensures.form) c.direction.ensures c.in_ok-forms.ensures c.in_ok-bounds.ensures.ok c.in_ok-objective.ensures))
+    (are_ascending p ds sides c.keeps_its_limits.ensures.well_formed c.as_slice-2.ensures.written)
