@@ -5,9 +5,9 @@ use Rattle.std.specs.List.{list_any}
 use Rattle.std.specs.Str.{bytes_eq}
 use Rattle.milp.specs.Problem.{Column, Row}
 use Rattle.instance.specs.WellFormed.{has_column, has_row, entry_count as entries_of_rows}
-use Rattle.cplex_lp_reader.specs.Names.{is_name, AreNew}
+use Rattle.model_text.specs.Names.{is_name, AreNew}
 use Rattle.cplex_lp_reader.specs.Constraints.{entry_count}
-use Rattle.cplex_lp_reader.proofs.Lookup.{list_any-same}
+use Rattle.model_text.proofs.Lookup.{list_any-same}
 use Rattle.cplex_lp_reader.proofs.Changed.{count-push}
 
 new-at : {X : Type 0} (key : X → List ℕ) (xs : List X) (i : ℕ) (x : X) → AreNew (map key xs) → i < length xs → x ≡ get_or xs i x → list_any (λ y. bytes_eq (key y) (key x)) (take i xs) ≡ false

@@ -7,9 +7,9 @@ use Rattle.fraction.specs.Answers.{add_answer}
 use Rattle.milp.specs.Problem.{Column, Problem}
 use Rattle.milp.specs.declared.Direction.{Direction}
 use Rattle.milp.specs.declared.Direction.TheVariants.{Min, Max}
-use Rattle.file_fault.specs.declared.fault.FaultKind.TheVariants.{Twice, TooMany}
-use Rattle.file_fault.specs.declared.fault.FileFault.{FileFault}
-use Rattle.cplex_lp_reader.specs.declared.profile.Profile.{Profile}
+use Rattle.model_text.specs.declared.fault.FaultKind.TheVariants.{Twice, TooMany}
+use Rattle.model_text.specs.declared.fault.FileFault.{FileFault}
+use Rattle.model_text.specs.declared.profile.Profile.{Profile}
 use Rattle.cplex_lp_reader.specs.declared.token.Relation.{Relation}
 use Rattle.cplex_lp_reader.specs.declared.token.Relation.TheVariants.{AtMost, AtLeast, Exactly}
 use Rattle.cplex_lp_reader.specs.declared.token.Section.{Section}
@@ -26,9 +26,10 @@ use Rattle.cplex_lp_reader.specs.declared.place.Place.{Place}
 use Rattle.cplex_lp_reader.specs.declared.place.Place.TheVariants as place
 use Rattle.cplex_lp_reader.specs.declared.declared_column.ColumnChange.{ColumnChange}
 use Rattle.cplex_lp_reader.specs.declared.declared_column.ColumnChange.TheVariants.{Kept, Bounded, Freed}
-use Rattle.cplex_lp_reader.specs.Profile.{reader_profile}
+use Rattle.model_text.specs.Profile.{reader_profile}
 use Rattle.cplex_lp_reader.specs.Tokens.{Token, is_word, is_name, tokens_of}
-use Rattle.cplex_lp_reader.specs.Steps.{fault_at, misplaced, then_do, fitting_at, number_of}
+use Rattle.model_text.specs.Steps.{then_do}
+use Rattle.cplex_lp_reader.specs.Steps.{fault_at, misplaced, fitting_at, number_of}
 use Rattle.cplex_lp_reader.specs.Grammar.{after_plus, after_minus, signed, is_colon, is_before_colon, is_before_name}
 use Rattle.cplex_lp_reader.specs.Declaration.{new_column, Declaration, nothing_declared, at_place, added, entries_of, place_in, mentioned, with_column, problem_of}
 use Rattle.cplex_lp_reader.specs.Objective.{objective_term, with_constant, objective_number, objective_begun, objective_factor, objective_done, in_objective, at_objective_start, at_objective_colon}

@@ -5,7 +5,7 @@ use Rattle.std.specs.Char.{encode_utf8}
 use Rattle.rational.specs.Rational.{zero_ℚ, one_ℚ, whole}
 use Rattle.milp.specs.declared.Direction.TheVariants.{Max}
 use Rattle.cplex_lp_reader.specs.CplexLp.{declared}
-use Rattle.file_fault.specs.declared.fault.FaultKind.TheVariants.{BadLine, Twice, IntegersNotYet}
+use Rattle.model_text.specs.declared.fault.FaultKind.TheVariants.{BadLine, Twice, IntegersNotYet}
 
 lines : List (List ℕ) → List ℕ
 lines [] = []

@@ -6,8 +6,8 @@ use Rattle.std.proofs.lemmas.Bool.{cases_lt}
 use Rattle.rational.specs.Rational.{Rational}
 use Rattle.fraction.specs.Answers.{add_answer}
 use Rattle.milp.specs.Form.{Entry}
-use Rattle.file_fault.specs.declared.fault.FileFault.{FileFault}
-use Rattle.cplex_lp_reader.specs.Follows.{as_read}
+use Rattle.model_text.specs.declared.fault.FileFault.{FileFault}
+use Rattle.model_text.specs.Follows.{as_read}
 use Rattle.cplex_lp_reader.specs.Steps.{fitting_at}
 use Rattle.cplex_lp_reader.specs.Declaration.{no_entry, begins_with, joined}
 

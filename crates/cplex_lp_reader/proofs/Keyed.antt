@@ -4,8 +4,8 @@ use Rattle.std.proofs.lemmas.Bool.Decides.{nat_tests}
 use Rattle.std.proofs.lemmas.List.{map-append}
 use Rattle.std.proofs.lemmas.List.Sums.{prefix_len-le-length}
 use Rattle.std.specs.List.{position, position_or_len, list_any}
-use Rattle.cplex_lp_reader.specs.Names.{is_name, AreNew}
-use Rattle.cplex_lp_reader.proofs.Lookup.{position-same, list_any-same, AreNew-push}
+use Rattle.model_text.specs.Names.{is_name, AreNew}
+use Rattle.model_text.proofs.Lookup.{position-same, list_any-same, AreNew-push}
 
 place-some : {X : Type 0} (p : X → Bool) → (xs : List X) (i : ℕ) → position p xs ≡ Some i → (position_or_len p xs ≡ i) × (i < length xs)
 place-some p xs i e = grind (arith, nat_tests)

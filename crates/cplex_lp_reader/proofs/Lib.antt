@@ -2,7 +2,6 @@ pub mod CplexLpExamples
 pub mod Places
 pub mod Scanned
 pub mod Joined
-pub mod Lookup
 pub mod Keyed
 pub mod Terms
 pub mod Changed

@@ -4,10 +4,11 @@ use Rattle.std.proofs.lemmas.Bool.Decides.{nat_tests}
 use Rattle.rational.specs.Rational.{Rational}
 use Rattle.milp.specs.Form.{Entry}
 use Rattle.instance.specs.WellFormed.{are_entries_from}
-use Rattle.file_fault.specs.declared.fault.FileFault.{FileFault}
-use Rattle.cplex_lp_reader.specs.declared.error.LpError.{LpError}
-use Rattle.cplex_lp_reader.specs.Follows.{Follows}
-use Rattle.cplex_lp_reader.specs.Steps.{then_do, fitting_at}
+use Rattle.model_text.specs.declared.fault.FileFault.{FileFault}
+use Rattle.model_text.specs.declared.error.ReadError.{ReadError}
+use Rattle.model_text.specs.Follows.{Follows}
+use Rattle.model_text.specs.Steps.{then_do}
+use Rattle.cplex_lp_reader.specs.Steps.{fitting_at}
 use Rattle.fraction.specs.Answers.{add_answer}
 use Rattle.cplex_lp_reader.specs.Declaration.{place_of, joined, added, is_zero, entries_of}
 use Rattle.cplex_lp_reader.specs.Consistent.{are_terms_from, are_terms}
@@ -165,7 +166,7 @@ added-terms least count line j v [] new a b t f =
 added-terms least count line j v (e ∷ es) new a b t f = added-by least count line j v e es new a b t (λ from c u more g. added-terms from count line j v es more c b u g) (nat_le j e.column) refl f
 
 -- a step that adds a term, or changes nothing
-pub terms-kept : (line j : ℕ) (v : Rational) (form new : List Entry) (result : Result (Unit {0}) LpError) → Follows result new (added line j v form) → OnErr result (new ≡ form) → (count : ℕ) → j < count → IsTrue (are_terms count form) → IsTrue (are_terms count new)
+pub terms-kept : (line j : ℕ) (v : Rational) (form new : List Entry) (result : Result (Unit {0}) (ReadError FileFault)) → Follows result new (added line j v form) → OnErr result (new ≡ form) → (count : ℕ) → j < count → IsTrue (are_terms count form) → IsTrue (are_terms count new)
 terms-kept line j v form new (Ok u) f k count h t = added-terms 0 count line j v form new (omega arith) h t f
 terms-kept line j v form new (Err error) f k count h t = rw k t
 

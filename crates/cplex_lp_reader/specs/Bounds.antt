@@ -4,8 +4,8 @@ use Rattle.std.specs.Prelude.{ℕ, ◌||◌, Bool, true, false, List, codes, Som
 use Rattle.std.specs.declared.option.Option.{Option}
 use Rattle.rational.specs.Rational.{Rational, zero_ℚ, one_ℚ}
 use Rattle.milp.specs.Problem.{Column}
-use Rattle.file_fault.specs.declared.fault.FileFault.{FileFault}
-use Rattle.cplex_lp_reader.specs.declared.profile.Profile.{Profile}
+use Rattle.model_text.specs.declared.fault.FileFault.{FileFault}
+use Rattle.model_text.specs.declared.profile.Profile.{Profile}
 use Rattle.cplex_lp_reader.specs.declared.token.Relation.{Relation}
 use Rattle.cplex_lp_reader.specs.declared.token.Relation.TheVariants.{AtMost, AtLeast, Exactly}
 use Rattle.cplex_lp_reader.specs.declared.token.TokenKind.{TokenKind}
@@ -19,7 +19,8 @@ use Rattle.cplex_lp_reader.specs.declared.place.Limit.TheVariants.{MinusInfinity
 use Rattle.cplex_lp_reader.specs.declared.place.Place.{Place}
 use Rattle.cplex_lp_reader.specs.declared.place.Place.TheVariants.{BoundStart, BoundLeft, BoundRelation, BoundName, BoundNamed, BoundCompared, BoundRight, Generals, Binaries}
 use Rattle.cplex_lp_reader.specs.Tokens.{Token, is_word}
-use Rattle.cplex_lp_reader.specs.Steps.{misplaced, then_do, number_of}
+use Rattle.model_text.specs.Steps.{then_do}
+use Rattle.cplex_lp_reader.specs.Steps.{misplaced, number_of}
 use Rattle.cplex_lp_reader.specs.Declaration.{Declaration, at_place, place_in, mentioned, with_column}
 use Rattle.cplex_lp_reader.specs.Grammar.{after_plus, after_minus, signed}
 

@@ -7,9 +7,9 @@ use Rattle.std.specs.Str.{bytes_eq}
 use Rattle.std.specs.Fmt.{decimal}
 use Rattle.rational.specs.Rational.{Rational, one_ℚ}
 use Rattle.milp.specs.Problem.{Row}
-use Rattle.file_fault.specs.declared.fault.FaultKind.TheVariants.{Twice, TooMany}
-use Rattle.file_fault.specs.declared.fault.FileFault.{FileFault}
-use Rattle.cplex_lp_reader.specs.declared.profile.Profile.{Profile}
+use Rattle.model_text.specs.declared.fault.FaultKind.TheVariants.{Twice, TooMany}
+use Rattle.model_text.specs.declared.fault.FileFault.{FileFault}
+use Rattle.model_text.specs.declared.profile.Profile.{Profile}
 use Rattle.cplex_lp_reader.specs.declared.token.Relation.{Relation}
 use Rattle.cplex_lp_reader.specs.declared.token.Relation.TheVariants.{AtMost, AtLeast, Exactly}
 use Rattle.cplex_lp_reader.specs.declared.token.TokenKind.{TokenKind}
@@ -21,7 +21,8 @@ use Rattle.cplex_lp_reader.specs.declared.place.TermPlace.TheVariants.{Begun, Fa
 use Rattle.cplex_lp_reader.specs.declared.place.Place.{Place}
 use Rattle.cplex_lp_reader.specs.declared.place.Place.TheVariants.{RowStart, RowColon, RowFirst, RowNumber, RowTerms, RowRight}
 use Rattle.cplex_lp_reader.specs.Tokens.{Token}
-use Rattle.cplex_lp_reader.specs.Steps.{fault_at, misplaced, then_do, number_of}
+use Rattle.model_text.specs.Steps.{then_do}
+use Rattle.cplex_lp_reader.specs.Steps.{fault_at, misplaced, number_of}
 use Rattle.cplex_lp_reader.specs.Declaration.{OpenRow, new_row, Declaration, at_place, added, entries_of, place_in, mentioned, with_changed}
 use Rattle.cplex_lp_reader.specs.Grammar.{after_plus, after_minus, signed, is_colon, is_before_colon}
 

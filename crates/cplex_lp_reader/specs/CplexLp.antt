@@ -3,9 +3,9 @@ use Rattle.std.specs.Prelude.{ℕ, ◌+◌, Bool, true, false, List, [], ◌∷�
 use Rattle.milp.specs.Problem.{Problem}
 use Rattle.milp.specs.declared.Direction.{Direction}
 use Rattle.milp.specs.declared.Direction.TheVariants.{Min, Max}
-use Rattle.file_fault.specs.declared.fault.FaultKind.TheVariants.{BadLine, IntegersNotYet}
-use Rattle.file_fault.specs.declared.fault.FileFault.{FileFault}
-use Rattle.cplex_lp_reader.specs.declared.profile.Profile.{Profile}
+use Rattle.model_text.specs.declared.fault.FaultKind.TheVariants.{BadLine, IntegersNotYet}
+use Rattle.model_text.specs.declared.fault.FileFault.{FileFault}
+use Rattle.model_text.specs.declared.profile.Profile.{Profile}
 use Rattle.cplex_lp_reader.specs.declared.token.TokenKind.{TokenKind}
 use Rattle.cplex_lp_reader.specs.declared.token.TokenKind.TheVariants.{SectionWords}
 use Rattle.cplex_lp_reader.specs.declared.token.Section.{Section}
@@ -14,9 +14,11 @@ use Rattle.cplex_lp_reader.specs.declared.place.Sign.TheVariants.{Unsigned}
 use Rattle.cplex_lp_reader.specs.declared.place.TermPlace.TheVariants.{Begun, Done}
 use Rattle.cplex_lp_reader.specs.declared.place.Place.{Place}
 use Rattle.cplex_lp_reader.specs.declared.place.Place.TheVariants as place
-use Rattle.cplex_lp_reader.specs.Profile.{reader_profile}
-use Rattle.cplex_lp_reader.specs.Tokens.{Token, tokens_of, lines_of}
-use Rattle.cplex_lp_reader.specs.Steps.{fault_at, misplaced, then_do}
+use Rattle.model_text.specs.Profile.{reader_profile}
+use Rattle.model_text.specs.Lines.{lines_of}
+use Rattle.cplex_lp_reader.specs.Tokens.{Token, tokens_of}
+use Rattle.model_text.specs.Steps.{then_do}
+use Rattle.cplex_lp_reader.specs.Steps.{fault_at, misplaced}
 use Rattle.cplex_lp_reader.specs.Declaration.{Declaration, nothing_declared, at_place, problem_of}
 use Rattle.cplex_lp_reader.specs.Objective.{in_objective, at_objective_start, at_objective_colon}
 use Rattle.cplex_lp_reader.specs.Constraints.{in_row_terms, at_row_start, at_row_colon, at_row_first, at_row_number, at_row_right}

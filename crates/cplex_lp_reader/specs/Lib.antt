@@ -1,9 +1,6 @@
-pub mod Profile
 pub mod Lexemes
 pub mod Tokens
 pub mod Steps
-pub mod Names
-pub mod Follows
 pub mod Declaration
 pub mod Consistent
 pub mod Grammar

@@ -3,8 +3,8 @@
 use Rattle.std.specs.Prelude.{◌&&◌, List, Result, Ok, if◌then◌else◌}
 use Rattle.rational.specs.Rational.{Rational, one_ℚ}
 use Rattle.fraction.specs.Answers.{add_answer}
-use Rattle.file_fault.specs.declared.fault.FileFault.{FileFault}
-use Rattle.cplex_lp_reader.specs.declared.profile.Profile.{Profile}
+use Rattle.model_text.specs.declared.fault.FileFault.{FileFault}
+use Rattle.model_text.specs.declared.profile.Profile.{Profile}
 use Rattle.cplex_lp_reader.specs.declared.token.TokenKind.{TokenKind}
 use Rattle.cplex_lp_reader.specs.declared.token.TokenKind.TheVariants.{Word, Literal, Plus, Minus}
 use Rattle.cplex_lp_reader.specs.declared.place.Sign.{Sign}
@@ -13,7 +13,8 @@ use Rattle.cplex_lp_reader.specs.declared.place.TermPlace.{TermPlace}
 use Rattle.cplex_lp_reader.specs.declared.place.TermPlace.TheVariants.{Begun, Factor, Done}
 use Rattle.cplex_lp_reader.specs.declared.place.Place.TheVariants.{ObjectiveColon, Objective}
 use Rattle.cplex_lp_reader.specs.Tokens.{Token, is_name}
-use Rattle.cplex_lp_reader.specs.Steps.{misplaced, then_do, fitting_at, number_of}
+use Rattle.model_text.specs.Steps.{then_do}
+use Rattle.cplex_lp_reader.specs.Steps.{misplaced, fitting_at, number_of}
 use Rattle.cplex_lp_reader.specs.Declaration.{Declaration, at_place, added, place_in, mentioned}
 use Rattle.cplex_lp_reader.specs.Grammar.{after_plus, after_minus, signed, is_colon, is_before_colon, is_before_name}
 

@@ -2,9 +2,9 @@
 use Rattle.std.specs.Prelude.{ℕ, Result, Ok, Err}
 use Rattle.rational.specs.Rational.{Rational}
 use Rattle.fraction.specs.Literal.{read_of}
-use Rattle.file_fault.specs.declared.fault.FaultKind.{FaultKind}
-use Rattle.file_fault.specs.declared.fault.FaultKind.TheVariants.{BadLine, TooWide}
-use Rattle.file_fault.specs.declared.fault.FileFault.{FileFault}
+use Rattle.model_text.specs.declared.fault.FaultKind.{FaultKind}
+use Rattle.model_text.specs.declared.fault.FaultKind.TheVariants.{BadLine, TooWide}
+use Rattle.model_text.specs.declared.fault.FileFault.{FileFault}
 use Rattle.cplex_lp_reader.specs.Tokens.{Token}
 
 -- a fault of this kind at a line
@@ -14,11 +14,6 @@ fault_at line kind = Err (record { line = line; kind = kind })
 -- the token doesn't stand where it may
 abbrev pub misplaced : {A : Type 0} → Token → Result A FileFault
 misplaced t = fault_at t.line BadLine
-
--- the next step, where there was no fault
-abbrev pub then_do : {A B : Type 0} → (A → Result B FileFault) → Result A FileFault → Result B FileFault
-then_do f (Err fault) = Err fault
-then_do f (Ok a) = f a
 
 -- a number that is written as one, or the fault that it doesn't fit
 abbrev pub fitting_at : {E : Type 0} → ℕ → Result Rational E → Result Rational FileFault

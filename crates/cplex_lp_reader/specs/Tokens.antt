@@ -3,7 +3,7 @@ use Rattle.std.specs.Prelude.{ℕ, ◌+◌, ◌-◌, ◌==◌, ◌&&◌, ◌||�
 use Rattle.std.specs.declared.option.Option.{Option}
 use Rattle.std.specs.List.{position_or_len}
 use Rattle.std.specs.Str.{str_eq_ignore_ascii_case, is_utf8}
-use Rattle.std.specs.Str.Lines.{lines}
+use Rattle.model_text.specs.Lines.{lines_of}
 use Rattle.cplex_lp_reader.specs.declared.token.TokenKind.{TokenKind}
 use Rattle.cplex_lp_reader.specs.declared.token.TokenKind.TheVariants.{SectionWords, Word}
 use Rattle.cplex_lp_reader.specs.declared.token.Section.{Section}
@@ -15,10 +15,6 @@ pub record Token : Type 0 where
   pub line : ℕ
   pub kind : TokenKind
   pub text : List ℕ
-
--- std's lines: a carriage return before a line feed is passed over, and an empty last piece is no line
-abbrev pub lines_of : List ℕ → List (List ℕ)
-lines_of text = lines text
 
 abbrev pub is_comment_mark : ℕ → Bool
 is_comment_mark b = b == 92

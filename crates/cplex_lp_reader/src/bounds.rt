@@ -1,8 +1,9 @@
 // The tokens of bounds, and of general and binary columns.
 ghost use Rattle.std.specs.Prelude.{◌≡◌, Ok, true};
-ghost use Rattle.cplex_lp_reader.specs.Profile.{IsWithinInstance};
-ghost use Rattle.cplex_lp_reader.specs.Follows.{Follows};
-ghost use Rattle.cplex_lp_reader.specs.Steps.{then_do, number_of};
+ghost use Rattle.model_text.specs.Profile.{IsWithinInstance};
+ghost use Rattle.model_text.specs.Follows.{Follows};
+ghost use Rattle.model_text.specs.Steps.{then_do};
+ghost use Rattle.cplex_lp_reader.specs.Steps.{number_of};
 ghost use Rattle.cplex_lp_reader.specs.Grammar.{signed};
 ghost use Rattle.cplex_lp_reader.specs.declared.place.Place.TheVariants as place;
 ghost use Rattle.cplex_lp_reader.specs.declared.place.Limit.TheVariants.{Finite};
@@ -12,12 +13,11 @@ ghost use Rattle.cplex_lp_reader.specs.Bounds.{is_infinity, infinite, is_possibl
 use crate::columns::mention_changed;
 use crate::declared_column::ColumnChange;
 use crate::draft::Draft;
-use crate::error::LpError;
 use crate::faults::{misplaced, number_of_token};
 use crate::place::{Limit, Place, Sign};
-use crate::profile::Profile;
 use crate::section_words::is_word;
 use crate::token::{Relation, Token, TokenKind};
+use model_text::{FileFault, Profile, ReadError};
 
 // ---- limits
 
@@ -73,7 +73,7 @@ fn bound_word<'a>(
     profile: &Profile,
     draft: &mut Draft<'a>,
     token: &Token<'a>,
-) -> Result<(), LpError>
+) -> Result<(), ReadError<FileFault>>
     requires { IsWithinInstance profile.now }
     ensures { Follows result draft.new (bound_word profile.now draft.old token.now) }
 {
@@ -86,7 +86,7 @@ fn bound_word<'a>(
     }
 }
 
-fn left_literal(draft: &mut Draft, sign: Sign, token: &Token) -> Result<(), LpError>
+fn left_literal(draft: &mut Draft, sign: Sign, token: &Token) -> Result<(), ReadError<FileFault>>
     ensures { Follows result draft.new (then_do (λ v. Ok (at_place (place.BoundRelation (Finite (signed sign v))) draft.old)) (number_of token.now)) }
 {
     let value = number_of_token(token)?;
@@ -98,7 +98,7 @@ pub(crate) fn at_bound_start<'a>(
     profile: &Profile,
     draft: &mut Draft<'a>,
     token: &Token<'a>,
-) -> Result<(), LpError>
+) -> Result<(), ReadError<FileFault>>
     requires { IsWithinInstance profile.now }
     ensures { Follows result draft.new (at_bound_start token.now.kind profile.now draft.old token.now) }
 {
@@ -118,7 +118,7 @@ pub(crate) fn at_bound_start<'a>(
 }
 
 // `inf` after signs.
-fn left_infinity(draft: &mut Draft, sign: Sign, token: &Token) -> Result<(), LpError>
+fn left_infinity(draft: &mut Draft, sign: Sign, token: &Token) -> Result<(), ReadError<FileFault>>
     ensures { Follows result draft.new (at_bound_left TokenKind.Word draft.old sign token.now) }
 {
     if is_infinity(token.text()) {
@@ -130,7 +130,11 @@ fn left_infinity(draft: &mut Draft, sign: Sign, token: &Token) -> Result<(), LpE
 }
 
 // The number on the left has signs alone.
-pub(crate) fn at_bound_left(draft: &mut Draft, sign: Sign, token: &Token) -> Result<(), LpError>
+pub(crate) fn at_bound_left(
+    draft: &mut Draft,
+    sign: Sign,
+    token: &Token,
+) -> Result<(), ReadError<FileFault>>
     ensures { Follows result draft.new (at_bound_left token.now.kind draft.old sign token.now) }
 {
     match token.kind() {
@@ -154,7 +158,7 @@ fn left_relation(
     limit: Limit,
     relation: Relation,
     token: &Token,
-) -> Result<(), LpError>
+) -> Result<(), ReadError<FileFault>>
     ensures { Follows result draft.new (at_bound_relation (TokenKind.Compared relation) draft.old limit token.now) }
 {
     if is_possible(turned(relation), &limit) {
@@ -169,7 +173,7 @@ pub(crate) fn at_bound_relation(
     draft: &mut Draft,
     limit: Limit,
     token: &Token,
-) -> Result<(), LpError>
+) -> Result<(), ReadError<FileFault>>
     ensures { Follows result draft.new (at_bound_relation token.now.kind draft.old limit token.now) }
 {
     match token.kind() {
@@ -187,7 +191,7 @@ fn name_word<'a>(
     limit: Limit,
     relation: Relation,
     token: &Token<'a>,
-) -> Result<(), LpError>
+) -> Result<(), ReadError<FileFault>>
     requires { IsWithinInstance profile.now }
     ensures { Follows result draft.new (at_bound_name TokenKind.Word profile.now draft.old limit relation token.now) }
 {
@@ -206,7 +210,7 @@ pub(crate) fn at_bound_name<'a>(
     limit: Limit,
     relation: Relation,
     token: &Token<'a>,
-) -> Result<(), LpError>
+) -> Result<(), ReadError<FileFault>>
     requires { IsWithinInstance profile.now }
     ensures { Follows result draft.new (at_bound_name token.now.kind profile.now draft.old limit relation token.now) }
 {
@@ -222,7 +226,7 @@ pub(crate) fn at_bound_compared<'a>(
     draft: &mut Draft<'a>,
     column: u32,
     token: &Token<'a>,
-) -> Result<(), LpError>
+) -> Result<(), ReadError<FileFault>>
     requires { IsWithinInstance profile.now }
     ensures { Follows result draft.new (at_bound_compared token.now.kind profile.now draft.old column token.now) }
 {
@@ -241,7 +245,7 @@ fn named_word<'a>(
     draft: &mut Draft<'a>,
     column: u32,
     token: &Token<'a>,
-) -> Result<(), LpError>
+) -> Result<(), ReadError<FileFault>>
     requires { IsWithinInstance profile.now }
     ensures { Follows result draft.new (at_bound_named TokenKind.Word profile.now draft.old column token.now) }
 {
@@ -260,7 +264,7 @@ pub(crate) fn at_bound_named<'a>(
     draft: &mut Draft<'a>,
     column: u32,
     token: &Token<'a>,
-) -> Result<(), LpError>
+) -> Result<(), ReadError<FileFault>>
     requires { IsWithinInstance profile.now }
     ensures { Follows result draft.new (at_bound_named token.now.kind profile.now draft.old column token.now) }
 {
@@ -278,7 +282,7 @@ fn with_right_bound(
     relation: Relation,
     limit: Limit,
     token: &Token,
-) -> Result<(), LpError>
+) -> Result<(), ReadError<FileFault>>
     ensures { Follows result draft.new (with_right_bound draft.old column relation limit token.now) }
 {
     if is_possible(relation, &limit) {
@@ -296,7 +300,7 @@ fn right_literal(
     relation: Relation,
     sign: Sign,
     token: &Token,
-) -> Result<(), LpError>
+) -> Result<(), ReadError<FileFault>>
     ensures { Follows result draft.new (then_do (λ v. with_right_bound draft.old column relation (Finite (signed sign v)) token.now) (number_of token.now)) }
 {
     let value = number_of_token(token)?;
@@ -311,7 +315,7 @@ fn right_infinity(
     relation: Relation,
     sign: Sign,
     token: &Token,
-) -> Result<(), LpError>
+) -> Result<(), ReadError<FileFault>>
     ensures { Follows result draft.new (at_bound_right TokenKind.Word draft.old column relation sign token.now) }
 {
     if is_infinity(token.text()) {
@@ -328,7 +332,7 @@ pub(crate) fn at_bound_right(
     relation: Relation,
     sign: Sign,
     token: &Token,
-) -> Result<(), LpError>
+) -> Result<(), ReadError<FileFault>>
     ensures { Follows result draft.new (at_bound_right token.now.kind draft.old column relation sign token.now) }
 {
     match token.kind() {
@@ -352,7 +356,7 @@ pub(crate) fn at_general<'a>(
     profile: &Profile,
     draft: &mut Draft<'a>,
     token: &Token<'a>,
-) -> Result<(), LpError>
+) -> Result<(), ReadError<FileFault>>
     requires { IsWithinInstance profile.now }
     ensures { Follows result draft.new (at_general token.now.kind profile.now draft.old token.now) }
 {
@@ -372,7 +376,7 @@ pub(crate) fn at_binary<'a>(
     profile: &Profile,
     draft: &mut Draft<'a>,
     token: &Token<'a>,
-) -> Result<(), LpError>
+) -> Result<(), ReadError<FileFault>>
     requires { IsWithinInstance profile.now }
     ensures { Follows result draft.new (at_binary token.now.kind profile.now draft.old token.now) }
 {

@@ -1,12 +1,12 @@
 // The columns of a declaration.
 ghost use Rattle.std.specs.Prelude.{◌≡◌, ◌<◌, ◌≤◌, ◌++◌, [], ◌∷◌, length, map, OnOk, OnErr};
 ghost use Rattle.milp.specs.Problem.{Column};
-ghost use Rattle.cplex_lp_reader.specs.Names.{AreNew};
+ghost use Rattle.model_text.specs.Names.{AreNew};
 ghost use Rattle.cplex_lp_reader.specs.Declaration.{place_in, with_changed};
 ghost use Rattle.cplex_lp_reader.specs.Bounds.{changed};
 
 use crate::declared_column::{ColumnChange, DeclaredColumn};
-use crate::names::Names;
+use model_text::Names;
 use std::alloc::{AllocError, Global};
 use std::marker::Model;
 
@@ -20,7 +20,7 @@ pub(crate) struct ColumnTable<'a> {
 impl<'a> Model for ColumnTable<'a> {
     ghost use Rattle.std.specs.Prelude.{◌≡◌, ◌≤◌, List, map, length};
     ghost use Rattle.milp.specs.Problem.{Column};
-    ghost use Rattle.cplex_lp_reader.specs.Names.{AreNew};
+    ghost use Rattle.model_text.specs.Names.{AreNew};
 
     ghost Value = { List Column };
 

@@ -1,25 +1,23 @@
 // Columns by their mention.
 ghost use Rattle.std.specs.Prelude.{◌≡◌, ◌<◌, length, OnOk};
-ghost use Rattle.cplex_lp_reader.specs.Profile.{IsWithinInstance};
-ghost use Rattle.cplex_lp_reader.specs.Follows.{Follows};
+ghost use Rattle.model_text.specs.Profile.{IsWithinInstance};
+ghost use Rattle.model_text.specs.Follows.{Follows};
 ghost use Rattle.cplex_lp_reader.specs.Declaration.{mentioned, place_in};
 ghost use Rattle.cplex_lp_reader.specs.Bounds.{with_mentioned};
 
 use crate::declared_column::ColumnChange;
 use crate::draft::Draft;
-use crate::error::LpError;
 use crate::faults::fault_at;
 use crate::place::Place;
-use crate::profile::Profile;
 use crate::token::Token;
-use file_fault::FaultKind;
+use model_text::{FaultKind, FileFault, Profile, ReadError};
 
 // A column is there, since its name is mentioned.
 pub(crate) fn mention<'a>(
     profile: &Profile,
     draft: &mut Draft<'a>,
     token: &Token<'a>,
-) -> Result<(), LpError>
+) -> Result<(), ReadError<FileFault>>
     requires { IsWithinInstance profile.now }
     ensures follows { Follows result draft.new (mentioned profile.now token.now draft.old) }
     ensures there { OnOk result (place_in token.now.text draft.old.columns < length draft.new.columns) }
@@ -41,7 +39,7 @@ pub(crate) fn mention_changed<'a>(
     token: &Token<'a>,
     place: Place,
     change: ColumnChange,
-) -> Result<(), LpError>
+) -> Result<(), ReadError<FileFault>>
     requires { IsWithinInstance profile.now }
     ensures { Follows result draft.new (with_mentioned profile.now draft.old token.now place change) }
 {

@@ -2,9 +2,10 @@
 ghost use Rattle.std.specs.Prelude.{◌≡◌, ◌≤◌, ◌+◌, ◌++◌, codes, string_bytes, Ok, IfOk};
 ghost use Rattle.std.specs.Fmt.{decimal};
 ghost use Rattle.rational.specs.Rational.{one_ℚ};
-ghost use Rattle.cplex_lp_reader.specs.Profile.{IsWithinInstance};
-ghost use Rattle.cplex_lp_reader.specs.Follows.{Follows};
-ghost use Rattle.cplex_lp_reader.specs.Steps.{then_do, number_of};
+ghost use Rattle.model_text.specs.Profile.{IsWithinInstance};
+ghost use Rattle.model_text.specs.Follows.{Follows};
+ghost use Rattle.model_text.specs.Steps.{then_do};
+ghost use Rattle.cplex_lp_reader.specs.Steps.{number_of};
 ghost use Rattle.cplex_lp_reader.specs.Grammar.{signed};
 ghost use Rattle.cplex_lp_reader.specs.declared.place.Place.TheVariants as place;
 ghost use Rattle.cplex_lp_reader.specs.declared.place.TermPlace.TheVariants.{Factor};
@@ -13,13 +14,11 @@ ghost use Rattle.cplex_lp_reader.specs.Constraints.{row_opened, unnamed_row, unn
 
 use crate::columns::mention;
 use crate::draft::Draft;
-use crate::error::LpError;
 use crate::faults::{fault_at, misplaced, number_of_token};
 use crate::place::{Place, Sign, TermPlace};
-use crate::profile::Profile;
 use crate::token::{Relation, Token, TokenKind, is_before_colon};
-use file_fault::FaultKind;
 use fraction::Frac;
+use model_text::{FaultKind, FileFault, Profile, ReadError};
 use std::alloc::{AllocError, Global};
 
 // ---- a row begins
@@ -31,7 +30,7 @@ fn open_row(
     draft: &mut Draft,
     line: usize,
     name: String,
-) -> Result<(), LpError>
+) -> Result<(), ReadError<FileFault>>
     requires { IsWithinInstance profile.now }
     ensures { Follows result draft.new (row_opened profile.now line (string_bytes name) draft.old) }
 {
@@ -50,7 +49,7 @@ fn named_row(
     profile: &Profile,
     draft: &mut Draft,
     token: &Token,
-) -> Result<(), LpError>
+) -> Result<(), ReadError<FileFault>>
     requires { IsWithinInstance profile.now }
     ensures { Follows result draft.new (row_opened profile.now token.now.line token.now.text draft.old) }
 {
@@ -73,7 +72,7 @@ fn unnamed_row(
     profile: &Profile,
     draft: &mut Draft,
     line: usize,
-) -> Result<(), LpError>
+) -> Result<(), ReadError<FileFault>>
     requires { IsWithinInstance profile.now }
     ensures { Follows result draft.new (unnamed_row profile.now line draft.old) }
 {
@@ -88,7 +87,7 @@ fn unnamed_row_at(
     draft: &mut Draft,
     place: Place,
     line: usize,
-) -> Result<(), LpError>
+) -> Result<(), ReadError<FileFault>>
     requires { IsWithinInstance profile.now }
     ensures { Follows result draft.new (unnamed_row_at place profile.now line draft.old) }
 {
@@ -105,7 +104,7 @@ fn row_term<'a>(
     draft: &mut Draft<'a>,
     value: Frac,
     token: &Token<'a>,
-) -> Result<(), LpError>
+) -> Result<(), ReadError<FileFault>>
     requires { IsWithinInstance profile.now }
     ensures { Follows result draft.new (row_term profile.now value token.now draft.old) }
 {
@@ -114,7 +113,7 @@ fn row_term<'a>(
     draft.add_to_row(token.line(), column, value)
 }
 
-fn row_literal(draft: &mut Draft, sign: Sign, token: &Token) -> Result<(), LpError>
+fn row_literal(draft: &mut Draft, sign: Sign, token: &Token) -> Result<(), ReadError<FileFault>>
     ensures { Follows result draft.new (then_do (λ v. Ok (at_place (place.RowTerms (Factor (signed sign v))) draft.old)) (number_of token.now)) }
 {
     let value = number_of_token(token)?;
@@ -128,7 +127,7 @@ fn row_begun<'a>(
     draft: &mut Draft<'a>,
     sign: Sign,
     token: &Token<'a>,
-) -> Result<(), LpError>
+) -> Result<(), ReadError<FileFault>>
     requires { IsWithinInstance profile.now }
     ensures { Follows result draft.new (row_begun token.now.kind profile.now draft.old sign token.now) }
 {
@@ -153,7 +152,7 @@ fn row_factor<'a>(
     draft: &mut Draft<'a>,
     value: Frac,
     token: &Token<'a>,
-) -> Result<(), LpError>
+) -> Result<(), ReadError<FileFault>>
     requires { IsWithinInstance profile.now }
     ensures { Follows result draft.new (row_factor token.now.kind profile.now draft.old value token.now) }
 {
@@ -182,7 +181,11 @@ fn may_follow(left: Option<Relation>, relation: Relation) -> bool
 }
 
 // The relation before the number on the row's right.
-fn row_relation(draft: &mut Draft, relation: Relation, token: &Token) -> Result<(), LpError>
+fn row_relation(
+    draft: &mut Draft,
+    relation: Relation,
+    token: &Token,
+) -> Result<(), ReadError<FileFault>>
     ensures { Follows result draft.new (row_done (TokenKind.Compared relation) draft.old token.now) }
 {
     if may_follow(draft.row_left(), relation) {
@@ -194,7 +197,7 @@ fn row_relation(draft: &mut Draft, relation: Relation, token: &Token) -> Result<
 }
 
 // After a term.
-fn row_done(draft: &mut Draft, token: &Token) -> Result<(), LpError>
+fn row_done(draft: &mut Draft, token: &Token) -> Result<(), ReadError<FileFault>>
     ensures { Follows result draft.new (row_done token.now.kind draft.old token.now) }
 {
     match token.kind() {
@@ -216,7 +219,7 @@ pub(crate) fn in_row_terms<'a>(
     draft: &mut Draft<'a>,
     place: TermPlace,
     token: &Token<'a>,
-) -> Result<(), LpError>
+) -> Result<(), ReadError<FileFault>>
     requires { IsWithinInstance profile.now }
     ensures { Follows result draft.new (in_row_terms place profile.now draft.old token.now) }
 {
@@ -235,7 +238,7 @@ fn row_name(
     profile: &Profile,
     draft: &mut Draft,
     token: &Token,
-) -> Result<(), LpError>
+) -> Result<(), ReadError<FileFault>>
     requires { IsWithinInstance profile.now }
     ensures { Follows result draft.new (then_do (λ opened. Ok (at_place place.RowColon opened)) (row_opened profile.now token.now.line token.now.text draft.old)) }
 {
@@ -250,7 +253,7 @@ fn unnamed_term<'a>(
     profile: &Profile,
     draft: &mut Draft<'a>,
     token: &Token<'a>,
-) -> Result<(), LpError>
+) -> Result<(), ReadError<FileFault>>
     requires { IsWithinInstance profile.now }
     ensures { Follows result draft.new (then_do (row_term profile.now one_ℚ token.now) (unnamed_row profile.now token.now.line draft.old)) }
 {
@@ -265,7 +268,7 @@ fn at_row_name<'a>(
     draft: &mut Draft<'a>,
     token: &Token<'a>,
     rest: &[Token],
-) -> Result<(), LpError>
+) -> Result<(), ReadError<FileFault>>
     requires { IsWithinInstance profile.now }
     ensures { Follows result draft.new (at_row_name profile.now draft.old token.now rest.now) }
 {
@@ -282,7 +285,7 @@ fn unnamed_literal(
     profile: &Profile,
     draft: &mut Draft,
     token: &Token,
-) -> Result<(), LpError>
+) -> Result<(), ReadError<FileFault>>
     requires { IsWithinInstance profile.now }
     ensures { Follows result draft.new (then_do (λ v. unnamed_row_at (place.RowNumber v) profile.now token.now.line draft.old) (number_of token.now)) }
 {
@@ -296,7 +299,7 @@ pub(crate) fn at_row_start<'a>(
     draft: &mut Draft<'a>,
     token: &Token<'a>,
     rest: &[Token],
-) -> Result<(), LpError>
+) -> Result<(), ReadError<FileFault>>
     requires { IsWithinInstance profile.now }
     ensures { Follows result draft.new (at_row_start token.now.kind profile.now draft.old token.now rest.now) }
 {
@@ -315,7 +318,7 @@ pub(crate) fn at_row_start<'a>(
     }
 }
 
-pub(crate) fn at_row_colon(draft: &mut Draft, token: &Token) -> Result<(), LpError>
+pub(crate) fn at_row_colon(draft: &mut Draft, token: &Token) -> Result<(), ReadError<FileFault>>
     ensures { Follows result draft.new (at_row_colon draft.old token.now) }
 {
     if token.kind().is_colon() {
@@ -326,7 +329,7 @@ pub(crate) fn at_row_colon(draft: &mut Draft, token: &Token) -> Result<(), LpErr
     }
 }
 
-fn first_literal(draft: &mut Draft, sign: Sign, token: &Token) -> Result<(), LpError>
+fn first_literal(draft: &mut Draft, sign: Sign, token: &Token) -> Result<(), ReadError<FileFault>>
     ensures { Follows result draft.new (then_do (λ v. Ok (at_place (place.RowNumber (signed sign v)) draft.old)) (number_of token.now)) }
 {
     let value = number_of_token(token)?;
@@ -340,7 +343,7 @@ pub(crate) fn at_row_first<'a>(
     draft: &mut Draft<'a>,
     sign: Sign,
     token: &Token<'a>,
-) -> Result<(), LpError>
+) -> Result<(), ReadError<FileFault>>
     requires { IsWithinInstance profile.now }
     ensures { Follows result draft.new (at_row_first token.now.kind profile.now draft.old sign token.now) }
 {
@@ -365,7 +368,7 @@ pub(crate) fn at_row_number<'a>(
     draft: &mut Draft<'a>,
     value: Frac,
     token: &Token<'a>,
-) -> Result<(), LpError>
+) -> Result<(), ReadError<FileFault>>
     requires { IsWithinInstance profile.now }
     ensures { Follows result draft.new (at_row_number token.now.kind profile.now draft.old value token.now) }
 {
@@ -386,7 +389,11 @@ pub(crate) fn at_row_number<'a>(
 // ---- a row ends
 
 // The last row is read to its end; entries past their limit are a fault of its first line.
-fn close_row(alloc: Global, profile: &Profile, draft: &mut Draft) -> Result<(), LpError>
+fn close_row(
+    alloc: Global,
+    profile: &Profile,
+    draft: &mut Draft,
+) -> Result<(), ReadError<FileFault>>
     requires { IsWithinInstance profile.now }
     ensures { Follows result draft.new (row_closed profile.now draft.old) }
 {
@@ -404,7 +411,7 @@ fn close_at(
     draft: &mut Draft,
     relation: Relation,
     value: Frac,
-) -> Result<(), LpError>
+) -> Result<(), ReadError<FileFault>>
     requires { IsWithinInstance profile.now }
     ensures { Follows result draft.new (row_closed profile.now (with_right draft.old value relation)) }
 {
@@ -419,7 +426,7 @@ fn right_literal(
     relation: Relation,
     sign: Sign,
     token: &Token,
-) -> Result<(), LpError>
+) -> Result<(), ReadError<FileFault>>
     requires { IsWithinInstance profile.now }
     ensures { Follows result draft.new (then_do (λ v. row_closed profile.now (with_right draft.old (signed sign v) relation)) (number_of token.now)) }
 {
@@ -435,7 +442,7 @@ pub(crate) fn at_row_right(
     relation: Relation,
     sign: Sign,
     token: &Token,
-) -> Result<(), LpError>
+) -> Result<(), ReadError<FileFault>>
     requires { IsWithinInstance profile.now }
     ensures { Follows result draft.new (at_row_right token.now.kind profile.now draft.old relation sign token.now) }
 {

@@ -2,9 +2,9 @@
 ghost use Rattle.std.specs.Prelude.{◌≡◌, ◌+◌, ◌-◌, ◌<◌, ◌≤◌, ◌++◌, [], ◌∷◌, Some, Ok, false, length, map, string_bytes, IsTrue, IfOk, OnOk, OnErr};
 ghost use Rattle.std.specs.List.{All};
 ghost use Rattle.milp.specs.Problem.{Row, Column};
-ghost use Rattle.cplex_lp_reader.specs.Names.{AreNew};
-ghost use Rattle.cplex_lp_reader.specs.Follows.{Follows};
-ghost use Rattle.cplex_lp_reader.specs.Steps.{then_do};
+ghost use Rattle.model_text.specs.Names.{AreNew};
+ghost use Rattle.model_text.specs.Follows.{Follows};
+ghost use Rattle.model_text.specs.Steps.{then_do};
 ghost use Rattle.cplex_lp_reader.specs.Consistent.{HasForm, are_terms};
 ghost use Rattle.cplex_lp_reader.specs.declared.place.Place.TheVariants as place;
 ghost use Rattle.cplex_lp_reader.specs.declared.place.TermPlace.TheVariants.{Done};
@@ -14,7 +14,6 @@ ghost use Rattle.cplex_lp_reader.specs.Bounds.{changed};
 
 use crate::column_table::ColumnTable;
 use crate::declared_column::{ColumnChange, DeclaredColumn};
-use crate::error::LpError;
 use crate::form::Form;
 use crate::open_row::OpenRow;
 use crate::place::{Place, Sign, TermPlace};
@@ -24,6 +23,7 @@ use crate::token::Relation;
 use fraction::Frac;
 use instance::Entry;
 use milp::Direction;
+use model_text::{FileFault, ReadError};
 use std::alloc::{AllocError, Global};
 use std::marker::Model;
 
@@ -129,7 +129,7 @@ impl<'a> Draft<'a> {
         line: usize,
         column: u32,
         value: Frac,
-    ) -> Result<(), LpError>
+    ) -> Result<(), ReadError<FileFault>>
         requires { column < length self.old.columns }
         ensures { Follows result self.new (then_do (λ form. Ok (record self.old { objective = form; place = place.Objective Done })) (added line column value self.old.objective)) }
     {
@@ -220,7 +220,7 @@ impl<'a> Draft<'a> {
         line: usize,
         column: u32,
         value: Frac,
-    ) -> Result<(), LpError>
+    ) -> Result<(), ReadError<FileFault>>
         requires { column < length self.old.columns }
         ensures { Follows result self.new (then_do (λ form. Ok (record self.old { open_row = record self.old.open_row { form = form }; place = place.RowTerms Done })) (added line column value self.old.open_row.form)) }
     {

@@ -1,31 +1,30 @@
 // The faults of tokens.
 ghost use Rattle.std.specs.Prelude.{◌≡◌};
-ghost use Rattle.file_fault.specs.declared.fault.FaultKind.TheVariants.{BadLine};
-ghost use Rattle.cplex_lp_reader.specs.declared.error.LpError.TheVariants.{Fault};
-ghost use Rattle.cplex_lp_reader.specs.Follows.{Reads};
+ghost use Rattle.model_text.specs.declared.fault.FaultKind.TheVariants.{BadLine};
+ghost use Rattle.model_text.specs.declared.error.ReadError.TheVariants.{Fault};
+ghost use Rattle.model_text.specs.Follows.{Reads};
 ghost use Rattle.cplex_lp_reader.specs.Steps.{number_of};
 
-use crate::error::LpError;
 use crate::token::Token;
-use file_fault::{FaultKind, FileFault};
 use fraction::Frac;
+use model_text::{FaultKind, FileFault, ReadError};
 
 // A fault of this kind at a line.
-pub(crate) fn fault_at(line: usize, kind: FaultKind) -> LpError
+pub(crate) fn fault_at(line: usize, kind: FaultKind) -> ReadError<FileFault>
     ensures { result ≡ Fault (record { line = line; kind = kind }) }
 {
-    LpError::Fault(FileFault { line, kind })
+    ReadError::Fault(FileFault { line, kind })
 }
 
 // The token doesn't stand where it may.
-pub(crate) fn misplaced(token: &Token) -> LpError
+pub(crate) fn misplaced(token: &Token) -> ReadError<FileFault>
     ensures { result ≡ Fault (record { line = token.now.line; kind = BadLine }) }
 {
     fault_at(token.line(), FaultKind::BadLine)
 }
 
 // The value of a literal.
-pub(crate) fn number_of_token(token: &Token) -> Result<Frac, LpError>
+pub(crate) fn number_of_token(token: &Token) -> Result<Frac, ReadError<FileFault>>
     ensures { Reads result (number_of token.now) }
 {
     match Frac::read(token.text()) {

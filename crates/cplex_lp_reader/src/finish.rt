@@ -3,7 +3,7 @@ ghost use Rattle.std.specs.Prelude.{◌≡◌, ◌≢◌, ◌+◌, ◌<◌, ◌�
 ghost use Rattle.std.specs.List.{All};
 ghost use Rattle.milp.specs.Problem.{Column as ColumnOf, Row as RowOf};
 ghost use Rattle.instance.specs.WellFormed.{are_entries, has_column, has_row, entry_count as entries_of_rows};
-ghost use Rattle.cplex_lp_reader.specs.Names.{AreNew};
+ghost use Rattle.model_text.specs.Names.{AreNew};
 ghost use Rattle.cplex_lp_reader.specs.Consistent.{HasForm};
 ghost use Rattle.cplex_lp_reader.specs.Constraints.{entry_count};
 ghost use Rattle.cplex_lp_reader.specs.Declaration.{entries_of, problem_of};

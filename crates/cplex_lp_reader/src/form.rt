@@ -2,15 +2,14 @@
 ghost use Rattle.std.specs.Prelude.{◌≡◌, ℕ, ◌<◌, ◌≤◌, get_or, set, [], true, false, length, take, drop, IsTrue, IfOk, OnErr};
 ghost use Rattle.std.specs.List.{position};
 ghost use Rattle.fraction.specs.Answers.{add_answer};
-ghost use Rattle.cplex_lp_reader.specs.Follows.{Follows, as_read};
+ghost use Rattle.model_text.specs.Follows.{Follows, as_read};
 ghost use Rattle.cplex_lp_reader.specs.Steps.{fitting_at};
 ghost use Rattle.cplex_lp_reader.specs.Declaration.{no_entry, is_from, place_of, begins_with, joined, added, is_zero, is_entry, entries_of};
 ghost use Rattle.cplex_lp_reader.specs.Consistent.{are_terms};
 
-use crate::error::LpError;
-use file_fault::{FaultKind, FileFault};
 use fraction::Frac;
 use instance::Entry;
+use model_text::{FaultKind, FileFault, ReadError};
 use std::alloc::{AllocError, Global};
 use std::marker::Model;
 
@@ -30,12 +29,12 @@ impl Model for Form {
 }
 
 // The fault of a number that doesn't fit.
-pub(crate) fn sum_at(line: usize, a: Frac, b: Frac) -> Result<Frac, LpError>
+pub(crate) fn sum_at(line: usize, a: Frac, b: Frac) -> Result<Frac, ReadError<FileFault>>
     ensures { result ≡ as_read (fitting_at line (add_answer a b)) }
 {
     match a.add(b) {
         Ok(sum) => Ok(sum),
-        Err(_) => Err(LpError::Fault(FileFault {
+        Err(_) => Err(ReadError::Fault(FileFault {
             line,
             kind: FaultKind::TooWide,
         })),
@@ -105,7 +104,12 @@ impl Form {
     }
 
     // A term added to those of its column, from the left; the fault is at its line.
-    pub(crate) fn add(&mut self, line: usize, column: u32, value: Frac) -> Result<(), LpError>
+    pub(crate) fn add(
+        &mut self,
+        line: usize,
+        column: u32,
+        value: Frac,
+    ) -> Result<(), ReadError<FileFault>>
         requires { (count : ℕ) × IsTrue (are_terms count self.old) }
         ensures follows { Follows result self.new (added line column value self.old) }
         ensures terms { (count : ℕ) → column < count → IsTrue (are_terms count self.old) → IsTrue (are_terms count self.new) }
@@ -140,7 +144,13 @@ impl Form {
     }
 
     // The term is added to the entry of its column.
-    fn join(&mut self, line: usize, place: usize, column: u32, value: Frac) -> Result<(), LpError>
+    fn join(
+        &mut self,
+        line: usize,
+        place: usize,
+        column: u32,
+        value: Frac,
+    ) -> Result<(), ReadError<FileFault>>
         requires { begins_with column (drop place self.old) ≡ true }
         ensures follows { Follows result self.new (joined line column value (take place self.old) (drop place self.old)) }
         ensures kept { OnErr result (self.new ≡ self.old) }
@@ -156,7 +166,7 @@ impl Form {
         Ok(())
     }
 
-    fn insert(&mut self, place: usize, column: u32, value: Frac) -> Result<(), LpError>
+    fn insert(&mut self, place: usize, column: u32, value: Frac) -> Result<(), ReadError<FileFault>>
         requires other { begins_with column (drop place self.old) ≡ false }
         requires within { place ≤ length self.old }
         ensures follows { (line : ℕ) → Follows result self.new (joined line column value (take place self.old) (drop place self.old)) }
@@ -168,7 +178,7 @@ impl Form {
         };
         match self.entries.insert(place, entry) {
             Ok(_) => Ok(()),
-            Err(_) => Err(LpError::NoMemory),
+            Err(_) => Err(ReadError::NoMemory),
         }
     }
 

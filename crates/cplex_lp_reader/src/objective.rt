@@ -1,21 +1,21 @@
 // The tokens of the objective.
 ghost use Rattle.std.specs.Prelude.{◌≡◌};
 ghost use Rattle.fraction.specs.Answers.{add_answer};
-ghost use Rattle.cplex_lp_reader.specs.Profile.{IsWithinInstance};
-ghost use Rattle.cplex_lp_reader.specs.Follows.{Follows};
-ghost use Rattle.cplex_lp_reader.specs.Steps.{then_do, number_of};
+ghost use Rattle.model_text.specs.Profile.{IsWithinInstance};
+ghost use Rattle.model_text.specs.Follows.{Follows};
+ghost use Rattle.model_text.specs.Steps.{then_do};
+ghost use Rattle.cplex_lp_reader.specs.Steps.{number_of};
 ghost use Rattle.cplex_lp_reader.specs.Grammar.{signed};
 ghost use Rattle.cplex_lp_reader.specs.Objective.{objective_term, with_constant, objective_number, objective_begun, objective_factor, objective_done, in_objective, at_objective_start, at_objective_colon};
 
 use crate::columns::mention;
 use crate::draft::Draft;
-use crate::error::LpError;
 use crate::faults::{misplaced, number_of_token};
 use crate::form::sum_at;
 use crate::place::{Place, Sign, TermPlace};
-use crate::profile::Profile;
 use crate::token::{Token, TokenKind, is_before_colon, is_before_name};
 use fraction::Frac;
+use model_text::{FileFault, Profile, ReadError};
 
 // ---- terms
 
@@ -25,7 +25,7 @@ fn objective_term<'a>(
     draft: &mut Draft<'a>,
     value: Frac,
     token: &Token<'a>,
-) -> Result<(), LpError>
+) -> Result<(), ReadError<FileFault>>
     requires { IsWithinInstance profile.now }
     ensures { Follows result draft.new (objective_term profile.now draft.old value token.now) }
 {
@@ -34,7 +34,7 @@ fn objective_term<'a>(
     draft.add_to_objective(token.line(), column, value)
 }
 
-fn with_constant(draft: &mut Draft, value: Frac, token: &Token) -> Result<(), LpError>
+fn with_constant(draft: &mut Draft, value: Frac, token: &Token) -> Result<(), ReadError<FileFault>>
     ensures { Follows result draft.new (with_constant draft.old value token.now) }
 {
     let sum = sum_at(token.line(), draft.constant(), value)?;
@@ -48,7 +48,7 @@ fn objective_number(
     token: &Token,
     rest: &[Token],
     value: Frac,
-) -> Result<(), LpError>
+) -> Result<(), ReadError<FileFault>>
     ensures { Follows result draft.new (objective_number draft.old token.now rest.now value) }
 {
     if is_before_name(rest) {
@@ -64,7 +64,7 @@ fn objective_literal(
     sign: Sign,
     token: &Token,
     rest: &[Token],
-) -> Result<(), LpError>
+) -> Result<(), ReadError<FileFault>>
     ensures { Follows result draft.new (then_do (λ v. objective_number draft.old token.now rest.now (signed sign v)) (number_of token.now)) }
 {
     let value = number_of_token(token)?;
@@ -78,7 +78,7 @@ fn objective_begun<'a>(
     sign: Sign,
     token: &Token<'a>,
     rest: &[Token],
-) -> Result<(), LpError>
+) -> Result<(), ReadError<FileFault>>
     requires { IsWithinInstance profile.now }
     ensures { Follows result draft.new (objective_begun token.now.kind profile.now draft.old sign token.now rest.now) }
 {
@@ -103,7 +103,7 @@ fn objective_factor<'a>(
     draft: &mut Draft<'a>,
     value: Frac,
     token: &Token<'a>,
-) -> Result<(), LpError>
+) -> Result<(), ReadError<FileFault>>
     requires { IsWithinInstance profile.now }
     ensures { Follows result draft.new (objective_factor token.now.kind profile.now draft.old value token.now) }
 {
@@ -114,7 +114,7 @@ fn objective_factor<'a>(
 }
 
 // After a term.
-fn objective_done(draft: &mut Draft, token: &Token) -> Result<(), LpError>
+fn objective_done(draft: &mut Draft, token: &Token) -> Result<(), ReadError<FileFault>>
     ensures { Follows result draft.new (objective_done token.now.kind draft.old token.now) }
 {
     match token.kind() {
@@ -136,7 +136,7 @@ pub(crate) fn in_objective<'a>(
     place: TermPlace,
     token: &Token<'a>,
     rest: &[Token],
-) -> Result<(), LpError>
+) -> Result<(), ReadError<FileFault>>
     requires { IsWithinInstance profile.now }
     ensures { Follows result draft.new (in_objective place profile.now draft.old token.now rest.now) }
 {
@@ -155,7 +155,7 @@ pub(crate) fn at_objective_start<'a>(
     draft: &mut Draft<'a>,
     token: &Token<'a>,
     rest: &[Token],
-) -> Result<(), LpError>
+) -> Result<(), ReadError<FileFault>>
     requires { IsWithinInstance profile.now }
     ensures { Follows result draft.new (at_objective_start profile.now draft.old token.now rest.now) }
 {
@@ -167,7 +167,10 @@ pub(crate) fn at_objective_start<'a>(
     }
 }
 
-pub(crate) fn at_objective_colon(draft: &mut Draft, token: &Token) -> Result<(), LpError>
+pub(crate) fn at_objective_colon(
+    draft: &mut Draft,
+    token: &Token,
+) -> Result<(), ReadError<FileFault>>
     ensures { Follows result draft.new (at_objective_colon draft.old token.now) }
 {
     if token.kind().is_colon() {

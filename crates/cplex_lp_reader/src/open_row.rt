@@ -1,16 +1,16 @@
 // The row that is being read.
 ghost use Rattle.std.specs.Prelude.{◌≡◌, ℕ, ◌<◌, Some, Ok, IsTrue, IfOk};
-ghost use Rattle.cplex_lp_reader.specs.Follows.{Follows};
-ghost use Rattle.cplex_lp_reader.specs.Steps.{then_do};
+ghost use Rattle.model_text.specs.Follows.{Follows};
+ghost use Rattle.model_text.specs.Steps.{then_do};
 ghost use Rattle.cplex_lp_reader.specs.Declaration.{new_row, added, entries_of};
 ghost use Rattle.cplex_lp_reader.specs.Constraints.{left_set, right_set};
 ghost use Rattle.cplex_lp_reader.specs.Consistent.{are_terms};
 
-use crate::error::LpError;
 use crate::form::Form;
 use crate::token::Relation;
 use fraction::Frac;
 use instance::Entry;
+use model_text::{FileFault, ReadError};
 use std::alloc::{AllocError, Global};
 use std::marker::Model;
 
@@ -79,7 +79,12 @@ impl OpenRow {
     }
 
     // A term more; the fault is at its line.
-    pub(crate) fn add(&mut self, line: usize, column: u32, value: Frac) -> Result<(), LpError>
+    pub(crate) fn add(
+        &mut self,
+        line: usize,
+        column: u32,
+        value: Frac,
+    ) -> Result<(), ReadError<FileFault>>
         requires { (count : ℕ) × IsTrue (are_terms count self.old.form) }
         ensures follows { Follows result self.new (then_do (λ form. Ok (record self.old { form = form })) (added line column value self.old.form)) }
         ensures terms { (count : ℕ) → column < count → IsTrue (are_terms count self.old.form) → IsTrue (are_terms count self.new.form) }

@@ -1,7 +1,7 @@
 // The names of rows, found by their text.
 ghost use Rattle.std.specs.Prelude.{◌≡◌, ◌++◌, [], ◌∷◌, false, string_bytes, OnOk, OnErr};
 ghost use Rattle.std.specs.List.{list_any};
-ghost use Rattle.cplex_lp_reader.specs.Names.{is_name};
+ghost use Rattle.model_text.specs.Names.{is_name};
 
 use indexmap::IndexSet;
 use std::alloc::{AllocError, Global};

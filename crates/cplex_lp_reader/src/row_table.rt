@@ -1,7 +1,7 @@
 // The rows of a declaration.
 ghost use Rattle.std.specs.Prelude.{◌≡◌, ◌+◌, ◌-◌, ◌<◌, ◌≤◌, ◌++◌, [], ◌∷◌, false, length, map, string_bytes, OnOk, OnErr};
 ghost use Rattle.milp.specs.Problem.{Row};
-ghost use Rattle.cplex_lp_reader.specs.Names.{AreNew};
+ghost use Rattle.model_text.specs.Names.{AreNew};
 ghost use Rattle.cplex_lp_reader.specs.Declaration.{with_changed};
 ghost use Rattle.cplex_lp_reader.specs.Constraints.{is_row, blank_row, entry_count};
 
@@ -24,7 +24,7 @@ pub(crate) struct RowTable {
 impl Model for RowTable {
     ghost use Rattle.std.specs.Prelude.{◌≡◌, ◌≤◌, List, map, length};
     ghost use Rattle.milp.specs.Problem.{Row};
-    ghost use Rattle.cplex_lp_reader.specs.Names.{AreNew};
+    ghost use Rattle.model_text.specs.Names.{AreNew};
     ghost use Rattle.cplex_lp_reader.specs.Constraints.{entry_count as entries_in};
 
     ghost Value = { List Row };

@@ -1,7 +1,7 @@
 // Tokens, by where they stand.
 ghost use Rattle.std.specs.Prelude.{◌≡◌};
-ghost use Rattle.cplex_lp_reader.specs.Profile.{IsWithinInstance};
-ghost use Rattle.cplex_lp_reader.specs.Follows.{Follows};
+ghost use Rattle.model_text.specs.Profile.{IsWithinInstance};
+ghost use Rattle.model_text.specs.Follows.{Follows};
 ghost use Rattle.cplex_lp_reader.specs.CplexLp.{entered, entered_integers, directed, at_section, in_section, by_kind, with_token, at_end};
 
 use crate::bounds::{
@@ -12,20 +12,23 @@ use crate::constraints::{
     at_row_colon, at_row_first, at_row_number, at_row_right, at_row_start, in_row_terms,
 };
 use crate::draft::Draft;
-use crate::error::LpError;
 use crate::faults::{fault_at, misplaced};
 use crate::objective::{at_objective_colon, at_objective_start, in_objective};
 use crate::place::Place;
-use crate::profile::Profile;
 use crate::token::{Section, Token, TokenKind};
-use file_fault::FaultKind;
 use milp::Direction;
+use model_text::{FaultKind, FileFault, Profile, ReadError};
 use std::alloc::Global;
 
 // ---- sections
 
 // Another section begins, if it may.
-fn enter(draft: &mut Draft, may: bool, next: Place, token: &Token) -> Result<(), LpError>
+fn enter(
+    draft: &mut Draft,
+    may: bool,
+    next: Place,
+    token: &Token,
+) -> Result<(), ReadError<FileFault>>
     ensures { Follows result draft.new (entered may next draft.old token.now) }
 {
     if may {
@@ -42,7 +45,7 @@ fn enter_integers(
     draft: &mut Draft,
     next: Place,
     token: &Token,
-) -> Result<(), LpError>
+) -> Result<(), ReadError<FileFault>>
     ensures { Follows result draft.new (entered_integers profile.now next draft.old token.now) }
 {
     if !draft.place().ends_section() {
@@ -56,7 +59,11 @@ fn enter_integers(
 }
 
 // The objective comes first.
-fn direct(draft: &mut Draft, direction: Direction, token: &Token) -> Result<(), LpError>
+fn direct(
+    draft: &mut Draft,
+    direction: Direction,
+    token: &Token,
+) -> Result<(), ReadError<FileFault>>
     ensures { Follows result draft.new (directed direction draft.old token.now) }
 {
     if draft.place().is_start() {
@@ -72,7 +79,7 @@ fn at_section(
     draft: &mut Draft,
     section: Section,
     token: &Token,
-) -> Result<(), LpError>
+) -> Result<(), ReadError<FileFault>>
     ensures { Follows result draft.new (at_section section profile.now draft.old token.now) }
 {
     match section {
@@ -104,7 +111,7 @@ fn in_section<'a>(
     draft: &mut Draft<'a>,
     token: &Token<'a>,
     rest: &[Token],
-) -> Result<(), LpError>
+) -> Result<(), ReadError<FileFault>>
     requires { IsWithinInstance profile.now }
     ensures { Follows result draft.new (in_section draft.old.place profile.now draft.old token.now rest.now) }
 {
@@ -144,7 +151,7 @@ fn of_kind<'a>(
     draft: &mut Draft<'a>,
     token: &Token<'a>,
     rest: &[Token],
-) -> Result<(), LpError>
+) -> Result<(), ReadError<FileFault>>
     requires { IsWithinInstance profile.now }
     ensures { Follows result draft.new (by_kind token.now.kind profile.now draft.old token.now rest.now) }
 {
@@ -161,7 +168,7 @@ pub(crate) fn read_token<'a>(
     draft: &mut Draft<'a>,
     token: &Token<'a>,
     rest: &[Token],
-) -> Result<(), LpError>
+) -> Result<(), ReadError<FileFault>>
     requires { IsWithinInstance profile.now }
     ensures { Follows result draft.new (with_token profile.now draft.old token.now rest.now) }
 {
@@ -172,7 +179,7 @@ pub(crate) fn read_token<'a>(
 }
 
 // A missing `end` is accepted; another fault at the text's end is at the line after the last.
-pub(crate) fn at_end(draft: &mut Draft, line: usize) -> Result<(), LpError>
+pub(crate) fn at_end(draft: &mut Draft, line: usize) -> Result<(), ReadError<FileFault>>
     ensures { Follows result draft.new (at_end line draft.old) }
 {
     if draft.place().is_ended() {

@@ -13,7 +13,7 @@ use Rattle.outside.specs.Told.{Has, AppendsPrefix, IsKeptOrPrefix}
 use Rattle.command_line.specs.declared.settings.Settings.{Settings}
 use Rattle.command_line.specs.declared.settings.Task.TheVariants.{Solve, Translate, CheckCertificate}
 use Rattle.fraction.specs.declared.frac.NoFit.{NoFit}
-use Rattle.file_fault.specs.declared.fault.FileFault.{FileFault}
+use Rattle.model_text.specs.declared.fault.FileFault.{FileFault}
 use Rattle.certificate.specs.Text.{certificate_text}
 use Rattle.search_node.specs.declared.node.Node.{Node}
 use Rattle.basis.specs.declared.Place.{Place}

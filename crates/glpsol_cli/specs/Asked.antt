@@ -3,7 +3,7 @@ use Rattle.std.specs.Prelude.{◌≡◌, ◌≤◌, ℕ, List, length, Result, S
 use Rattle.std.specs.declared.option.Option.{Option}
 use Rattle.milp.specs.Problem.{Problem}
 use Rattle.milp.specs.declared.Direction.{Direction}
-use Rattle.file_fault.specs.declared.fault.FileFault.{FileFault}
+use Rattle.model_text.specs.declared.fault.FileFault.{FileFault}
 use Rattle.mps_reader.specs.FreeMps.{declared as declared_by_free_mps}
 use Rattle.cplex_lp_reader.specs.CplexLp.{declared as declared_by_cplex_lp}
 use Rattle.outside.specs.Told.{Lacks, Has}

@@ -3,9 +3,9 @@ ghost use Rattle.std.specs.Prelude.{◌≡◌};
 
 use cert_check::Part;
 use certificate::{CertFault, Certificate};
-use file_fault::FileFault;
 use fraction::NoFit;
 use instance::Name;
+use model_text::FileFault;
 use search_node::{Bases, Node};
 
 /// Where a run writes.

@@ -14,9 +14,10 @@ use branch_solve::{SolveFault, solve};
 use cert_check::{CheckFault, Checked, check};
 use certificate::{CertError, Certificate};
 use command_line::{Language, Outputs};
-use cplex_lp_reader::{LpError, read_lp};
+use cplex_lp_reader::read_lp;
 use instance::{Direction, Instance, Name};
-use mps_reader::{MpsError, read_mps};
+use model_text::ReadError;
+use mps_reader::read_mps;
 use outside::Store;
 use search_node::Node;
 use std::alloc::Global;
@@ -102,8 +103,8 @@ fn free_mps_problem(alloc: Global, text: &[u8]) -> Result<Instance, Answer>
     mps_reader::declared_problems_are_continuous();
     match read_mps(alloc, text) {
         Ok(problem) => Ok(problem),
-        Err(MpsError::Fault(fault)) => Err(Answer::BadFile(fault)),
-        Err(MpsError::NoMemory) => Err(Answer::NoMemory { found: None }),
+        Err(ReadError::Fault(fault)) => Err(Answer::BadFile(fault)),
+        Err(ReadError::NoMemory) => Err(Answer::NoMemory { found: None }),
     }
 }
 
@@ -116,8 +117,8 @@ fn cplex_lp_problem(alloc: Global, text: &[u8]) -> Result<Instance, Answer>
     cplex_lp_reader::declared_problems_are_continuous();
     match read_lp(alloc, text) {
         Ok(problem) => Ok(problem),
-        Err(LpError::Fault(fault)) => Err(Answer::BadFile(fault)),
-        Err(LpError::NoMemory) => Err(Answer::NoMemory { found: None }),
+        Err(ReadError::Fault(fault)) => Err(Answer::BadFile(fault)),
+        Err(ReadError::NoMemory) => Err(Answer::NoMemory { found: None }),
     }
 }
 

@@ -3,7 +3,7 @@ use Rattle.std.specs.Prelude.{◌≡◌, ℕ, refl, Err, codes, List, [], ◌∷
 use Rattle.std.specs.Str.{is_utf8, chars}
 use Rattle.std.specs.Char.{encode_utf8}
 use Rattle.mps_reader.specs.FreeMps.{declared}
-use Rattle.file_fault.specs.declared.fault.FaultKind.TheVariants.{Twice, NoEnd}
+use Rattle.model_text.specs.declared.fault.FaultKind.TheVariants.{Twice, NoEnd}
 
 lines : List (List ℕ) → List ℕ
 lines [] = []

@@ -7,8 +7,8 @@ use Rattle.std.proofs.lemmas.List.{map-append}
 use Rattle.std.proofs.Math.Seq.{map-set_same}
 use Rattle.std.specs.List.{position, position_or_len, list_any, find}
 use Rattle.mps_reader.specs.Declaration.{with_first_changed}
-use Rattle.mps_reader.specs.Names.{is_name, AreNew}
-use Rattle.mps_reader.proofs.Lookup.{position-same, list_any-same, AreNew-push}
+use Rattle.model_text.specs.Names.{is_name, AreNew}
+use Rattle.model_text.proofs.Lookup.{position-same, list_any-same, AreNew-push}
 
 place-some : {X : Type 0} (p : X → Bool) → (xs : List X) (i : ℕ) → position p xs ≡ Some i → (position_or_len p xs ≡ i) × (i < length xs)
 place-some p xs i e = grind (arith, nat_tests)

@@ -1,5 +1,4 @@
 pub mod FreeMpsExamples
-pub mod Lookup
 pub mod Building
 pub mod LineSteps
 pub mod Pairs

@@ -1,14 +1,15 @@
 -- A text's lines, one at a time.
 use Rattle.std.proofs.Common.{◌≡◌, ◌∙◌, ℕ, ◌+◌, ◌<◌, List, [], ◌∷◌, length, map, drop, get_or, Result, Ok, Err, Bor, ap, refl, arith}
 use Rattle.std.proofs.lemmas.List.{length-map, get_or-map, drop_more}
-use Rattle.file_fault.specs.declared.fault.FaultKind.{FaultKind}
-use Rattle.file_fault.specs.declared.fault.FileFault.{FileFault}
-use Rattle.mps_reader.specs.declared.error.LineError.{LineError}
-use Rattle.mps_reader.specs.declared.error.LineError.TheVariants.{Fault, NoMemory}
-use Rattle.mps_reader.specs.declared.profile.Profile.{Profile}
+use Rattle.model_text.specs.declared.fault.FaultKind.{FaultKind}
+use Rattle.model_text.specs.declared.fault.FileFault.{FileFault}
+use Rattle.model_text.specs.declared.error.ReadError.{ReadError}
+use Rattle.model_text.specs.declared.error.ReadError.TheVariants.{Fault, NoMemory}
+use Rattle.model_text.specs.declared.profile.Profile.{Profile}
 use Rattle.mps_reader.specs.Declaration.{Declaration}
 use Rattle.mps_reader.specs.FreeMps.{declared_from, with_line, at_line}
-use Rattle.mps_reader.specs.Follows.{Follows, ReadsInto, fault_at}
+use Rattle.model_text.specs.Follows.{Follows}
+use Rattle.mps_reader.specs.Follows.{fault_at}
 
 abbrev no_line : Bor (List ℕ)
 no_line = record { ref_ptr = (0, 0); now = [] }
@@ -28,6 +29,6 @@ next-line profile d lines i h = ap (λ rest. declared_from profile (i + 1) d res
 pub line-goes : (answer : Result Declaration FaultKind) (new : Declaration) (n : ℕ) (f : Declaration → Result Declaration FileFault) → answer ≡ Ok new → at_line n f answer ≡ f new
 line-goes answer new n f h = rw h refl
 
-pub line-stops : (error : LineError) (middle : Declaration) (answer : Result Declaration FaultKind) (n : ℕ) (f : Declaration → Result Declaration FileFault) (whole : Result Declaration FileFault) (new : Declaration) → Follows (Err error) middle answer → whole ≡ at_line n f answer → ReadsInto (Err (fault_at n error)) new whole
+pub line-stops : (error : ReadError FaultKind) (middle : Declaration) (answer : Result Declaration FaultKind) (n : ℕ) (f : Declaration → Result Declaration FileFault) (whole : Result Declaration FileFault) (new : Declaration) → Follows (Err error) middle answer → whole ≡ at_line n f answer → Follows (Err (fault_at n error)) new whole
 line-stops (Fault kind) middle answer n f whole new h e = e ∙ (rw h refl)
 line-stops NoMemory middle answer n f whole new h e = tt

@@ -2,10 +2,11 @@
 use Rattle.std.proofs.Common.{◌≡◌, ℕ, Bool, true, false, List, [], ◌∷◌, Result, Ok, Err, IfOk, if◌then◌else◌, refl}
 use Rattle.rational.specs.Rational.{Rational}
 use Rattle.fraction.specs.declared.read.ReadFault.{ReadFault}
-use Rattle.file_fault.specs.declared.fault.FaultKind.{FaultKind}
-use Rattle.file_fault.specs.declared.fault.FileFault.{FileFault}
+use Rattle.model_text.specs.declared.fault.FaultKind.{FaultKind}
+use Rattle.model_text.specs.declared.fault.FileFault.{FileFault}
 use Rattle.mps_reader.specs.Declaration.{Declaration}
-use Rattle.mps_reader.specs.Steps.{then_do, at_end, with_number}
+use Rattle.model_text.specs.Steps.{then_do}
+use Rattle.mps_reader.specs.Steps.{at_end, with_number}
 use Rattle.mps_reader.specs.FreeMps.{at_line}
 
 -- the cases of a test

@@ -4,17 +4,19 @@ use Rattle.std.specs.declared.option.Option.{Option}
 use Rattle.std.specs.List.{list_all}
 use Rattle.std.specs.Str.{bytes_eq, is_utf8}
 use Rattle.milp.specs.Problem.{Problem}
-use Rattle.file_fault.specs.declared.fault.FaultKind.{FaultKind}
-use Rattle.file_fault.specs.declared.fault.FaultKind.TheVariants.{BadSection, BadLine, NoEnd}
-use Rattle.file_fault.specs.declared.fault.FileFault.{FileFault}
-use Rattle.mps_reader.specs.declared.profile.Profile.{Profile}
+use Rattle.model_text.specs.declared.fault.FaultKind.{FaultKind}
+use Rattle.model_text.specs.declared.fault.FaultKind.TheVariants.{BadSection, BadLine, NoEnd}
+use Rattle.model_text.specs.declared.fault.FileFault.{FileFault}
+use Rattle.model_text.specs.declared.profile.Profile.{Profile}
 use Rattle.mps_reader.specs.declared.section.Section.{Section}
 use Rattle.mps_reader.specs.declared.section.Section.TheVariants.{Start, NameLine, Rows, Columns, Rhs, Ranges, Bounds, Ended}
 use Rattle.mps_reader.specs.declared.pairs_section.PairSection.TheVariants.{RhsPairs, RangePairs}
-use Rattle.mps_reader.specs.Lines.{lines_of, fields_of, is_blank, is_header}
-use Rattle.mps_reader.specs.Profile.{reader_profile}
+use Rattle.model_text.specs.Lines.{lines_of}
+use Rattle.mps_reader.specs.Lines.{fields_of, is_blank, is_header}
+use Rattle.model_text.specs.Profile.{reader_profile}
 use Rattle.mps_reader.specs.Declaration.{may_follow, Declaration, nothing_declared}
-use Rattle.mps_reader.specs.Steps.{then_do, at_end}
+use Rattle.model_text.specs.Steps.{then_do}
+use Rattle.mps_reader.specs.Steps.{at_end}
 use Rattle.mps_reader.specs.RowsAndColumns.{row_line, column_line}
 use Rattle.mps_reader.specs.RhsRangesBounds.{pair_line, bound_line}
 use Rattle.mps_reader.specs.Finished.{problem_of}

@@ -5,7 +5,5 @@ pub mod Steps
 pub mod RowsAndColumns
 pub mod RhsRangesBounds
 pub mod FreeMps
-pub mod Profile
-pub mod Names
 pub mod Consistent
 pub mod Follows

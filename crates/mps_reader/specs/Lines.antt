@@ -1,11 +1,6 @@
--- The lines of a free MPS text, and their fields.
+-- The fields of the lines of a free MPS text.
 use Rattle.std.specs.Prelude.{ℕ, ◌==◌, ◌||◌, Bool, false, List, [], ◌∷◌, length, not, filter}
 use Rattle.std.specs.List.{slice_split, flat_map}
-use Rattle.std.specs.Str.Lines.{lines}
-
--- std's lines: a carriage return before a line feed is passed over, and an empty last piece is no line
-abbrev pub lines_of : List ℕ → List (List ℕ)
-lines_of text = lines text
 
 abbrev pub is_some_field : List ℕ → Bool
 is_some_field field = not (length field == 0)

@@ -7,9 +7,9 @@ use Rattle.fraction.specs.Fits.{sum_fits}
 use Rattle.fraction.specs.Literal.{read_of}
 use Rattle.fraction.specs.declared.read.ReadFault.{ReadFault}
 use Rattle.milp.specs.Problem.{Column}
-use Rattle.file_fault.specs.declared.fault.FaultKind.{FaultKind}
-use Rattle.file_fault.specs.declared.fault.FaultKind.TheVariants.{BadLine, TooWide, Unknown, Twice, IntegersNotYet}
-use Rattle.mps_reader.specs.declared.profile.Profile.{Profile}
+use Rattle.model_text.specs.declared.fault.FaultKind.{FaultKind}
+use Rattle.model_text.specs.declared.fault.FaultKind.TheVariants.{BadLine, TooWide, Unknown, Twice, IntegersNotYet}
+use Rattle.model_text.specs.declared.profile.Profile.{Profile}
 use Rattle.mps_reader.specs.declared.row.RowKind.{RowKind}
 use Rattle.mps_reader.specs.declared.row.RowRange.{RowRange}
 use Rattle.mps_reader.specs.declared.row.RowKind.TheVariants.{Objective, Free, AtMost, AtLeast, Exactly}
@@ -18,7 +18,8 @@ use Rattle.mps_reader.specs.declared.pairs_section.PairSection.TheVariants.{RhsP
 use Rattle.mps_reader.specs.declared.bound.BoundKind.{BoundKind}
 use Rattle.mps_reader.specs.declared.bound.BoundKind.TheVariants.{Lower, Upper, Fixed, IntegerLower, IntegerUpper, Unbounded, NoLower, NoUpper, Binary}
 use Rattle.mps_reader.specs.Declaration.{is_free, DeclaredRow, Declaration, row_named, with_row, is_column, is_column_named, with_first_changed}
-use Rattle.mps_reader.specs.Steps.{then_do, with_number}
+use Rattle.model_text.specs.Steps.{then_do}
+use Rattle.mps_reader.specs.Steps.{with_number}
 
 -- ---- sets: only the lines of the section's first one count
 

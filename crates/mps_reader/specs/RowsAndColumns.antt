@@ -5,13 +5,14 @@ use Rattle.std.specs.Str.{bytes_eq}
 use Rattle.rational.specs.Rational.{Rational, zero_ℚ}
 use Rattle.fraction.specs.Literal.{read_of}
 use Rattle.milp.specs.Problem.{Column}
-use Rattle.file_fault.specs.declared.fault.FaultKind.{FaultKind}
-use Rattle.file_fault.specs.declared.fault.FaultKind.TheVariants.{BadLine, Unknown, Twice, TooMany, IntegersNotYet}
-use Rattle.mps_reader.specs.declared.profile.Profile.{Profile}
+use Rattle.model_text.specs.declared.fault.FaultKind.{FaultKind}
+use Rattle.model_text.specs.declared.fault.FaultKind.TheVariants.{BadLine, Unknown, Twice, TooMany, IntegersNotYet}
+use Rattle.model_text.specs.declared.profile.Profile.{Profile}
 use Rattle.mps_reader.specs.declared.row.RowKind.{RowKind}
 use Rattle.mps_reader.specs.declared.row.RowKind.TheVariants.{Objective, Free, AtMost, AtLeast, Exactly}
 use Rattle.mps_reader.specs.Declaration.{is_free, DeclaredRow, new_row, Declaration, is_objective_named, row_named, is_row, with_row, is_column, is_zero, entry_count}
-use Rattle.mps_reader.specs.Steps.{then_do, at_end, with_number}
+use Rattle.model_text.specs.Steps.{then_do}
+use Rattle.mps_reader.specs.Steps.{at_end, with_number}
 
 -- ---- ROWS: `N|L|G|E name`
 

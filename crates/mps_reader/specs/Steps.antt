@@ -3,13 +3,8 @@ use Rattle.std.specs.Prelude.{ℕ, List, [], ◌∷◌, Result, Ok, Err}
 use Rattle.rational.specs.Rational.{Rational}
 use Rattle.fraction.specs.declared.read.ReadFault.{ReadFault}
 use Rattle.fraction.specs.declared.read.ReadFault.TheVariants.{NotANumber, TooWide as TooWideNumber}
-use Rattle.file_fault.specs.declared.fault.FaultKind.{FaultKind}
-use Rattle.file_fault.specs.declared.fault.FaultKind.TheVariants.{BadLine, BadNumber, TooWide}
-
--- the next step, where there was no fault
-abbrev pub then_do : {A B : Type 0} → (A → Result B FaultKind) → Result A FaultKind → Result B FaultKind
-then_do f (Err kind) = Err kind
-then_do f (Ok a) = f a
+use Rattle.model_text.specs.declared.fault.FaultKind.{FaultKind}
+use Rattle.model_text.specs.declared.fault.FaultKind.TheVariants.{BadLine, BadNumber, TooWide}
 
 -- no further field may come
 abbrev pub at_end : {A : Type 0} → List (List ℕ) → A → Result A FaultKind

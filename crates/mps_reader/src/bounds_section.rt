@@ -1,29 +1,28 @@
 // The lines of BOUNDS.
 ghost use Rattle.std.specs.Prelude.{◌≡◌, map, None, Some};
 ghost use Rattle.std.specs.Option.{option_map};
-ghost use Rattle.mps_reader.specs.Follows.{Follows, number_or_fault};
+ghost use Rattle.model_text.specs.Follows.{Follows};
+ghost use Rattle.mps_reader.specs.Follows.{number_or_fault};
 ghost use Rattle.mps_reader.specs.RhsRangesBounds.{bound_line, bound_of_kind, bound_with_fields, bound_on_column, bound_value, with_bound};
 
 use crate::bound::BoundKind;
 use crate::draft::Draft;
-use crate::error::LineError;
 use crate::literal::read_number;
-use crate::profile::Profile;
-use file_fault::FaultKind;
 use fraction::Frac;
+use model_text::{FaultKind, Profile, ReadError};
 
 // `UP|LO|FX|LI|UI [set] col v` and `FR|MI|PL|BV [set] col`, or with four fields a number that isn't used
 pub(crate) fn bound_line<'a>(
     profile: &Profile,
     draft: &mut Draft<'a>,
     fields: &[&'a str],
-) -> Result<(), LineError>
+) -> Result<(), ReadError<FaultKind>>
     ensures { Follows result draft.new (bound_line profile.now draft.old (map (λ f. f.now) fields.now)) }
 {
     match fields {
-        [] => Err(LineError::Fault(FaultKind::BadLine)),
+        [] => Err(ReadError::Fault(FaultKind::BadLine)),
         [word, rest @ ..] => match BoundKind::of_word(word) {
-            None => Err(LineError::Fault(FaultKind::BadLine)),
+            None => Err(ReadError::Fault(FaultKind::BadLine)),
             Some(kind) => bound_of_kind(profile, draft, kind, rest),
         },
     }
@@ -35,7 +34,7 @@ fn bound_of_kind<'a>(
     draft: &mut Draft<'a>,
     kind: BoundKind,
     fields: &[&'a str],
-) -> Result<(), LineError>
+) -> Result<(), ReadError<FaultKind>>
     ensures { Follows result draft.new (bound_of_kind profile.now draft.old (Some kind) (map (λ f. f.now) fields.now)) }
 {
     match fields {
@@ -51,12 +50,12 @@ fn bound_of_kind<'a>(
         }
         [column] => {
             if kind.has_value() {
-                Err(LineError::Fault(FaultKind::BadLine))
+                Err(ReadError::Fault(FaultKind::BadLine))
             } else {
                 bound_in_set(profile, draft, kind, None, column, None)
             }
         }
-        _ => Err(LineError::Fault(FaultKind::BadLine)),
+        _ => Err(ReadError::Fault(FaultKind::BadLine)),
     }
 }
 
@@ -68,7 +67,7 @@ fn bound_in_set<'a>(
     set: Option<&'a str>,
     column: &str,
     number: Option<&str>,
-) -> Result<(), LineError>
+) -> Result<(), ReadError<FaultKind>>
     ensures { Follows result draft.new (bound_with_fields profile.now draft.old kind (Some (record { set = option_map (λ s. s.now) set.entry; column = column.now; number = option_map (λ n. n.now) number.entry }))) }
 {
     if !draft.takes_set(set) {
@@ -83,18 +82,18 @@ fn bound_on_column(
     kind: BoundKind,
     column: &str,
     number: Option<&str>,
-) -> Result<(), LineError>
+) -> Result<(), ReadError<FaultKind>>
     ensures { Follows result draft.new (bound_on_column profile.now draft.old kind (record { set = None; column = column.now; number = option_map (λ n. n.now) number.entry })) }
 {
     if !draft.has_column(column) {
-        return Err(LineError::Fault(FaultKind::Unknown));
+        return Err(ReadError::Fault(FaultKind::Unknown));
     }
     let value = bound_value(number)?;
     with_bound(profile, draft, kind, column, value)
 }
 
 // A number that isn't there isn't used.
-fn bound_value(number: Option<&str>) -> Result<Frac, LineError>
+fn bound_value(number: Option<&str>) -> Result<Frac, ReadError<FaultKind>>
     ensures { result ≡ number_or_fault (bound_value (option_map (λ n. n.now) number.entry)) }
 {
     match number {
@@ -110,11 +109,11 @@ fn with_bound(
     kind: BoundKind,
     column: &str,
     value: Frac,
-) -> Result<(), LineError>
+) -> Result<(), ReadError<FaultKind>>
     ensures { Follows result draft.new (with_bound profile.now draft.old kind column.now value) }
 {
     if kind.makes_integer() && !profile.takes_integers {
-        return Err(LineError::Fault(FaultKind::IntegersNotYet));
+        return Err(ReadError::Fault(FaultKind::IntegersNotYet));
     }
     draft.bound(column, kind, value);
     Ok(())

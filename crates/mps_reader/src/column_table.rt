@@ -3,13 +3,13 @@ ghost use Rattle.std.specs.Prelude.{◌≡◌, ◌<◌, ◌≤◌, ◌++◌, [],
 ghost use Rattle.std.specs.List.{list_any};
 ghost use Rattle.mps_reader.specs.Declaration.{is_column_named, with_first_changed};
 ghost use Rattle.milp.specs.Problem.{Column};
-ghost use Rattle.mps_reader.specs.Names.{AreNew};
+ghost use Rattle.model_text.specs.Names.{AreNew};
 ghost use Rattle.mps_reader.specs.RhsRangesBounds.{bounded};
 
 use crate::bound::BoundKind;
 use crate::declared_column::DeclaredColumn;
-use crate::names::Names;
 use fraction::Frac;
+use model_text::Names;
 use std::alloc::{AllocError, Global};
 use std::marker::Model;
 
@@ -23,7 +23,7 @@ pub(crate) struct ColumnTable<'a> {
 impl<'a> Model for ColumnTable<'a> {
     ghost use Rattle.std.specs.Prelude.{◌≡◌, ◌≤◌, List, map, length};
     ghost use Rattle.milp.specs.Problem.{Column};
-    ghost use Rattle.mps_reader.specs.Names.{AreNew};
+    ghost use Rattle.model_text.specs.Names.{AreNew};
 
     ghost Value = { List Column };
 

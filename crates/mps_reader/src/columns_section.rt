@@ -1,31 +1,30 @@
 // The lines of COLUMNS.
 ghost use Rattle.std.specs.Prelude.{◌≡◌, ◌≢◌, ◌∷◌, true, length, map, Some, IfSome};
 ghost use Rattle.mps_reader.specs.Declaration.{is_row, row_named, is_objective_named};
-ghost use Rattle.mps_reader.specs.Profile.{IsWithinInstance};
-ghost use Rattle.mps_reader.specs.Follows.{Follows};
-ghost use Rattle.mps_reader.specs.Steps.{then_do, with_number};
+ghost use Rattle.model_text.specs.Profile.{IsWithinInstance};
+ghost use Rattle.model_text.specs.Follows.{Follows};
+ghost use Rattle.model_text.specs.Steps.{then_do};
+ghost use Rattle.mps_reader.specs.Steps.{with_number};
 ghost use Rattle.fraction.specs.Literal.{read_of};
 ghost use Rattle.mps_reader.specs.RowsAndColumns.{marker_of, begins_with_marker, is_marker, with_integers, turned, marker_line, at_column, with_entry, at_value, at_row, at_entry, after_pair, at_second_entry, at_entries, column_line};
 
 use crate::draft::Draft;
-use crate::error::LineError;
 use crate::literal::read_number;
-use crate::profile::Profile;
 use crate::row::is_zero;
-use file_fault::FaultKind;
 use fraction::Frac;
+use model_text::{FaultKind, Profile, ReadError};
 
 // `col row v [row v]`, or a marker
 pub(crate) fn column_line<'a>(
     profile: &Profile,
     draft: &mut Draft<'a>,
     fields: &[&'a str],
-) -> Result<(), LineError>
+) -> Result<(), ReadError<FaultKind>>
     requires { IsWithinInstance profile.now }
     ensures { Follows result draft.new (column_line profile.now draft.old (map (λ f. f.now) fields.now)) }
 {
     match fields {
-        [] => Err(LineError::Fault(FaultKind::BadLine)),
+        [] => Err(ReadError::Fault(FaultKind::BadLine)),
         [name, rest @ ..] => named_line(profile, draft, name, rest),
     }
 }
@@ -35,7 +34,7 @@ fn named_line<'a>(
     draft: &mut Draft<'a>,
     name: &'a str,
     fields: &[&'a str],
-) -> Result<(), LineError>
+) -> Result<(), ReadError<FaultKind>>
     requires { IsWithinInstance profile.now }
     ensures { Follows result draft.new (column_line profile.now draft.old (name.now ∷ map (λ f. f.now) fields.now)) }
 {
@@ -51,7 +50,7 @@ fn entry_line<'a>(
     draft: &mut Draft<'a>,
     name: &'a str,
     fields: &[&'a str],
-) -> Result<(), LineError>
+) -> Result<(), ReadError<FaultKind>>
     requires { IsWithinInstance profile.now }
     ensures { Follows result draft.new (then_do (at_entries profile.now (map (λ f. f.now) fields.now)) (at_column profile.now draft.old name.now)) }
 {
@@ -95,27 +94,36 @@ fn is_marker(draft: &Draft, fields: &[&str]) -> bool
     }
 }
 
-fn marker_line(profile: &Profile, draft: &mut Draft, fields: &[&str]) -> Result<(), LineError>
+fn marker_line(
+    profile: &Profile,
+    draft: &mut Draft,
+    fields: &[&str],
+) -> Result<(), ReadError<FaultKind>>
     ensures { Follows result draft.new (marker_line profile.now draft.old (map (λ f. f.now) fields.now)) }
 {
     match fields {
         [_, marker, rest @ ..] => match marker_of(marker) {
-            None => Err(LineError::Fault(FaultKind::BadLine)),
+            None => Err(ReadError::Fault(FaultKind::BadLine)),
             Some(begins) => turn(profile, draft, begins, rest),
         },
-        _ => Err(LineError::Fault(FaultKind::BadLine)),
+        _ => Err(ReadError::Fault(FaultKind::BadLine)),
     }
 }
 
 // An open INTORG is followed by INTEND and the other way round.
-fn turn(profile: &Profile, draft: &mut Draft, begins: bool, rest: &[&str]) -> Result<(), LineError>
+fn turn(
+    profile: &Profile,
+    draft: &mut Draft,
+    begins: bool,
+    rest: &[&str],
+) -> Result<(), ReadError<FaultKind>>
     ensures { Follows result draft.new (turned profile.now draft.old (Some begins) (map (λ f. f.now) rest.now)) }
 {
     if draft.in_integers() == begins || !rest.is_empty() {
-        return Err(LineError::Fault(FaultKind::BadLine));
+        return Err(ReadError::Fault(FaultKind::BadLine));
     }
     if begins && !profile.takes_integers {
-        return Err(LineError::Fault(FaultKind::IntegersNotYet));
+        return Err(ReadError::Fault(FaultKind::IntegersNotYet));
     }
     draft.turn(begins);
     Ok(())
@@ -124,7 +132,11 @@ fn turn(profile: &Profile, draft: &mut Draft, begins: bool, rest: &[&str]) -> Re
 // ---- columns
 
 // A new name begins a column, and the name of the current one goes on with it.
-fn at_column<'a>(profile: &Profile, draft: &mut Draft<'a>, name: &'a str) -> Result<(), LineError>
+fn at_column<'a>(
+    profile: &Profile,
+    draft: &mut Draft<'a>,
+    name: &'a str,
+) -> Result<(), ReadError<FaultKind>>
     requires { IsWithinInstance profile.now }
     ensures { Follows result draft.new (at_column profile.now draft.old name.now) }
 {
@@ -132,10 +144,10 @@ fn at_column<'a>(profile: &Profile, draft: &mut Draft<'a>, name: &'a str) -> Res
         if draft.is_current(name) {
             return Ok(());
         }
-        return Err(LineError::Fault(FaultKind::Twice));
+        return Err(ReadError::Fault(FaultKind::Twice));
     }
     if draft.column_count() >= profile.columns {
-        return Err(LineError::Fault(FaultKind::TooMany));
+        return Err(ReadError::Fault(FaultKind::TooMany));
     }
     draft.begin_column(name)?;
     Ok(())
@@ -146,7 +158,7 @@ fn at_entries<'a>(
     profile: &Profile,
     draft: &mut Draft<'a>,
     fields: &[&'a str],
-) -> Result<(), LineError>
+) -> Result<(), ReadError<FaultKind>>
     requires { IsWithinInstance profile.now }
     ensures { Follows result draft.new (at_entries profile.now (map (λ f. f.now) fields.now) draft.old) }
 {
@@ -169,7 +181,7 @@ fn at_second_entry<'a>(
     profile: &Profile,
     draft: &mut Draft<'a>,
     fields: &[&'a str],
-) -> Result<(), LineError>
+) -> Result<(), ReadError<FaultKind>>
     requires { IsWithinInstance profile.now }
     ensures { Follows result draft.new (at_second_entry profile.now (map (λ f. f.now) fields.now) draft.old) }
 {
@@ -178,7 +190,7 @@ fn at_second_entry<'a>(
     }
     at_entry(profile, draft, fields)?;
     if !after_pair(fields).is_empty() {
-        return Err(LineError::Fault(FaultKind::BadLine));
+        return Err(ReadError::Fault(FaultKind::BadLine));
     }
     Ok(())
 }
@@ -188,26 +200,31 @@ fn at_entry<'a>(
     profile: &Profile,
     draft: &mut Draft<'a>,
     fields: &[&'a str],
-) -> Result<(), LineError>
+) -> Result<(), ReadError<FaultKind>>
     requires { IsWithinInstance profile.now }
     ensures { Follows result draft.new (at_entry profile.now draft.old (map (λ f. f.now) fields.now)) }
 {
     match fields {
-        [] => Err(LineError::Fault(FaultKind::BadLine)),
+        [] => Err(ReadError::Fault(FaultKind::BadLine)),
         [row, rest @ ..] => at_row(profile, draft, row, rest),
     }
 }
 
 // What the last column has in a row, which it may have once.
-fn at_row(profile: &Profile, draft: &mut Draft, row: &str, fields: &[&str]) -> Result<(), LineError>
+fn at_row(
+    profile: &Profile,
+    draft: &mut Draft,
+    row: &str,
+    fields: &[&str],
+) -> Result<(), ReadError<FaultKind>>
     requires { IsWithinInstance profile.now }
     ensures { Follows result draft.new (at_row profile.now draft.old (row_named draft.old row.now) row.now (map (λ f. f.now) fields.now)) }
 {
     let Some(found) = draft.row(row) else {
-        return Err(LineError::Fault(FaultKind::Unknown));
+        return Err(ReadError::Fault(FaultKind::Unknown));
     };
     if found.latest() == draft.column_count() {
-        return Err(LineError::Fault(FaultKind::Twice));
+        return Err(ReadError::Fault(FaultKind::Twice));
     }
     at_value(profile, draft, row, fields)
 }
@@ -217,19 +234,24 @@ fn at_value(
     draft: &mut Draft,
     row: &str,
     fields: &[&str],
-) -> Result<(), LineError>
+) -> Result<(), ReadError<FaultKind>>
     requires profile { IsWithinInstance profile.now }
     requires there { is_row draft.old row.now ≡ true }
     requires once { IfSome (row_named draft.old row.now) (λ r. r.latest ≢ length draft.old.columns) }
     ensures { Follows result draft.new (at_value profile.now draft.old row.now (map (λ f. f.now) fields.now)) }
 {
     match fields {
-        [] => Err(LineError::Fault(FaultKind::BadLine)),
+        [] => Err(ReadError::Fault(FaultKind::BadLine)),
         [number, ..] => at_number(profile, draft, row, number),
     }
 }
 
-fn at_number(profile: &Profile, draft: &mut Draft, row: &str, number: &str) -> Result<(), LineError>
+fn at_number(
+    profile: &Profile,
+    draft: &mut Draft,
+    row: &str,
+    number: &str,
+) -> Result<(), ReadError<FaultKind>>
     requires profile { IsWithinInstance profile.now }
     requires there { is_row draft.old row.now ≡ true }
     requires once { IfSome (row_named draft.old row.now) (λ r. r.latest ≢ length draft.old.columns) }
@@ -239,14 +261,19 @@ fn at_number(profile: &Profile, draft: &mut Draft, row: &str, number: &str) -> R
     with_entry(profile, draft, row, value)
 }
 
-fn with_entry(profile: &Profile, draft: &mut Draft, row: &str, value: Frac) -> Result<(), LineError>
+fn with_entry(
+    profile: &Profile,
+    draft: &mut Draft,
+    row: &str,
+    value: Frac,
+) -> Result<(), ReadError<FaultKind>>
     requires profile { IsWithinInstance profile.now }
     requires there { is_row draft.old row.now ≡ true }
     requires once { IfSome (row_named draft.old row.now) (λ r. r.latest ≢ length draft.old.columns) }
     ensures { Follows result draft.new (with_entry profile.now draft.old row.now value) }
 {
     if !draft.is_objective(row) && !is_zero(value) && draft.entry_count() >= profile.entries {
-        return Err(LineError::Fault(FaultKind::TooMany));
+        return Err(ReadError::Fault(FaultKind::TooMany));
     }
     draft.give(row, value)?;
     Ok(())

@@ -3,7 +3,7 @@ ghost use Rattle.std.specs.Prelude.{◌≡◌, ◌≢◌, ◌+◌, ◌<◌, ◌�
 ghost use Rattle.std.specs.List.{All};
 ghost use Rattle.milp.specs.Problem.{Column as ColumnOf};
 ghost use Rattle.instance.specs.WellFormed.{has_column, has_row, entry_count as entries_of_rows};
-ghost use Rattle.mps_reader.specs.Names.{AreNew};
+ghost use Rattle.model_text.specs.Names.{AreNew};
 ghost use Rattle.mps_reader.specs.Consistent.{IsGiven};
 ghost use Rattle.mps_reader.specs.Declaration.{DeclaredRow as RowOf, entry_count};
 ghost use Rattle.mps_reader.specs.Finished.{finished_row, problem_of, problem_with};

@@ -1,7 +1,7 @@
 // What a reader that doesn't take integer columns yet has none of.
 ghost use Rattle.std.specs.Prelude.{◌≡◌, ℕ, List, false, slice_get, IfSome, Ok};
 ghost use Rattle.milp.specs.Problem.{Problem};
-ghost use Rattle.mps_reader.specs.declared.profile.Profile.{Profile};
+ghost use Rattle.model_text.specs.declared.profile.Profile.{Profile};
 ghost use Rattle.mps_reader.specs.FreeMps.{declared_within, declared};
 
 /// A text that is read has no integer columns while integer columns aren't read.

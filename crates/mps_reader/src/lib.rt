@@ -7,24 +7,18 @@ mod column_table;
 mod columns_section;
 mod declared_column;
 mod draft;
-mod error;
 mod finish;
 mod laws;
 mod line;
 mod lines;
 mod literal;
-mod names;
 mod pairs_section;
-mod profile;
 mod read;
 mod row;
 mod row_table;
 mod rows_section;
 mod section;
-#[cfg(test)]
-mod tests;
 
-pub use error::MpsError;
-pub use file_fault::{FaultKind, FileFault};
 pub use laws::declared_problems_are_continuous;
-pub use read::read_mps;
+pub use model_text::{FaultKind, FileFault, ReadError};
+pub use read::{read_mps, read_within};

@@ -2,20 +2,18 @@
 ghost use Rattle.std.specs.Prelude.{◌≡◌, ◌<◌, length, IsTrue, ◌↔◌, map, Some};
 ghost use Rattle.std.specs.List.{list_all};
 ghost use Rattle.mps_reader.specs.Lines.{is_blank};
-ghost use Rattle.mps_reader.specs.Profile.{IsWithinInstance};
-ghost use Rattle.mps_reader.specs.Follows.{Follows};
+ghost use Rattle.model_text.specs.Profile.{IsWithinInstance};
+ghost use Rattle.model_text.specs.Follows.{Follows};
 ghost use Rattle.mps_reader.specs.FreeMps.{at_section, after_word, header_line, data_line, is_comment, is_passed_over, text_line, with_line};
 
 use crate::bounds_section::bound_line;
 use crate::columns_section::column_line;
 use crate::draft::Draft;
-use crate::error::LineError;
-use crate::lines::{as_text, fields_in, is_header};
+use crate::lines::{fields_in, is_header};
 use crate::pairs_section::{PairSection, pair_line};
-use crate::profile::Profile;
 use crate::rows_section::row_line;
 use crate::section::Section;
-use file_fault::FaultKind;
+use model_text::{FaultKind, Profile, ReadError, as_text};
 use std::alloc::Global;
 
 // Adds what a line declares. Nothing after ENDATA is read.
@@ -24,7 +22,7 @@ pub(crate) fn read_line<'a>(
     profile: &Profile,
     draft: &mut Draft<'a>,
     line: &'a [u8],
-) -> Result<(), LineError>
+) -> Result<(), ReadError<FaultKind>>
     requires { IsWithinInstance profile.now }
     ensures { Follows result draft.new (with_line profile.now draft.old line.now) }
 {
@@ -61,12 +59,12 @@ fn text_line<'a>(
     profile: &Profile,
     draft: &mut Draft<'a>,
     line: &'a [u8],
-) -> Result<(), LineError>
+) -> Result<(), ReadError<FaultKind>>
     requires { IsWithinInstance profile.now }
     ensures { Follows result draft.new (text_line profile.now draft.old line.now) }
 {
     let Some(text) = as_text(line) else {
-        return Err(LineError::Fault(FaultKind::BadLine));
+        return Err(ReadError::Fault(FaultKind::BadLine));
     };
     let fields = fields_in(alloc, text)?;
     if is_header(line) {
@@ -78,27 +76,31 @@ fn text_line<'a>(
 
 // ---- headers
 
-fn header_line(draft: &mut Draft, fields: &[&str]) -> Result<(), LineError>
+fn header_line(draft: &mut Draft, fields: &[&str]) -> Result<(), ReadError<FaultKind>>
     ensures { Follows result draft.new (header_line draft.old (map (λ f. f.now) fields.now)) }
 {
     match fields {
-        [] => Err(LineError::Fault(FaultKind::BadSection)),
+        [] => Err(ReadError::Fault(FaultKind::BadSection)),
         [word, rest @ ..] => match Section::of_word(word) {
-            None => Err(LineError::Fault(FaultKind::BadSection)),
+            None => Err(ReadError::Fault(FaultKind::BadSection)),
             Some(section) => at_section(draft, section, rest),
         },
     }
 }
 
 // What follows NAME isn't looked at, and nothing follows another header's word.
-fn at_section(draft: &mut Draft, section: Section, rest: &[&str]) -> Result<(), LineError>
+fn at_section(
+    draft: &mut Draft,
+    section: Section,
+    rest: &[&str],
+) -> Result<(), ReadError<FaultKind>>
     ensures { Follows result draft.new (at_section draft.old (Some section) (map (λ f. f.now) rest.now)) }
 {
     if !draft.section().may_be_followed(section) {
-        return Err(LineError::Fault(FaultKind::BadSection));
+        return Err(ReadError::Fault(FaultKind::BadSection));
     }
     if has_more(section, rest) {
-        return Err(LineError::Fault(FaultKind::BadLine));
+        return Err(ReadError::Fault(FaultKind::BadLine));
     }
     draft.enter(section);
     Ok(())
@@ -121,12 +123,12 @@ fn data_line<'a>(
     profile: &Profile,
     draft: &mut Draft<'a>,
     fields: &[&'a str],
-) -> Result<(), LineError>
+) -> Result<(), ReadError<FaultKind>>
     requires { IsWithinInstance profile.now }
     ensures { Follows result draft.new (data_line profile.now draft.old.section draft.old (map (λ f. f.now) fields.now)) }
 {
     match draft.section() {
-        Section::Start | Section::NameLine => Err(LineError::Fault(FaultKind::BadLine)),
+        Section::Start | Section::NameLine => Err(ReadError::Fault(FaultKind::BadLine)),
         Section::Rows => row_line(alloc, profile, draft, fields),
         Section::Columns => column_line(profile, draft, fields),
         Section::Rhs => pair_line(PairSection::RhsPairs, draft, fields),

@@ -3,17 +3,16 @@ ghost use Rattle.std.specs.Prelude.{◌≡◌};
 ghost use Rattle.fraction.specs.Literal.{read_of};
 ghost use Rattle.mps_reader.specs.Follows.{number_or_fault};
 
-use crate::error::LineError;
-use file_fault::FaultKind;
 use fraction::{Frac, ReadFault};
+use model_text::{FaultKind, ReadError};
 
 // The number of a field.
-pub(crate) fn read_number(field: &str) -> Result<Frac, LineError>
+pub(crate) fn read_number(field: &str) -> Result<Frac, ReadError<FaultKind>>
     ensures { result ≡ number_or_fault (read_of field.now) }
 {
     match Frac::read(field) {
         Ok(value) => Ok(value),
-        Err(ReadFault::NotANumber) => Err(LineError::Fault(FaultKind::BadNumber)),
-        Err(ReadFault::TooWide) => Err(LineError::Fault(FaultKind::TooWide)),
+        Err(ReadFault::NotANumber) => Err(ReadError::Fault(FaultKind::BadNumber)),
+        Err(ReadFault::TooWide) => Err(ReadError::Fault(FaultKind::TooWide)),
     }
 }

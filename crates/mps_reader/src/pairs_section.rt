@@ -2,17 +2,18 @@
 ghost use Rattle.std.specs.Prelude.{◌≡◌, map, Some, Ok};
 ghost use Rattle.std.specs.Option.{option_map};
 ghost use Rattle.fraction.specs.Literal.{read_of};
-ghost use Rattle.mps_reader.specs.Steps.{then_do, with_number};
-ghost use Rattle.mps_reader.specs.Follows.{Follows, range_or_fault};
+ghost use Rattle.model_text.specs.Steps.{then_do};
+ghost use Rattle.mps_reader.specs.Steps.{with_number};
+ghost use Rattle.model_text.specs.Follows.{Follows};
+ghost use Rattle.mps_reader.specs.Follows.{range_or_fault};
 ghost use Rattle.mps_reader.specs.Declaration.{with_row};
 ghost use Rattle.mps_reader.specs.RhsRangesBounds.{step_of, pairs_line, pair_line, rhs_pair, range_pair, range_below, range_above, range_of, range_added, is_below_zero};
 
 use crate::draft::Draft;
-use crate::error::LineError;
 use crate::literal::read_number;
 use crate::row::{RowKind, RowRange};
-use file_fault::FaultKind;
 use fraction::Frac;
+use model_text::{FaultKind, ReadError};
 
 // RHS and RANGES, whose lines have one form.
 #[derive(Clone, Copy)]
@@ -26,7 +27,7 @@ pub(crate) fn pair_line<'a>(
     section: PairSection,
     draft: &mut Draft<'a>,
     fields: &[&'a str],
-) -> Result<(), LineError>
+) -> Result<(), ReadError<FaultKind>>
     ensures { Follows result draft.new (pair_line section draft.old (map (λ f. f.now) fields.now)) }
 {
     match fields {
@@ -44,7 +45,7 @@ pub(crate) fn pair_line<'a>(
                 Some((row2, number2)),
             )
         }
-        _ => Err(LineError::Fault(FaultKind::BadLine)),
+        _ => Err(ReadError::Fault(FaultKind::BadLine)),
     }
 }
 
@@ -55,7 +56,7 @@ fn set_pairs<'a>(
     set: Option<&'a str>,
     first: (&str, &str),
     second: Option<(&str, &str)>,
-) -> Result<(), LineError>
+) -> Result<(), ReadError<FaultKind>>
     ensures { Follows result draft.new (pairs_line (step_of section) draft.old (Some (record { set = option_map (λ s. s.now) set.entry; first = record { row = first.entry.0.now; number = first.entry.1.now }; second = option_map (λ p. record { row = p.0.now; number = p.1.now }) second.entry }))) }
 {
     if !draft.takes_set(set) {
@@ -69,7 +70,12 @@ fn set_pairs<'a>(
     }
 }
 
-fn pair(section: PairSection, draft: &mut Draft, row: &str, number: &str) -> Result<(), LineError>
+fn pair(
+    section: PairSection,
+    draft: &mut Draft,
+    row: &str,
+    number: &str,
+) -> Result<(), ReadError<FaultKind>>
     ensures { Follows result draft.new (step_of section draft.old (record { row = row.now; number = number.now })) }
 {
     match section {
@@ -78,14 +84,14 @@ fn pair(section: PairSection, draft: &mut Draft, row: &str, number: &str) -> Res
     }
 }
 
-fn rhs_pair(draft: &mut Draft, row: &str, number: &str) -> Result<(), LineError>
+fn rhs_pair(draft: &mut Draft, row: &str, number: &str) -> Result<(), ReadError<FaultKind>>
     ensures { Follows result draft.new (rhs_pair draft.old (record { row = row.now; number = number.now })) }
 {
     let Some(found) = draft.row(row) else {
-        return Err(LineError::Fault(FaultKind::Unknown));
+        return Err(ReadError::Fault(FaultKind::Unknown));
     };
     if found.rhs().is_some() {
-        return Err(LineError::Fault(FaultKind::Twice));
+        return Err(ReadError::Fault(FaultKind::Twice));
     }
     let value = read_number(number)?;
     draft.set_rhs(row, value);
@@ -95,17 +101,17 @@ fn rhs_pair(draft: &mut Draft, row: &str, number: &str) -> Result<(), LineError>
 // ---- ranges
 
 // No N row has a range.
-fn range_pair(draft: &mut Draft, row: &str, number: &str) -> Result<(), LineError>
+fn range_pair(draft: &mut Draft, row: &str, number: &str) -> Result<(), ReadError<FaultKind>>
     ensures { Follows result draft.new (range_pair draft.old (record { row = row.now; number = number.now })) }
 {
     let Some(found) = draft.row(row) else {
-        return Err(LineError::Fault(FaultKind::Unknown));
+        return Err(ReadError::Fault(FaultKind::Unknown));
     };
     if found.kind().is_free() {
-        return Err(LineError::Fault(FaultKind::BadLine));
+        return Err(ReadError::Fault(FaultKind::BadLine));
     }
     if found.range().is_some() {
-        return Err(LineError::Fault(FaultKind::Twice));
+        return Err(ReadError::Fault(FaultKind::Twice));
     }
     let kind = found.kind();
     let rhs = found.rhs_or_zero();
@@ -118,7 +124,7 @@ fn range_number(
     kind: RowKind,
     rhs: Frac,
     number: &str,
-) -> Result<(), LineError>
+) -> Result<(), ReadError<FaultKind>>
     ensures { Follows result draft.new (with_number (λ value. then_do (λ range. Ok (with_row (range_added range) row.now draft.old)) (range_of kind rhs value)) (read_of number.now)) }
 {
     let value = read_number(number)?;
@@ -131,7 +137,7 @@ fn with_range(
     kind: RowKind,
     rhs: Frac,
     value: Frac,
-) -> Result<(), LineError>
+) -> Result<(), ReadError<FaultKind>>
     ensures { Follows result draft.new (then_do (λ range. Ok (with_row (range_added range) row.now draft.old)) (range_of kind rhs value)) }
 {
     let range = range_of(kind, rhs, value)?;
@@ -140,11 +146,11 @@ fn with_range(
 }
 
 // The bounds that a range gives a row of this kind and right-hand side.
-fn range_of(kind: RowKind, rhs: Frac, range: Frac) -> Result<RowRange, LineError>
+fn range_of(kind: RowKind, rhs: Frac, range: Frac) -> Result<RowRange, ReadError<FaultKind>>
     ensures { result ≡ range_or_fault (range_of kind rhs range) }
 {
     match kind {
-        RowKind::Objective | RowKind::Free => Err(LineError::Fault(FaultKind::BadLine)),
+        RowKind::Objective | RowKind::Free => Err(ReadError::Fault(FaultKind::BadLine)),
         RowKind::AtMost => range_below(rhs, range),
         RowKind::AtLeast => range_above(rhs, range),
         RowKind::Exactly => {
@@ -157,21 +163,21 @@ fn range_of(kind: RowKind, rhs: Frac, range: Frac) -> Result<RowRange, LineError
     }
 }
 
-fn range_below(rhs: Frac, range: Frac) -> Result<RowRange, LineError>
+fn range_below(rhs: Frac, range: Frac) -> Result<RowRange, ReadError<FaultKind>>
     ensures { result ≡ range_or_fault (range_below rhs range) }
 {
     match rhs.sub(range.abs()) {
         Ok(lower) => Ok(RowRange { lower, upper: rhs }),
-        Err(_) => Err(LineError::Fault(FaultKind::TooWide)),
+        Err(_) => Err(ReadError::Fault(FaultKind::TooWide)),
     }
 }
 
-fn range_above(rhs: Frac, range: Frac) -> Result<RowRange, LineError>
+fn range_above(rhs: Frac, range: Frac) -> Result<RowRange, ReadError<FaultKind>>
     ensures { result ≡ range_or_fault (range_above rhs range) }
 {
     match rhs.add(range.abs()) {
         Ok(upper) => Ok(RowRange { lower: rhs, upper }),
-        Err(_) => Err(LineError::Fault(FaultKind::TooWide)),
+        Err(_) => Err(ReadError::Fault(FaultKind::TooWide)),
     }
 }
 

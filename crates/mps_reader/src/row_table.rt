@@ -4,13 +4,13 @@ ghost use Rattle.std.specs.Option.{option_map};
 ghost use Rattle.std.specs.List.{find};
 ghost use Rattle.mps_reader.specs.Declaration.{is_row_named, with_first_changed};
 ghost use Rattle.mps_reader.specs.Declaration.{DeclaredRow as RowOf};
-ghost use Rattle.mps_reader.specs.Names.{AreNew};
+ghost use Rattle.model_text.specs.Names.{AreNew};
 ghost use Rattle.mps_reader.specs.RowsAndColumns.{given};
 ghost use Rattle.mps_reader.specs.RhsRangesBounds.{rhs_added, range_added};
 
-use crate::names::Names;
 use crate::row::{DeclaredRow, RowRange};
 use fraction::Frac;
+use model_text::Names;
 use std::alloc::{AllocError, Global};
 use std::marker::Model;
 
@@ -24,7 +24,7 @@ pub(crate) struct RowTable<'a> {
 impl<'a> Model for RowTable<'a> {
     ghost use Rattle.std.specs.Prelude.{◌≡◌, List, map};
     ghost use Rattle.mps_reader.specs.Declaration.{DeclaredRow as RowOf};
-    ghost use Rattle.mps_reader.specs.Names.{AreNew};
+    ghost use Rattle.model_text.specs.Names.{AreNew};
 
     ghost Value = { List RowOf };
 

@@ -5,8 +5,8 @@ use Rattle.fraction.specs.Text.{text_of}
 use Rattle.fraction.specs.declared.frac.Op.{Op}
 use Rattle.fraction.specs.declared.frac.Op.TheVariants.{Add, Sub, Mul, Div}
 use Rattle.fraction.specs.declared.frac.NoFit.{NoFit}
-use Rattle.file_fault.specs.KindText.{kind_text}
-use Rattle.file_fault.specs.declared.fault.FileFault.{FileFault}
+use Rattle.model_text.specs.KindText.{kind_text}
+use Rattle.model_text.specs.declared.fault.FileFault.{FileFault}
 use Rattle.certificate.specs.declared.fault.FaultKind.{FaultKind}
 use Rattle.certificate.specs.declared.fault.FaultKind.TheVariants.{BadLine, TooWide, Unended, Extra}
 use Rattle.certificate.specs.declared.fault.CertFault.{CertFault}

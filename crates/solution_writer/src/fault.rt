@@ -4,9 +4,9 @@ ghost use Rattle.solution_writer.specs.FaultLine.{operator_text, named_line, fil
 
 use cert_check::Part;
 use certificate::{CertFault, FaultKind};
-use file_fault::FileFault;
 use fraction::{NoFit, Op};
 use instance::Name;
+use model_text::FileFault;
 use std::alloc::{AllocError, Global};
 
 /// What the line of a fault shows.

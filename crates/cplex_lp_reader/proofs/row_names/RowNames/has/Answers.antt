@@ -1,7 +1,7 @@
 -- By the names' bytes.
 use Rattle.std.proofs.Common.{◌∙◌, string_bytes}
-use Rattle.cplex_lp_reader.specs.Names.{is_name}
-use Rattle.cplex_lp_reader.proofs.Lookup.{bytes_eq-sym, list_any-same}
+use Rattle.model_text.specs.Names.{is_name}
+use Rattle.model_text.proofs.Lookup.{bytes_eq-sym, list_any-same}
 use Rattle.cplex_lp_reader.proofs.row_names.RowNames.has.Goals as goal
 
 pub returns : goal.returns

@@ -1,6 +1,6 @@
 -- The set's keys with one more.
 use Rattle.std.proofs.Common.{string_bytes}
-use Rattle.cplex_lp_reader.proofs.Lookup.{keyed-push, bytes_eq-sym}
+use Rattle.model_text.proofs.Lookup.{keyed-push, bytes_eq-sym}
 use Rattle.cplex_lp_reader.proofs.row_names.RowNames.push.Goals as goal
 
 pub returns-clause-added : goal.returns-clause-added

@@ -1,6 +1,0 @@
--- The set's keys with one more.
-use Rattle.cplex_lp_reader.proofs.Lookup.{keys-push}
-use Rattle.cplex_lp_reader.proofs.names.Names.push.Goals as goal
-
-pub returns-clause-added : goal.returns-clause-added
-returns-clause-added c = keys-push _ _ _ c.args.name c.self.view_is c.requires.new c.in_ok-insert.ensures.keys

@@ -1,0 +1,6 @@
+pub mod KindText
+pub mod Lines
+pub mod Names
+pub mod Profile
+pub mod Steps
+pub mod Follows

@@ -1,0 +1,18 @@
+-- How far a reader of files goes.
+use Rattle.std.specs.Prelude.{◌≤◌, true, false}
+use Rattle.model_text.specs.declared.profile.Profile.{Profile}
+
+-- no limit passes what an instance holds
+pub record IsWithinInstance (profile : Profile) : Type 0 where
+  pub rows : profile.rows ≤ 100_000
+  pub columns : profile.columns ≤ 100_000
+  pub entries : profile.entries ≤ 2_000_000
+
+-- today's reader: integer columns are not read
+abbrev pub reader_profile : Profile
+reader_profile = record {
+  rows = 100_000;
+  columns = 100_000;
+  entries = 2_000_000;
+  takes_integers = false;
+}

@@ -1,0 +1,298 @@
+// Texts with the problems that they declare, or with their first faults.
+ghost use Rattle.model_text.specs.Profile.{IsWithinInstance};
+
+use cplex_lp_reader::{read_lp, read_within};
+use fraction::Frac;
+use instance::{Column, Entry, Instance, Row};
+use milp::Direction;
+use model_text::{FaultKind, Profile, ReadError, reader_profile};
+use std::alloc::{AllocError, Global};
+use std::process::Abort;
+use std::test::Fail;
+
+// ---- tables: what a text declares, and the text, in which `/` is a line feed
+
+// Of a problem: direction, name and constant of the objective, its entries by number of column; each row after `|`, with
+// its lower and upper bound and its entries; each column after `;`, with its bounds and `int` where it is integer. `-`
+// is no bound.
+const PROBLEMS: &str = "\
+min obj 0 <- min/st
+min obj 0 <- MINIMIZE/SUBJECT TO/END
+min obj 0 <- Minimum/ \tSuch\tThat \\ comment/end
+max obj 0 <- max/st.
+max obj 0 <- MAXIMUM/s.t./
+max obj 0 <- maximize/ST/End/ * anything
+min obj 5/2 <- min 2.5/st
+min obj 1/2 <- min 3 - 2.5/st
+min obj 3 <- min - - 3/st
+min obj -3 <- min +-+3/st
+min obj 0 0:1; x 0 - <- min x/st
+min obj 1 0:-1; x 0 - <- min/ \\ empty//-x/ + 1/st
+min cost 0 0:2 1:-3; x 0 -; y 0 - <- min cost: 2x - 3 y/st
+min cost 0 <- min/cost/:/st
+min obj 0; x 0 - <- min x - x/st
+min obj 0 0:1; x 0 - <- min 3x - 2 x/st
+min obj 0; x 0 - <- min 0 x/st
+min obj 0 0:2000; x 0 - <- min 2e3x/st
+min obj 0 0:2000; x 0 - <- min 2e+3 x/st
+min obj 3 0:2; e 0 - <- min 2e + 3/st
+min obj 0 0:1/2 1:5 2:3/20; x 0 -; y 0 -; z 0 - <- min .5x + 5.y +1.5E-1 z/st
+min obj 4 0:3; x 0 - <- min 4/ + 3/ x/st
+min obj 0 0:1; !\"#$%&(),.;?@_`'{}|~a1 0 - <- min !\"#$%&(),.;?@_`'{}|~a1/st
+min obj 0 0:1; X 0 - <- min X \\ + y/st \\ c: x >= 1
+min obj 0 0:1; x 0 - <- min\tx\r/st\r/
+min obj 0 0:1 1:1; a 0 -; min 0 - <- min a + min/st
+min obj 1 0:1 | c 3 - 0:2; x - - <- min/ x + 1/st/ c: x + x >= 3/bounds/ x free/end
+min obj 0 | r.1 - 4 0:1 | r.2 - 4 0:1 | r.3 - 4 0:1; x 0 - <- min/st/ x < 4/ x <= 4/ x =< 4
+min obj 0 | r.1 4 - 0:1 | r.2 4 - 0:1 | r.3 4 - 0:1 | r.4 4 4 0:1; x 0 - <- min/st/ x > 4/ x >= 4/ x => 4/ x = 4
+min obj 0 | c 1 4 0:1 1:1; x 0 -; y 0 - <- min/st/ c: 1 <= x + y <= 4
+min obj 0 | r.1 -3 -1 0:1; x 0 - <- min/st/ -1 >= x > -3
+min obj 0 | c -3 3 0:-2; x 0 - <- min/st/ c: - 3 =< - 2 x < + 3
+min obj 0 | r.1 1 - 0:1 | r.2 2 - 1:1; x 0 -; y 0 - <- min/st/ x >= 1 y >= 2
+min obj 0 | r.1 1 - 0:1 | b 2 - 0:1 | r.3 3 - 0:1; x 0 - <- min/st/ x >= 1/ b: x >= 2/ x >= 3
+min obj 0 | r.3 1 - 0:1 | r.2 2 - 0:2; x 0 - <- min/st/ r.3: x >= 1/ 2x >= 2
+min obj 0 | c - 1 1:1; x 0 -; y 0 - <- min/st/ c: x + y - x <= 1
+min obj 0 | c 1 -; x 0 - <- min/st/ c: x - x >= 1
+min obj 0 0:1 | c 1 - 0:3 1:2; x 0 -; y 0 - <- min x/st/ c: 2 y + 3 x >= 1
+min obj 0 | c 2 - 0:1 1:-1; x 0 -; y 0 - <- min/st/ c:/ x/ -/ y/ >=/ - - 2
+min obj 0 | c 1 - 0:1; inf 0 - <- min/st/ c: inf >= 1
+min obj 0; x 1 5; y 0 -1 <- min/st/bounds/ x >= 1 x <= 5 y <= -1
+min obj 0; x - 5; y 2 - <- min/st/bound/ -inf <= x <= 5/ 1 <= y >= 2
+min obj 0; x 3 3; y 4 4; z - - <- min/st/bounds/ x = 3/ 4 = y/ z FREE
+min obj 0; x - -; y 0 - <- min/st/bounds/ x >= -Infinity x <= +INF inf >= y
+min obj 0; x 0 4; y 2 3; z 0 - <- min/st/bounds/ 4 >= x/ 2 =< y < 3/ z
+min obj 0; x 2 -; free - - <- min/st/bounds/ 2 <= x free free
+min obj 0; x 1 3 <- min/st/bounds/ x >= 1/BOUNDS/ 1/ </ x/ <=/ 3/end
+min obj 0; semis 0 -; x 0 - <- min/st/bounds/ semis/ x
+min obj 0 0:1 | r.1 1 - 2:1; y 0 -; z 0 7; x 0 - <- min y + 0 z/st/ x >= 1/bounds/ z <= 7
+";
+
+// Of a fault: its line and kind.
+const FAULTS: &str = "\
+1 BadLine <-\x20
+2 BadLine <- min
+2 BadLine <- min x/
+1 BadLine <- x
+1 BadLine <- st
+1 BadLine <- bounds
+1 BadLine <- end
+2 BadLine <- min/max
+2 BadLine <- min/bounds
+2 BadLine <- min x/general
+2 BadLine <- min/end
+3 BadLine <- min/subject/ to
+3 BadLine <- min/st/st
+3 BadLine <- min/st/min
+2 BadLine <- min 2 x/ 3 y/st
+2 BadLine <- min x +/st
+1 BadLine <- min : x/st
+2 BadLine <- min max: x/ : y/st
+2 BadLine <- min cost/ y/st
+1 BadLine <- min 3 : x/st
+1 BadLine <- min x ^ 2/st
+1 BadLine <- min [ x ]/st
+1 BadLine <- min . x/st
+1 BadLine <- min x\r + y/st
+1 BadLine <- min x >= 1/st
+3 BadLine <- min/st/ 3 + x >= 1
+3 BadLine <- min/st/ 3 = x >= 1
+3 BadLine <- min/st/ 1 <= x >= 2
+3 BadLine <- min/st/ 1 <= x = 2
+3 BadLine <- min/st/ x >= 1 >= 0
+3 BadLine <- min/st/ >= 1
+3 BadLine <- min/st/ c: >= 1
+3 BadLine <- min/st/ c: d: x >= 1
+3 BadLine <- min/st/ x y >= 1
+3 BadLine <- min/st/ 2 3 x >= 1
+3 BadLine <- min/st/ 2 x + 3 >= 1
+3 BadLine <- min/st/ x >= inf
+4 BadLine <- min/st/ x >=/ y
+4 BadLine <- min/st/ x + y
+4 BadLine <- min/st/ x >=/end
+4 BadLine <- min/st/ c:/bounds
+4 BadLine <- min/st/bounds/ inf <= x
+4 BadLine <- min/st/bounds/ - inf >= x
+4 BadLine <- min/st/bounds/ inf = x
+4 BadLine <- min/st/bounds/ x >= inf
+4 BadLine <- min/st/bounds/ x <= -Inf
+4 BadLine <- min/st/bounds/ x = infinity
+4 BadLine <- min/st/bounds/ 3 x
+4 BadLine <- min/st/bounds/ 3 <= 4
+4 BadLine <- min/st/bounds/ 3 <= inf
+4 BadLine <- min/st/bounds/ - x <= 4
+4 BadLine <- min/st/bounds/ x >= y
+4 BadLine <- min/st/bounds/ x : 3
+5 BadLine <- min/st/bounds/ 3 <=/end
+5 BadLine <- min/st/bounds/ x >= -
+5 Twice <- min/ x/st/ a: x >= 1/ a: x >= 2/end
+4 Twice <- min/st/ r.2: x >= 1/ y/ >= 2
+4 Twice <- min/st/ x >= 1/ r.1: x >= 2 ^
+1 TooWide <- min 1e39 x/st
+1 TooWide <- min 1e-39/st
+2 TooWide <- min 1e38 x/ + 1e38 x/ ^/st
+2 TooWide <- min 1e38/ + 1e38/st
+4 TooWide <- min/st/ 1e38 x/ + 1e38 x >= 1/ ^
+3 TooWide <- min/st/ x >= 1e39
+4 TooWide <- min/st/bounds/ x >= -1e39
+3 IntegersNotYet <- min x/st/general/ x
+3 IntegersNotYet <- min x/st/ INT x
+4 IntegersNotYet <- min x/st/ x >= 1/Binaries
+5 IntegersNotYet <- min x/st/bounds/ x/ gen
+";
+
+// At most two rows, columns and entries of rows.
+const WITHIN_TWO: &str = "\
+min obj 0 | r.1 1 - 0:1 1:1 | r.2 1 -; x 0 -; y 0 - <- min/st/ x + y >= 1/ x - x >= 1
+5 TooMany <- min/st/ x >= 1/ x >= 2/ x >= 3
+5 Twice <- min/st/ a: x >= 1/ b: x >= 1/ a: x >= 1
+1 TooMany <- min x + y + z/st
+4 TooMany <- min x + y/st/bounds/ z
+4 TooMany <- min/st/ x + y >= 1/ c:/ x >= 1
+";
+
+const WITH_INTEGERS: &str = "\
+min obj 0 0:1; x 0 - int; y 0 1 int <- min x/st/general/ x/binary/ y/end
+min obj 0; x 0 1 int; y 3 - int <- min/st/bounds/ x >= 3 y >= 3/bin x/int/ y y/bounds
+2 BadLine <- min x/general/ x
+4 BadLine <- min x/st/general/ 3 x
+4 BadLine <- min x/st/binary/ x free >= 1
+";
+
+// ---- what is read, as the tables write it
+
+fn bound_text(alloc: Global, bound: Option<Frac>) -> Result<String, AllocError> {
+    match bound {
+        Some(value) => value.text(alloc),
+        None => "-".to_string(alloc),
+    }
+}
+
+fn entry_text(alloc: Global, entry: &Entry) -> Result<String, AllocError> {
+    let coefficient = entry.coefficient.text(alloc)?;
+    format!(in alloc; " {}:{coefficient}", entry.column)
+}
+
+fn form_text(alloc: Global, form: &[Entry]) -> Result<String, AllocError> {
+    let mut text = String::new(alloc);
+    for entry in form {
+        text.push_str(entry_text(alloc, entry)?.as_str())?;
+    }
+    Ok(text)
+}
+
+fn row_text(alloc: Global, row: &Row) -> Result<String, AllocError> {
+    let lower = bound_text(alloc, row.lower())?;
+    let upper = bound_text(alloc, row.upper())?;
+    let form = form_text(alloc, row.entries().as_slice())?;
+    format!(in alloc; " | {} {lower} {upper}{form}", row.name().as_str())
+}
+
+fn column_text(alloc: Global, column: &Column) -> Result<String, AllocError> {
+    let lower = bound_text(alloc, column.lower())?;
+    let upper = bound_text(alloc, column.upper())?;
+    let integer = if column.integer() { " int" } else { "" };
+    format!(in alloc; "; {} {lower} {upper}{integer}", column.name().as_str())
+}
+
+fn objective_text(alloc: Global, problem: &Instance) -> Result<String, AllocError> {
+    let direction = match problem.direction() {
+        Direction::Min => "min",
+        Direction::Max => "max",
+    };
+    let constant = problem.constant().text(alloc)?;
+    let form = form_text(alloc, problem.objective().as_slice())?;
+    let name = problem.objective_name().as_str();
+    format!(in alloc; "{direction} {name} {constant}{form}")
+}
+
+fn problem_text(alloc: Global, problem: &Instance) -> Result<String, AllocError> {
+    let mut text = objective_text(alloc, problem)?;
+    for row in problem.rows() {
+        text.push_str(row_text(alloc, row)?.as_str())?;
+    }
+    for column in problem.columns() {
+        text.push_str(column_text(alloc, column)?.as_str())?;
+    }
+    Ok(text)
+}
+
+fn answer_text(alloc: Global, profile: &Profile, text: &str) -> Result<String, AllocError>
+    requires { IsWithinInstance profile.now }
+{
+    match read_within(alloc, profile, text.as_bytes()) {
+        Ok(problem) => problem_text(alloc, &problem),
+        Err(ReadError::Fault(fault)) => {
+            format!(in alloc; "{} {}", fault.line, fault.kind.as_str())
+        }
+        Err(ReadError::NoMemory) => Err(AllocError),
+    }
+}
+
+// ---- the tables are true
+
+// A text as a table writes it.
+fn written(alloc: Global, row: &str) -> Result<String, AllocError> {
+    let mut text = String::new(alloc);
+    for c in row.chars() {
+        match c {
+            '/' => text.push('\n')?,
+            c => text.push(c)?,
+        }
+    }
+    Ok(text)
+}
+
+fn check_table(rt: &impl Abort, alloc: Global, profile: &Profile, table: &str) -> Result<(), Fail>
+    requires { IsWithinInstance profile.now }
+{
+    for row in table.lines() {
+        let Some((want, text)) = row.split_once(" <- ") else {
+            panic!(rt; "an answer and a text: {row}");
+        };
+        let text = written(alloc, text)?;
+        let found = answer_text(alloc, profile, text.as_str())?;
+        assert_eq!(rt; found.as_str(), want, "at {row}");
+    }
+    Ok(())
+}
+
+#[test]
+fn declared_problems(rt: HostRuntime) -> Result<(), Fail> {
+    check_table(&rt, rt.alloc(), &reader_profile(), PROBLEMS)
+}
+
+#[test]
+fn first_faults(rt: HostRuntime) -> Result<(), Fail> {
+    check_table(&rt, rt.alloc(), &reader_profile(), FAULTS)
+}
+
+#[test]
+fn texts_past_limits(rt: HostRuntime) -> Result<(), Fail> {
+    let within_two = Profile {
+        rows: 2,
+        columns: 2,
+        entries: 2,
+        ..reader_profile()
+    };
+    check_table(&rt, rt.alloc(), &within_two, WITHIN_TWO)
+}
+
+#[test]
+fn texts_with_integers(rt: HostRuntime) -> Result<(), Fail> {
+    let with_integers = Profile {
+        takes_integers: true,
+        ..reader_profile()
+    };
+    check_table(&rt, rt.alloc(), &with_integers, WITH_INTEGERS)
+}
+
+// A comment holds any bytes, and nothing else does.
+#[test]
+fn bytes_that_are_no_text(rt: HostRuntime) {
+    assert!(rt; read_lp(rt.alloc(), b"min x \\ \xff\nst\n").is_ok());
+    let Err(ReadError::Fault(fault)) = read_lp(rt.alloc(), b"min x\n + \xffy\nst\n") else {
+        panic!(rt; "a fault");
+    };
+    assert_eq!(rt; fault.line, 2);
+    assert!(rt; fault.kind == FaultKind::BadLine);
+}
