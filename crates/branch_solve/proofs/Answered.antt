@@ -1,5 +1,5 @@
 -- What the functions that make and check certificates hand on.
-use Rattle.std.proofs.Common.{◌≡◌, ◌∙◌, List, [], length, sym, ap, Some}
+use Rattle.std.proofs.Common.{◌≡◌, ◌∙◌, List, [], length, sym, ap, Some, Result, Ok, Err, IfOk}
 use Rattle.rational.specs.Rational.{Rational}
 use Rattle.milp.specs.Problem.{Problem}
 use Rattle.instance.specs.WellFormed.{IsWellFormed}
@@ -13,7 +13,9 @@ use Rattle.cert_check.specs.declared.part.Checked.{Checked}
 use Rattle.cert_check.specs.declared.part.Checked.TheVariants.{Accepted, Refused}
 use Rattle.cert_check.specs.declared.part.CheckFault.{CheckFault}
 use Rattle.branch_solve.specs.Root.{IsRootOptimum, IsRootCertificate}
+use Rattle.branch_solve.specs.Made.{IsPlainCertificate}
 use Rattle.branch_solve.specs.Solved.{IsPartFault}
+use Rattle.branch_solve.specs.declared.fault.SolveFault.{SolveFault}
 use Rattle.branch_solve.proofs.RootCertificates.{root_faults}
 
 -- the check does not refuse a certificate that proves its verdict
@@ -34,3 +36,14 @@ point_size p x ray h = ap (λ (y : List Rational). length y) h.point ∙ length-
 
 pub ray_size : (p : Problem) (x ray : List Rational) → IsUnboundedRelaxation p [] [] x ray → length ray ≡ length p.columns
 ray_size p x ray h = ap (λ (y : List Rational). length y) h.is_ray ∙ length-numbers 0 (length p.columns) _
+
+-- ---- what the run finds has a certificate of a verdict's parts
+
+root_is_plain : (p : Problem) (c : Certificate) → IsRootCertificate p c → IsPlainCertificate p c
+root_is_plain p c (IsRootCertificate.optimal x w h is) = IsPlainCertificate.optimal x w (optimum_size p x w h) is
+root_is_plain p c (IsRootCertificate.infeasible w h is) = IsPlainCertificate.infeasible w is
+root_is_plain p c (IsRootCertificate.unbounded x ray h is) = IsPlainCertificate.unbounded x ray (point_size p x ray h) (ray_size p x ray h) is
+
+pub plain_of : (p : Problem) (r : Result Certificate SolveFault) → IfOk r (λ c. IsRootCertificate p c) → IfOk r (λ c. IsPlainCertificate p c)
+plain_of p (Ok c) h = root_is_plain p c h
+plain_of p (Err e) h = tt

@@ -1,7 +1,9 @@
-//! Problems solved by the simplex method: the verdict with its certificate, which the checker has accepted.
+//! Problems solved: a search proposes, the checker judges, and the simplex method by Bland's rule decides. The verdict
+//! comes with its certificate, which the checker has accepted.
 #![tactic(auto)]
 
 mod fault;
+mod judging;
 mod laws;
 mod making;
 mod root;
@@ -9,5 +11,5 @@ mod solving;
 
 pub use fault::SolveFault;
 pub use laws::{root_certificates, tests_of_nodes};
-pub use root::solve;
+pub use root::{solve, solve_with};
 pub use solving::{certified_contradiction, certified_optimum, certified_ray};

@@ -1,5 +1,5 @@
 -- What a report needs of a certificate: a number for each column, and rows whose values fit.
-use Rattle.std.proofs.Common.{◌≡◌, ◌∙◌, ℕ, zero, suc, Bool, true, false, cond, ◌&&◌, ◌==◌, List, [], ◌∷◌, length, Some, refl, sym, ap, subst}
+use Rattle.std.proofs.Common.{◌≡◌, Bool, true, false, cond, ◌&&◌, ◌==◌, List, [], ◌∷◌, length, Some, refl, sym, subst}
 use Rattle.std.specs.Prelude.{Result, Ok, Err, IsOk}
 use Rattle.rational.specs.Rational.{Rational, zero_ℚ}
 use Rattle.milp.specs.Problem.{Row, Problem}
@@ -9,12 +9,10 @@ use Rattle.verdicts.specs.Proves.{Part, lies_above, lies_below, meets_columns}
 use Rattle.verdicts.specs.Proves as of
 use Rattle.fraction.specs.declared.frac.NoFit.{NoFit}
 use Rattle.instance.specs.Sums.{and_then, sum_answer, rows_answer, meets_answer}
-use Rattle.basis.specs.Node.{system_of, integer_at}
-use Rattle.basis.specs.Weights.{numbers_from, made_whole}
 use Rattle.basis.specs.Relaxation.{leaf_certificate, point_certificate}
 use Rattle.cert_check.specs.Parts.{point_answer}
 use Rattle.cert_check.specs.Outcome.{Outcome, Acceptance, Refusal, Fault, judged, outcome, trials, verdict_trials, value_trials, ray_trials}
-use Rattle.branch_solve.specs.Root.{IsRootCertificate}
+use Rattle.branch_solve.specs.Made.{IsPlainCertificate}
 use Rattle.solution_writer.specs.Report.{RowsFit, IsReportable}
 
 -- ---- rows
@@ -53,14 +51,7 @@ accepted part (Err e) rest h = absurd (fault_is_none part e h)
 accepted part (Ok false) rest h = absurd (refusal_is_none part h)
 accepted part (Ok true) rest h = (refl, h)
 
--- ---- sizes
-
-count_of : (i count : ℕ) (f : ℕ → Rational) → length (numbers_from i count f) ≡ count
-count_of i zero f = refl
-count_of i (suc count) f = ap suc (count_of (suc i) count f)
-
-as_long : (p : Problem) (x : List Rational) (f : ℕ → Rational) → x ≡ numbers_from 0 (length p.columns) f → length x ≡ length p.columns
-as_long p x f e = ap length e ∙ count_of 0 (length p.columns) f
+-- ---- points
 
 abbrev after_size : Problem → Certificate → Verdict → Outcome
 after_size p c v = judged of.Size (Ok ((c.rows == length p.rows) && (c.columns == length p.columns))) (outcome (verdict_trials p c v))
@@ -75,14 +66,13 @@ endless_met p c h =
     let rest = (accepted of.Size (Ok ((c.rows == length p.rows) && (c.columns == length p.columns))) (outcome (verdict_trials p c Unbounded)) h).1 in
     (accepted of.Point (point_answer p c.point) (outcome (ray_trials p c)) rest).0
 
-pub reportable : (p : Problem) (c : Certificate) → IsRootCertificate p c → outcome (trials p c) ≡ Acceptance → IsReportable p c
-reportable p c (IsRootCertificate.optimal x w o e) h =
+pub reportable : (p : Problem) (c : Certificate) → IsPlainCertificate p c → outcome (trials p c) ≡ Acceptance → IsReportable p c
+reportable p c (IsPlainCertificate.optimal x w size e) h =
     let d : Certificate = leaf_certificate p Optimal (Some (objective_value p x)) (Some x) (Bound w) in
     let met : meets_answer p x ≡ Ok true = optimum_met p d (subst (λ d. outcome (trials p d) ≡ Acceptance) e h) in
-    subst (IsReportable p) (sym e) (record { point = as_long p x o.relaxation.values o.relaxation.point; ray = tt; rows = point_fits p x met })
-reportable p c (IsRootCertificate.infeasible w i e) h = subst (IsReportable p) (sym e) (record { point = tt; ray = tt; rows = tt })
-reportable p c (IsRootCertificate.unbounded x ray u e) h =
+    subst (IsReportable p) (sym e) (record { point = size; ray = tt; rows = point_fits p x met })
+reportable p c (IsPlainCertificate.infeasible w e) h = subst (IsReportable p) (sym e) (record { point = tt; ray = tt; rows = tt })
+reportable p c (IsPlainCertificate.unbounded x ray size ray_size e) h =
     let d : Certificate = point_certificate p x ray in
     let met : meets_answer p x ≡ Ok true = endless_met p d (subst (λ d. outcome (trials p d) ≡ Acceptance) e h) in
-    let whole = made_whole (system_of p [] []) (integer_at p) u.direction in
-    subst (IsReportable p) (sym e) (record { point = as_long p x u.values u.point; ray = as_long p ray whole u.is_ray; rows = point_fits p x met })
+    subst (IsReportable p) (sym e) (record { point = size; ray = ray_size; rows = point_fits p x met })

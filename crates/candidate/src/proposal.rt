@@ -1,0 +1,44 @@
+// What is proposed.
+use certificate::Weights;
+use instance::{Instance, Point};
+use search_node::{Basis, SplitsTaken};
+use std::alloc::{AllocError, Global};
+
+/// A point, weights that may show that none is better, and the basis that both were read from.
+#[derive(Drop)]
+pub struct ProposedOptimum {
+    pub point: Point,
+    pub weights: Weights,
+    pub basis: Basis,
+}
+
+/// A point, and a ray along which the objective may improve without end from there.
+#[derive(Drop)]
+pub struct ProposedRay {
+    pub point: Point,
+    pub ray: Point,
+}
+
+/// The parts of a verdict's certificate, proposed. Nothing is promised of them: a point may have too many numbers or lie
+/// outside, and weights may prove nothing.
+#[derive(Drop)]
+pub enum Candidate {
+    /// A best point.
+    Optimal(ProposedOptimum),
+    /// Weights that may contradict each other.
+    Infeasible(Weights),
+    /// A point and a ray.
+    Unbounded(ProposedRay),
+}
+
+/// Looks for a verdict on the linear program that the problem is below these splits, its columns taken as continuous. It
+/// starts at the basis `start`, or at that of the rows, and takes at most `steps` steps. It may give up at any time.
+pub fn propose(
+    alloc: Global,
+    problem: &Instance,
+    splits: &SplitsTaken,
+    start: Option<&Basis>,
+    steps: u32,
+) -> Result<Option<Candidate>, AllocError> {
+    Ok(None)
+}
