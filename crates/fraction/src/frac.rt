@@ -25,7 +25,7 @@ impl Model for Frac {
     ghost use Rattle.rational.specs.Rational.{Rational, over};
     ghost use Rattle.integer.specs.Lowest.{IsLowest};
     ghost use Rattle.fraction.specs.Fits.{rational_code, part_max};
-    ghost use Rattle.rational.proofs.Laws.{over_lowest, compare_total, compare_ties};
+    ghost use Rattle.rational.proofs.Laws.{over_lowest};
 
     ghost Value = { Rational };
 
@@ -318,6 +318,7 @@ impl PartialOrd for Frac {
     ghost use Rattle.std.proofs.Common.{refl};
     ghost use Rattle.std.specs.Cmp.{partial_order_from_agreeing_total};
     ghost use Rattle.rational.specs.Rational.{compare_ℚ};
+    ghost use Rattle.rational.proofs.Laws.{compare_total, compare_ties};
 
     ghost partial_cmp = { λ a b. Some (compare_ℚ a b) };
 
@@ -331,6 +332,7 @@ impl PartialOrd for Frac {
 impl Ord for Frac {
     ghost use Rattle.std.proofs.Common.{refl};
     ghost use Rattle.rational.specs.Rational.{compare_ℚ};
+    ghost use Rattle.rational.proofs.Laws.{compare_total, compare_ties};
 
     ghost cmp = { compare_ℚ };
 
