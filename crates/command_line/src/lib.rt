@@ -4,8 +4,6 @@
 mod options;
 mod read;
 mod settings;
-#[cfg(test)]
-mod tests;
 
 pub use read::read_words;
 pub use settings::{Language, Outputs, Settings, Task, WordsFault};

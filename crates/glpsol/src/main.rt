@@ -1,9 +1,6 @@
 // The program: the real outside, the words, and the status.
 #![tactic(auto)]
 
-#[cfg(test)]
-mod tests;
-
 use glpsol_cli::run;
 use outside::{RealSink, RealStore};
 use std::alloc::Global;

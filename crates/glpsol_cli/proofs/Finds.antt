@@ -13,8 +13,8 @@ use Rattle.solution_writer.specs.Report.{IsReportable}
 use Rattle.glpsol_cli.specs.Asked.{ToldNames, OfText, IsThere, IsProblem, IsAsked, IsRefused, declared_in, Solves, Translates, AsksFor}
 use Rattle.glpsol_cli.specs.Cause.{Cause, IsEarly, OfCertificate, IsAccepted, IsRefusedAt, IsCheckOverflow, IsNoCertificate, IsNodeOverflow, IsUndecided}
 use Rattle.glpsol_cli.specs.Endings.{IsTextOf, IsWorkOf, AreInputs, IsTextFault, IsSolveFault, IsCheckFault, IsFoundBy, IsWorkless, IsFoundIn, IsFaultIn, IsFoundOf}
-use Rattle.glpsol_cli.specs.declared.find.Found.{Found}
-use Rattle.glpsol_cli.specs.declared.find.Found.TheVariants.{Sized, Accepted as AcceptedFound, Solved}
+use Rattle.glpsol_cli.specs.declared.work_out.Found.{Found}
+use Rattle.glpsol_cli.specs.declared.work_out.Found.TheVariants.{Sized, Accepted as AcceptedFound, Solved}
 use Rattle.glpsol_cli.specs.declared.inputs.Inputs.{Inputs}
 use Rattle.glpsol_cli.specs.declared.inputs.Work.{Work}
 use Rattle.glpsol_cli.specs.declared.inputs.Work.TheVariants.{Solve as SolveWork, Translate as TranslateWork, Check as CheckWork}

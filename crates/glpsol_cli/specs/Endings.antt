@@ -27,8 +27,8 @@ use Rattle.glpsol_cli.specs.declared.answer.Answer.{Answer}
 use Rattle.glpsol_cli.specs.declared.answer.Answer.TheVariants.{Optimal, Infeasible, Unbounded, Translated, Accepted, Missing, OpenFault, ReadFault, WriteFault, TooLong, BadFile, BadCertificate, Overflow, Undecided, Refused, NoMemory}
 use Rattle.glpsol_cli.specs.declared.answer.Target.TheVariants.{Out, File}
 use Rattle.glpsol_cli.specs.declared.answer.OverflowSite.TheVariants.{AtNode, InPart}
-use Rattle.glpsol_cli.specs.declared.find.Found.{Found}
-use Rattle.glpsol_cli.specs.declared.find.Found.TheVariants.{Sized, Accepted as AcceptedFound, Solved}
+use Rattle.glpsol_cli.specs.declared.work_out.Found.{Found}
+use Rattle.glpsol_cli.specs.declared.work_out.Found.TheVariants.{Sized, Accepted as AcceptedFound, Solved}
 use Rattle.glpsol_cli.specs.declared.inputs.Inputs.{Inputs}
 use Rattle.glpsol_cli.specs.declared.inputs.Work.{Work}
 use Rattle.glpsol_cli.specs.declared.inputs.Work.TheVariants.{Solve as SolveWork, Translate as TranslateWork, Check as CheckWork}

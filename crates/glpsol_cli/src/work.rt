@@ -8,7 +8,7 @@ ghost use Rattle.glpsol_cli.specs.Printed.{Printed};
 ghost use Rattle.glpsol_cli.specs.Files.{Files};
 
 use crate::Answer;
-use crate::find::{Found, find};
+use crate::work_out::{Found, work_out};
 use crate::publish::{publish_acceptance, publish_fault, publish_size};
 use crate::save::conclude;
 use outside::{Sink, Store};
@@ -48,7 +48,7 @@ pub fn run<T: Threads + Sync, S: Store, O: Sink>(
         (Rose (S.faults files.old) (S.faults files.new)) (Rose (O.faults out.old) (O.faults out.new)) → IsVerdictOrNoMemory result }
 {
     certificates_are_right();
-    match find(alloc, &words, files) {
+    match work_out(alloc, &words, files) {
         Ok(Found::Sized(problem)) => publish_size(alloc, out, &problem),
         Ok(Found::Accepted) => publish_acceptance(alloc, out),
         Ok(Found::Solved(solved)) => conclude(alloc, files, out, solved),

@@ -1,5 +1,5 @@
 // Words, and the settings that they ask for.
-use crate::{Language, Settings, Task, WordsFault, read_words};
+use command_line::{Language, Settings, Task, WordsFault, read_words};
 use instance::{Direction, Name};
 use std::alloc::{AllocError, Global};
 use std::test::Fail;

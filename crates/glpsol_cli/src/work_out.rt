@@ -40,7 +40,7 @@ pub enum Found {
 }
 
 /// What the words ask for: the problem, its certificate, or that a certificate is accepted.
-pub fn find<S: Store>(alloc: Global, words: &[String], files: &mut S) -> Result<Found, Answer>
+pub fn work_out<S: Store>(alloc: Global, words: &[String], files: &mut S) -> Result<Found, Answer>
     ensures found { IfOk result (IsFoundOf (map string_bytes words.now) (S.told files.old)) }
     ensures cause { IfErr result (Cause (map string_bytes words.now) (S.told files.old) (Rose (S.faults files.old) (S.faults files.new)) ⊥) }
     ensures early { IfErr result IsEarly }

@@ -2,7 +2,7 @@ use Rattle.std.proofs.Common.{subst}
 use Rattle.glpsol_cli.specs.Asked.{IsProblem}
 use Rattle.glpsol_cli.specs.Endings.{IsFoundBy, IsWorkless, IsFoundIn, IsFaultIn}
 use Rattle.glpsol_cli.proofs.Texts.{if_ok, if_err}
-use Rattle.glpsol_cli.proofs.find.find_in.Goals as goal
+use Rattle.glpsol_cli.proofs.work_out.find_in.Goals as goal
 
 pub returns-clause-found : goal.returns-clause-found
 returns-clause-found c =

@@ -4,7 +4,7 @@ use Rattle.glpsol_cli.specs.Cause.{Cause}
 use Rattle.glpsol_cli.specs.Endings.{IsFoundIn, IsFaultIn, IsFoundOf}
 use Rattle.glpsol_cli.proofs.Texts.{if_ok, if_err}
 use Rattle.glpsol_cli.proofs.Finds.{found_of, fault_cause}
-use Rattle.glpsol_cli.proofs.find.find.Goals as goal
+use Rattle.glpsol_cli.proofs.work_out.work_out.Goals as goal
 
 pub returns-clause-found : goal.returns-clause-found
 returns-clause-found g c =

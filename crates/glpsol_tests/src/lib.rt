@@ -1,0 +1,18 @@
+//! Tests of the program's work, from the words of a command to the bytes that are written. They use public calls alone, and
+//! stand above the crates that they try, so that each of those is proved once.
+#![tactic(auto)]
+
+#[cfg(test)]
+mod certificates;
+#[cfg(test)]
+mod command_words;
+#[cfg(test)]
+mod cplex_lp;
+#[cfg(test)]
+mod faults;
+#[cfg(test)]
+mod free_mps;
+#[cfg(test)]
+mod linear_programs;
+#[cfg(test)]
+mod support;
