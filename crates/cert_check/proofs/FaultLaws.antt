@@ -12,7 +12,8 @@ use Rattle.fraction.specs.Answers.{add_answer, mul_answer, DoesNotFit}
 use Rattle.rational.specs.Compare.{is_zero, is_less, is_at_most, is_same}
 use Rattle.instance.specs.Sums.{and_then, step_answer, sum_answer, rows_answer}
 use Rattle.verdicts.specs.WeightedSums.{coefficient_of}
-use Rattle.verdicts.specs.Certificate.{Verdict, Optimal, Infeasible, Unbounded, Item, Weights, Side, Low, High, FormSplit, Proof, Plain, BySplit, Derived, TreeNode, Branch, Empty, Bound, Certificate}
+use Rattle.verdicts.specs.Certificate.{Verdict, Optimal, Infeasible, Unbounded, Item, Weights, Side as SideOf, FormSplit, Proof, Plain, BySplit, Derived, TreeNode, Branch, Empty, Bound, Certificate}
+use Rattle.verdicts.specs.Certificate as of
 use Rattle.verdicts.specs.Proves.{lies_above, lies_below, bound_for, meets_columns, greater, below, upper_under}
 use Rattle.cert_check.specs.Setting.{Setting}
 use Rattle.cert_check.specs.Sums.{and_also, with_product, next_answer, lower_answer, bound_of, then_there, are_there, all_there, with_bound, with_bounds, bound_sum, Product, with_products, weight_products, are_forms}
@@ -20,8 +21,8 @@ use Rattle.cert_check.specs.Parts.{point_answer, goal_answer, value_answer, ray_
 use Rattle.cert_check.specs.Outcome.{Trial, Outcome, Acceptance, Refusal, Fault, judged, outcome, derived_trials, node_trials, tree_trials, form_goal, verdict_trials, trials, outcome_of}
 use Rattle.cert_check.specs.declared.kind.Kind.{Kind}
 use Rattle.cert_check.specs.declared.kind.Kind.TheVariants.{OfRow, OfColumn, OfDerived}
-use Rattle.cert_check.specs.declared.kind.FormSide.{FormSide}
-use Rattle.cert_check.specs.declared.kind.FormSide.TheVariants.{AtMost, AtLeast}
+use Rattle.certificate.specs.declared.split.Side.{Side}
+use Rattle.certificate.specs.declared.split.Side.TheVariants.{Low, High}
 use Rattle.cert_check.specs.declared.part.Checked.{Checked}
 use Rattle.cert_check.specs.declared.part.CheckFault.{CheckFault}
 
@@ -62,10 +63,10 @@ product_honest total a b = then_honest (mul_answer a b) (λ p. add_answer total 
 next_honest : (at : ℤ) → IsHonest (next_answer at)
 next_honest at = add_honest (whole at) one_ℚ
 
-lower_honest : (p : Problem) (sides : List Side) (j : ℕ) → IsHonest (lower_answer p sides j)
+lower_honest : (p : Problem) (sides : List SideOf) (j : ℕ) → IsHonest (lower_answer p sides j)
 lower_honest p [] j = tt
-lower_honest p (Low s ∷ sides) j = lower_honest p sides j
-lower_honest p (High s ∷ sides) j = go (s.column == j) (lower_honest p sides j)
+lower_honest p (of.Low s ∷ sides) j = lower_honest p sides j
+lower_honest p (of.High s ∷ sides) j = go (s.column == j) (lower_honest p sides j)
   where
     go : (t : Bool) → IsHonest (lower_answer p sides j) → IfErr (if t then and_then (next_answer s.at) (λ b. and_then (lower_answer p sides j) (λ o. Ok (Some (greater o b)))) else lower_answer p sides j) DoesNotFit
     go true h = then_honest (next_answer s.at) (λ b. and_then (lower_answer p sides j) (λ o. Ok (Some (greater o b)))) (next_honest s.at) (λ b. then_honest (lower_answer p sides j) (λ o. Ok (Some (greater o b))) h (λ o. tt))
@@ -113,15 +114,15 @@ forms_honest f wanted j (c ∷ cs) = then_honest (with_products zero_ℚ (f j)) 
 shown_honest : (s : Setting) (w : Weights) (wanted : ℕ → Rational) (enough : Rational → Bool) → IsHonest (shown_answer s w wanted enough)
 shown_honest s w wanted enough = also_honest _ _ (all_there_honest s w) (also_honest _ _ (forms_honest (weight_products s w) wanted 0 s.problem.columns) (then_honest (bound_sum s zero_ℚ w) (λ r. Ok (enough r)) (sum_honest s zero_ℚ w) (λ r. tt)))
 
-side_bound_honest : (s : FormSplit) (side : FormSide) → IsHonest (side_bound s side)
-side_bound_honest s AtMost = product_honest zero_ℚ s.low (whole (neg_ℤ s.at))
-side_bound_honest s AtLeast = go (is_zero s.high)
+side_bound_honest : (s : FormSplit) (side : Side) → IsHonest (side_bound s side)
+side_bound_honest s Low = product_honest zero_ℚ s.low (whole (neg_ℤ s.at))
+side_bound_honest s High = go (is_zero s.high)
   where
     go : (t : Bool) → IfErr (if t then Ok zero_ℚ else and_then (next_answer s.at) (λ b. with_product zero_ℚ s.high b)) DoesNotFit
     go true = tt
     go false = then_honest (next_answer s.at) (λ b. with_product zero_ℚ s.high b) (next_honest s.at) (λ b. product_honest zero_ℚ s.high b)
 
-side_honest : (st : Setting) (s : FormSplit) (side : FormSide) (form : List Entry) (bound : Rational) → IsHonest (side_answer st s side form bound)
+side_honest : (st : Setting) (s : FormSplit) (side : Side) (form : List Entry) (bound : Rational) → IsHonest (side_answer st s side form bound)
 side_honest st s side form bound = also_honest _ _ (all_there_honest st (side_weights s side)) (also_honest _ _ (forms_honest (λ j. side_products s side j ++ weight_products st (side_weights s side) j) (coefficient_of form) 0 st.problem.columns) (then_honest (side_bound s side) (λ t. and_then (bound_sum st t (side_weights s side)) (λ r. Ok (is_at_most bound r))) (side_bound_honest s side) (λ t. then_honest (bound_sum st t (side_weights s side)) (λ r. Ok (is_at_most bound r)) (sum_honest st t (side_weights s side)) (λ r. tt))))
 
 first_honest : (b : Bool) (rest : Result Bool NoFit) → IsHonest rest → IsHonest (and_also (Ok b) rest)
@@ -130,7 +131,7 @@ first_honest false rest h = tt
 
 proof_honest : (st : Setting) (form : List Entry) (bound : Rational) (proof : Proof) → IsHonest (proof_answer st form bound proof)
 proof_honest st form bound (Plain w) = shown_honest st w (coefficient_of form) (is_at_most bound)
-proof_honest st form bound (BySplit s) = first_honest _ _ (also_honest _ _ (side_honest st s AtMost form bound) (side_honest st s AtLeast form bound))
+proof_honest st form bound (BySplit s) = first_honest _ _ (also_honest _ _ (side_honest st s Low form bound) (side_honest st s High form bound))
 
 derived_honest : (p : Problem) (d : Derived) → IsHonest (derived_answer p d)
 derived_honest p d = first_honest _ _ (proof_honest (problem_alone p) d.form d.bound d.proof)
@@ -188,7 +189,7 @@ unfolding AreHonest
 derived_all_honest p k [] = tt
 derived_all_honest p k (d ∷ ds) = (derived_honest p d, derived_all_honest p (k + 1) ds)
 
-nodes_honest : (p : Problem) (goal : Option Rational) (ds : List Derived) (k : ℕ) (places : List (List Side)) (nodes : List TreeNode) → AreHonest (node_trials p goal ds k places nodes)
+nodes_honest : (p : Problem) (goal : Option Rational) (ds : List Derived) (k : ℕ) (places : List (List SideOf)) (nodes : List TreeNode) → AreHonest (node_trials p goal ds k places nodes)
 unfolding AreHonest
 nodes_honest p goal ds k [] [] = tt
 nodes_honest p goal ds k [] (node ∷ nodes) = (tt, tt)

@@ -14,7 +14,7 @@ use Rattle.instance.specs.WellFormed.{are_entries}
 use Rattle.instance.specs.declared.by_column.ColumnEntry.{ColumnEntry}
 use Rattle.instance.specs.ByColumn.{entries_in_form, entries_in_rows}
 use Rattle.verdicts.specs.Certificate.{Item}
-use Rattle.certificate.specs.Written.{place_of, AreItemsFrom}
+use Rattle.certificate.specs.Written.{rank_of, AreItemsFrom}
 use Rattle.cert_check.specs.Setting.{Setting}
 use Rattle.cert_check.specs.Sums.{products, item_products, form_at, with_products}
 use Rattle.cert_check.specs.declared.kind.Kind.TheVariants.{OfColumn}
@@ -22,7 +22,7 @@ use Rattle.cert_check.specs.Lookup.{at_index, at_entries}
 use Rattle.cert_check.specs.Parts.{ascending}
 use Rattle.cert_check.proofs.Ascending.{entries_ascend}
 use Rattle.cert_check.proofs.Products.{next, products_then}
-use Rattle.cert_check.proofs.ItemOrder.{least_place, greatest_place, other, not_here, none_left}
+use Rattle.cert_check.proofs.ItemOrder.{least_rank, greatest_rank, other, not_here, none_left}
 
 here : (i : Item) (is : List Item) (index : ℕ) (factor : Rational) → i.index ≡ index → at_index (i ∷ is) index factor ≡ record { weight = i.weight; factor = factor } ∷ at_index is index factor
 here i is index factor h = rw (eq-eqb i.index index h) refl
@@ -75,8 +75,8 @@ later_from : (row least : ℕ) (items : List Item) → 2 * row ≤ least → Are
 unfolding later
 later_from row least [] low h = tt
 later_from row least (i ∷ is) low h = elim (ℕ_discrete i.index row) [
-  | yes q ↦ rw (eq-eqb i.index row q) (later_from row (place_of i + 1) is (omega (arith, low, h.0)) h.2)
-  | no d ↦ rw (other i.index row d) (omega (arith, low, h.0, greatest_place i, least_place i, d), h.1, h.2)
+  | yes q ↦ rw (eq-eqb i.index row q) (later_from row (rank_of i + 1) is (omega (arith, low, h.0)) h.2)
+  | no d ↦ rw (other i.index row d) (omega (arith, low, h.0, greatest_rank i, least_rank i, d), h.1, h.2)
 ]
 
 -- a later row's weights are among them
@@ -109,8 +109,8 @@ one_row : (f : ℕ → List Entry) (row least : ℕ) (items : List Item) (j : �
 unfolding later
 one_row f row least [] j c low h one = refl
 one_row f row least (i ∷ is) j c low h one = elim (ℕ_discrete i.index row) [
-  | yes q ↦ rw (eq-eqb i.index row q) (ap (λ ps. record { weight = i.weight; factor = c } ∷ ps) (one_row f row (place_of i + 1) is j c (omega (arith, low, h.0)) h.2 one) ∙ ap (λ ps. ps ++ item_products f is j) (sym (ap (λ n. products i.weight (f n) j) q ∙ one i.weight)))
-  | no d ↦ rw (other i.index row d) (ap (λ ps. ps ++ item_products f (i ∷ is) j) (none_left (place_of i + 1) is row c h.2 (omega (arith, low, h.0, greatest_place i, least_place i, d))))
+  | yes q ↦ rw (eq-eqb i.index row q) (ap (λ ps. record { weight = i.weight; factor = c } ∷ ps) (one_row f row (rank_of i + 1) is j c (omega (arith, low, h.0)) h.2 one) ∙ ap (λ ps. ps ++ item_products f is j) (sym (ap (λ n. products i.weight (f n) j) q ∙ one i.weight)))
+  | no d ↦ rw (other i.index row d) (ap (λ ps. ps ++ item_products f (i ∷ is) j) (none_left (rank_of i + 1) is row c h.2 (omega (arith, low, h.0, greatest_rank i, least_rank i, d))))
 ]
 
 no_row : (f : ℕ → List Entry) (row : ℕ) (items : List Item) (j : ℕ) → ((w : Rational) → products w (f row) j ≡ []) → item_products f (later row items) j ≡ item_products f items j
@@ -124,7 +124,7 @@ no_row f row (i ∷ is) j none = elim (ℕ_discrete i.index row) [
 -- two tables of forms that are alike from a row on
 alike : (f g : ℕ → List Entry) (row least : ℕ) (items : List Item) (j : ℕ) → 2 * row ≤ least → AreItemsFrom least items → ((i : ℕ) → row ≤ i → f i ≡ g i) → item_products f items j ≡ item_products g items j
 alike f g row least [] j low h same = refl
-alike f g row least (i ∷ is) j low h same = ap₂ (λ a b. a ++ b) (ap (λ es. products i.weight es j) (same i.index (omega (arith, low, h.0, greatest_place i)))) (alike f g row (place_of i + 1) is j (omega (arith, low, h.0)) h.2 same)
+alike f g row least (i ∷ is) j low h same = ap₂ (λ a b. a ++ b) (ap (λ es. products i.weight es j) (same i.index (omega (arith, low, h.0, greatest_rank i)))) (alike f g row (rank_of i + 1) is j (omega (arith, low, h.0)) h.2 same)
 
 nothing : (f : ℕ → List Entry) (items : List Item) (j : ℕ) → ((i : ℕ) → f i ≡ []) → item_products f items j ≡ []
 nothing f [] j h = refl

@@ -16,15 +16,15 @@ use Rattle.rational.specs.Compare.{is_zero, is_less, is_at_most, is_same}
 use Rattle.instance.specs.Sums.{and_then, step_answer, sum_answer, rows_answer}
 use Rattle.instance.proofs.Laws.{sum_fits_ok, and_rest, rows_ok}
 use Rattle.verdicts.specs.WeightedSums.{Weighted, scaled, combined, combined_bound, coefficient_of}
-use Rattle.verdicts.specs.Certificate.{Weights, Side, FormSplit, Proof, Plain, BySplit, Derived, TreeNode, Branch, Empty, Bound}
+use Rattle.verdicts.specs.Certificate.{Weights, Side as SideOf, FormSplit, Proof, Plain, BySplit, Derived, TreeNode, Branch, Empty, Bound}
 use Rattle.verdicts.specs.Proves.{lies_above, lies_below, bound_for, meets_columns, meets_rows, is_improving_ray, joined, terms, same_form, shows, refutes, in_range, is_whole_form, low_term, high_term, proof_passes, derived_passes, bound_passes, node_passes, point_passes, value_passes, ray_passes}
 use Rattle.verdicts.proofs.Laws.{coefficient-scaled, coefficient-combined}
 use Rattle.cert_check.specs.Setting.{Setting}
 use Rattle.cert_check.specs.Sums.{and_also, with_product, next_answer, all_there, bound_sum, Product, weight_products, are_forms}
 use Rattle.cert_check.specs.Parts.{point_answer, form_value_answer, value_answer, ray_rows_answer, is_improving_answer, ray_answer, shown_answer, problem_alone, side_weights, side_products, side_bound, side_answer, proof_answer, derived_answer, bound_answer, node_answer}
 use Rattle.cert_check.specs.Outcome.{form_goal}
-use Rattle.cert_check.specs.declared.kind.FormSide.{FormSide}
-use Rattle.cert_check.specs.declared.kind.FormSide.TheVariants.{AtMost, AtLeast}
+use Rattle.certificate.specs.declared.split.Side.{Side}
+use Rattle.certificate.specs.declared.split.Side.TheVariants.{Low, High}
 use Rattle.cert_check.proofs.Exact.{ok_then, also_ok, also_true, also_false, if_ok, add_ok, product_ok, next_ok, all_there_ok, bound_sum_ok, product_sum, sum-append, sum-products, weights_sum, forms_ok}
 
 -- ---- weights
@@ -58,26 +58,26 @@ shown_ok s w wanted form enough k = go (terms s.problem s.derived s.sides w) ref
 
 -- ---- a side of a split
 
-side_term : FormSplit → FormSide → Weighted
-side_term s AtMost = low_term s
-side_term s AtLeast = high_term s
+side_term : FormSplit → Side → Weighted
+side_term s Low = low_term s
+side_term s High = high_term s
 
-side_sum : (s : FormSplit) (side : FormSide) (j : ℕ) → product_sum (side_products s side j) ≡ (side_term s side).weight *ℚ coefficient_of (side_term s side).form j
+side_sum : (s : FormSplit) (side : Side) (j : ℕ) → product_sum (side_products s side j) ≡ (side_term s side).weight *ℚ coefficient_of (side_term s side).form j
 unfolding side_term
-side_sum s AtMost j = sum-products s.low (scaled (whole (negsuc 0)) s.form) j
-side_sum s AtLeast j = sum-products s.high s.form j
+side_sum s Low j = sum-products s.low (scaled (whole (negsuc 0)) s.form) j
+side_sum s High j = sum-products s.high s.form j
 
-side_bound_ok : (s : FormSplit) (side : FormSide) → IfOk (side_bound s side) (λ v. v ≡ zero_ℚ +ℚ (side_term s side).weight *ℚ (side_term s side).bound)
+side_bound_ok : (s : FormSplit) (side : Side) → IfOk (side_bound s side) (λ v. v ≡ zero_ℚ +ℚ (side_term s side).weight *ℚ (side_term s side).bound)
 unfolding side_term
-side_bound_ok s AtMost = product_ok zero_ℚ s.low (whole (neg_ℤ s.at))
-side_bound_ok s AtLeast = go (is_zero s.high) refl
+side_bound_ok s Low = product_ok zero_ℚ s.low (whole (neg_ℤ s.at))
+side_bound_ok s High = go (is_zero s.high) refl
   where
     go : (t : Bool) → is_zero s.high ≡ t → IfOk (if t then Ok zero_ℚ else and_then (next_answer s.at) (λ b. with_product zero_ℚ s.high b)) (λ v. v ≡ zero_ℚ +ℚ s.high *ℚ whole (s.at +ℤ pos 1))
     go true e = sym (Q.zero-add (s.high *ℚ whole (s.at +ℤ pos 1)) ∙ ap (λ z. z *ℚ whole (s.at +ℤ pos 1)) (Q.zero_true s.high e) ∙ Q.zero-mul (whole (s.at +ℤ pos 1)))
     go false e = ok_then (next_answer s.at) (λ b. with_product zero_ℚ s.high b) (λ b. b ≡ whole (s.at +ℤ pos 1)) (λ v. v ≡ zero_ℚ +ℚ s.high *ℚ whole (s.at +ℤ pos 1)) (next_ok s.at)
         (λ b eb. if_ok (with_product zero_ℚ s.high b) (zero_ℚ +ℚ s.high *ℚ b) (zero_ℚ +ℚ s.high *ℚ whole (s.at +ℤ pos 1)) (product_ok zero_ℚ s.high b) (ap (λ b. zero_ℚ +ℚ s.high *ℚ b) eb))
 
-side_ok : (p : Problem) (s : FormSplit) (side : FormSide) (form : List Entry) (bound : Rational) → IfOk (side_answer (problem_alone p) s side form bound) (λ b. b ≡ shows (length p.columns) (joined (Some (side_term s side)) (terms p [] [] (side_weights s side))) form bound)
+side_ok : (p : Problem) (s : FormSplit) (side : Side) (form : List Entry) (bound : Rational) → IfOk (side_answer (problem_alone p) s side form bound) (λ b. b ≡ shows (length p.columns) (joined (Some (side_term s side)) (terms p [] [] (side_weights s side))) form bound)
 side_ok p s side form bound = go (terms p [] [] (side_weights s side)) refl (all_there_ok (problem_alone p) (side_weights s side))
   where
     st : Setting
@@ -118,7 +118,7 @@ proof_ok : (p : Problem) (form : List Entry) (bound : Rational) (proof : Proof) 
 unfolding side_term
 proof_ok p form bound (Plain w) = if_ok (shown_answer (problem_alone p) w (coefficient_of form) (is_at_most bound)) _ _ (shown_ok (problem_alone p) w (coefficient_of form) form (is_at_most bound) (λ j. refl)) (shows_is (length p.columns) (terms p [] [] w) form bound)
 proof_ok p form bound (BySplit s) =
-    first_ok (is_whole_form p s.form && (is_at_most zero_ℚ s.low && is_at_most zero_ℚ s.high)) _ _ (λ h. also_ok _ _ _ _ (side_ok p s AtMost form bound) (λ k. side_ok p s AtLeast form bound))
+    first_ok (is_whole_form p s.form && (is_at_most zero_ℚ s.low && is_at_most zero_ℚ s.high)) _ _ (λ h. also_ok _ _ _ _ (side_ok p s Low form bound) (λ k. side_ok p s High form bound))
 
 pub derived_ok : (p : Problem) (d : Derived) → IfOk (derived_answer p d) (λ b. b ≡ derived_passes p d)
 derived_ok p d = also_ok (Ok (in_range (length p.columns) d.form)) (proof_answer (problem_alone p) d.form d.bound d.proof) (in_range (length p.columns) d.form) (proof_passes p d.form d.bound d.proof) refl (λ h. proof_ok p d.form d.bound d.proof)
@@ -132,7 +132,7 @@ bound_ok s (Some v) w =
     let needed : Rational = sign_of p.direction *ℚ (v -ℚ p.constant) in
     if_ok (bound_answer s (Some (v -ℚ p.constant)) w) _ _ (shown_ok s w (λ j. sign_of p.direction *ℚ coefficient_of p.objective j) (scaled (sign_of p.direction) p.objective) (is_at_most needed) (λ j. sym (coefficient-scaled (sign_of p.direction) p.objective j))) (shows_is (length p.columns) (terms p s.derived s.sides w) (scaled (sign_of p.direction) p.objective) needed)
 
-pub node_ok : (p : Problem) (goal : Option Rational) (ds : List Derived) (sides : List Side) (node : TreeNode) → IfOk (node_answer (record { problem = p; derived = ds; sides = sides }) (form_goal p goal) node) (λ b. b ≡ node_passes p goal ds sides node)
+pub node_ok : (p : Problem) (goal : Option Rational) (ds : List Derived) (sides : List SideOf) (node : TreeNode) → IfOk (node_answer (record { problem = p; derived = ds; sides = sides }) (form_goal p goal) node) (λ b. b ≡ node_passes p goal ds sides node)
 node_ok p goal ds sides (Branch b) = refl
 node_ok p goal ds sides (Empty w) = if_ok (shown_answer (record { problem = p; derived = ds; sides = sides }) w (λ j. zero_ℚ) (is_less zero_ℚ)) _ _ (shown_ok (record { problem = p; derived = ds; sides = sides }) w (λ j. zero_ℚ) [] (is_less zero_ℚ) (λ j. refl)) (refutes_is (length p.columns) (terms p ds sides w))
 node_ok p goal ds sides (Bound w) = bound_ok (record { problem = p; derived = ds; sides = sides }) goal w

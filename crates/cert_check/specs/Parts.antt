@@ -15,8 +15,8 @@ use Rattle.verdicts.specs.Certificate.{Weights, FormSplit, Proof, Plain, BySplit
 use Rattle.verdicts.specs.Proves.{lies_above, lies_below, bound_for, meets_columns, in_range, is_integer, is_whole_form}
 use Rattle.cert_check.specs.Setting.{Setting}
 use Rattle.cert_check.specs.Sums.{and_also, with_product, next_answer, all_there, bound_sum, Product, products, weight_products, are_forms}
-use Rattle.cert_check.specs.declared.kind.FormSide.{FormSide}
-use Rattle.cert_check.specs.declared.kind.FormSide.TheVariants.{AtMost, AtLeast}
+use Rattle.certificate.specs.declared.split.Side.{Side}
+use Rattle.certificate.specs.declared.split.Side.TheVariants.{Low, High}
 
 -- ---- point, value, ray
 
@@ -71,26 +71,26 @@ shown_answer s w wanted enough = and_also (all_there s w) (and_also (are_forms (
 abbrev pub problem_alone : Problem → Setting
 problem_alone p = record { problem = p; derived = []; sides = [] }
 
-abbrev pub side_weights : FormSplit → FormSide → Weights
-side_weights s AtMost = s.low_weights
-side_weights s AtLeast = s.high_weights
+abbrev pub side_weights : FormSplit → Side → Weights
+side_weights s Low = s.low_weights
+side_weights s High = s.high_weights
 
 -- what the split's own inequality adds to F at column j: low times `-form`, or high times `form`
-abbrev pub side_products : FormSplit → FormSide → ℕ → List Product
-side_products s AtMost j = products s.low (scaled (whole (negsuc 0)) s.form) j
-side_products s AtLeast j = products s.high s.form j
+abbrev pub side_products : FormSplit → Side → ℕ → List Product
+side_products s Low j = products s.low (scaled (whole (negsuc 0)) s.form) j
+side_products s High j = products s.high s.form j
 
 -- what it adds to R: low times `-at`, or high times `at + 1` where high is not 0
-abbrev pub side_bound : FormSplit → FormSide → Result Rational NoFit
-side_bound s AtMost = with_product zero_ℚ s.low (whole (neg_ℤ s.at))
-side_bound s AtLeast = if is_zero s.high then Ok zero_ℚ else and_then (next_answer s.at) (λ b. with_product zero_ℚ s.high b)
+abbrev pub side_bound : FormSplit → Side → Result Rational NoFit
+side_bound s Low = with_product zero_ℚ s.low (whole (neg_ℤ s.at))
+side_bound s High = if is_zero s.high then Ok zero_ℚ else and_then (next_answer s.at) (λ b. with_product zero_ℚ s.high b)
 
 -- one side of a split shows that the form is at least the bound
-abbrev pub side_answer : Setting → FormSplit → FormSide → List Entry → Rational → Result Bool NoFit
+abbrev pub side_answer : Setting → FormSplit → Side → List Entry → Rational → Result Bool NoFit
 side_answer st s side form bound = and_also (all_there st (side_weights s side)) (and_also (are_forms (λ j. side_products s side j ++ weight_products st (side_weights s side) j) (coefficient_of form) 0 st.problem.columns) (and_then (side_bound s side) (λ t. and_then (bound_sum st t (side_weights s side)) (λ r. Ok (is_at_most bound r)))))
 
 abbrev pub split_answer : Setting → FormSplit → List Entry → Rational → Result Bool NoFit
-split_answer st s form bound = and_also (Ok (is_whole_form st.problem s.form && (is_at_most zero_ℚ s.low && is_at_most zero_ℚ s.high))) (and_also (side_answer st s AtMost form bound) (side_answer st s AtLeast form bound))
+split_answer st s form bound = and_also (Ok (is_whole_form st.problem s.form && (is_at_most zero_ℚ s.low && is_at_most zero_ℚ s.high))) (and_also (side_answer st s Low form bound) (side_answer st s High form bound))
 
 abbrev pub proof_answer : Setting → List Entry → Rational → Proof → Result Bool NoFit
 proof_answer st form bound (Plain w) = shown_answer st w (coefficient_of form) (is_at_most bound)

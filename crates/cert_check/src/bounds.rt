@@ -6,7 +6,7 @@ ghost use Rattle.certificate.specs.Ways.{side_of, way};
 ghost use Rattle.cert_check.specs.Sums.{next_answer, lower_answer};
 ghost use Rattle.cert_check.specs.Walk.{found_lower, found_upper, merged_lower, merged_upper};
 
-use certificate::{Side, Tree, WholeNumber};
+use certificate::{Side, Split, Tree, WholeNumber};
 use fraction::{Frac, NoFit, whole_numbers};
 use instance::{Instance, greater, lesser};
 
@@ -24,7 +24,7 @@ pub(crate) fn lower_at(
     let mut found = None;
     let mut at = place;
     while let Some(turn) = tree.last_turn(at) {
-        found = with_lower(found, turn.side, column)?;
+        found = with_lower(found, turn.split, turn.side, column)?;
         at = turn.place;
     }
     Ok(over_own(found, problem, column))
@@ -38,18 +38,23 @@ pub(crate) fn upper_at(problem: &Instance, tree: &Tree, place: usize, column: u3
     let mut found = None;
     let mut at = place;
     while let Some(turn) = tree.last_turn(at) {
-        found = with_upper(found, turn.side, column);
+        found = with_upper(found, turn.split, turn.side, column);
         at = turn.place;
     }
     under_own(found, problem, column)
 }
 
-fn with_lower(found: Option<Frac>, side: Side, column: u32) -> Result<Option<Frac>, NoFit>
-    ensures { result ≡ found_lower found (side_of side) column }
+fn with_lower(
+    found: Option<Frac>,
+    split: Split,
+    side: Side,
+    column: u32,
+) -> Result<Option<Frac>, NoFit>
+    ensures { result ≡ found_lower found (side_of split side) column }
 {
     match side {
-        Side::Low(_) => Ok(found),
-        Side::High(split) => {
+        Side::Low => Ok(found),
+        Side::High => {
             if split.column() != column {
                 return Ok(found);
             }
@@ -59,12 +64,12 @@ fn with_lower(found: Option<Frac>, side: Side, column: u32) -> Result<Option<Fra
     }
 }
 
-fn with_upper(found: Option<Frac>, side: Side, column: u32) -> Option<Frac>
-    ensures { result ≡ found_upper found (side_of side) column }
+fn with_upper(found: Option<Frac>, split: Split, side: Side, column: u32) -> Option<Frac>
+    ensures { result ≡ found_upper found (side_of split side) column }
 {
     match side {
-        Side::High(_) => found,
-        Side::Low(split) => {
+        Side::High => found,
+        Side::Low => {
             if split.column() != column {
                 return found;
             }

@@ -11,11 +11,10 @@ ghost use Rattle.cert_check.specs.Outcome.{outcome, outcome_of, derived_trials};
 
 use crate::bounds::next;
 use crate::forms::{is_form, is_side_form, weights_of};
-use crate::kind::FormSide;
 use crate::part::{CheckFault, Checked, Part};
 use crate::setting::Setting;
 use crate::sums::{all_there, bound_sum, with_product};
-use certificate::{Derived, FormSplit, Proof, Tree, Weights};
+use certificate::{Derived, FormSplit, Proof, Side, Tree, Weights};
 use fraction::{Frac, NoFit};
 use instance::{Entry, Instance};
 
@@ -62,12 +61,12 @@ fn is_whole_form(problem: &Instance, form: &[Entry]) -> bool
 
 // What the inequality of a split's side adds to R.
 #[tactic(auto, using(crate::proofs::Signs::whole_negative))]
-fn side_bound(split: &FormSplit, side: FormSide) -> Result<Frac, NoFit>
+fn side_bound(split: &FormSplit, side: Side) -> Result<Frac, NoFit>
     ensures { result ≡ side_bound split.now side }
 {
     match side {
-        FormSide::AtMost => with_product(Frac::zero(), split.low(), split.at().to_frac().neg()),
-        FormSide::AtLeast => {
+        Side::Low => with_product(Frac::zero(), split.low(), split.at().to_frac().neg()),
+        Side::High => {
             if split.high().is_zero() {
                 return Ok(Frac::zero());
             }
@@ -81,7 +80,7 @@ fn side_bound(split: &FormSplit, side: FormSide) -> Result<Frac, NoFit>
 fn side_passes(
     setting: &Setting,
     split: &FormSplit,
-    side: FormSide,
+    side: Side,
     form: &[Entry],
     bound: Frac,
 ) -> Result<bool, NoFit>
@@ -113,10 +112,10 @@ fn split_passes(
     if !is_split(setting.problem(), split) {
         return Ok(false);
     }
-    if !side_passes(setting, split, FormSide::AtMost, form, bound)? {
+    if !side_passes(setting, split, Side::Low, form, bound)? {
         return Ok(false);
     }
-    side_passes(setting, split, FormSide::AtLeast, form, bound)
+    side_passes(setting, split, Side::High, form, bound)
 }
 
 // The split's form is whole, and the weights of its inequalities are not negative.

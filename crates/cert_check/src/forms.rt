@@ -6,11 +6,10 @@ ghost use Rattle.verdicts.specs.WeightedSums.{coefficient_of, scaled};
 ghost use Rattle.cert_check.specs.Sums.{products, with_products, weight_products, are_forms};
 ghost use Rattle.cert_check.specs.Parts.{problem_alone, side_weights, side_products, ascending, signed_by};
 
-use crate::kind::FormSide;
 use crate::lookup::entry_of;
 use crate::setting::Setting;
 use crate::sums::{column_sum, with_form, with_product};
-use certificate::{FormSplit, Weights};
+use certificate::{FormSplit, Side, Weights};
 use fraction::{Frac, NoFit};
 use instance::{Entry, signed};
 use milp::Direction;
@@ -84,13 +83,13 @@ fn with_negative_form(start: Frac, weight: Frac, form: &[Entry], column: u32) ->
 }
 
 // What the inequality of a split's side adds to F at a column.
-fn side_sum(split: &FormSplit, side: FormSide, column: u32) -> Result<Frac, NoFit>
+fn side_sum(split: &FormSplit, side: Side, column: u32) -> Result<Frac, NoFit>
     ensures { result ≡ with_products zero_ℚ (side_products split.now side column) }
 {
     let form = split.form().as_slice();
     match side {
-        FormSide::AtMost => with_negative_form(Frac::zero(), split.low(), form, column),
-        FormSide::AtLeast => with_form(Frac::zero(), split.high(), form, column),
+        Side::Low => with_negative_form(Frac::zero(), split.low(), form, column),
+        Side::High => with_form(Frac::zero(), split.high(), form, column),
     }
 }
 
@@ -99,7 +98,7 @@ fn side_sum(split: &FormSplit, side: FormSide, column: u32) -> Result<Frac, NoFi
 fn side_column_sum(
     setting: &Setting,
     split: &FormSplit,
-    side: FormSide,
+    side: Side,
     column: u32,
 ) -> Result<Frac, NoFit>
     requires { column < length setting.now.problem.columns }
@@ -110,12 +109,12 @@ fn side_column_sum(
 }
 
 // The other weights of a split's side.
-pub(crate) fn weights_of(split: &FormSplit, side: FormSide) -> &Weights
+pub(crate) fn weights_of(split: &FormSplit, side: Side) -> &Weights
     ensures { result.now ≡ side_weights split.now side }
 {
     match side {
-        FormSide::AtMost => split.low_weights(),
-        FormSide::AtLeast => split.high_weights(),
+        Side::Low => split.low_weights(),
+        Side::High => split.high_weights(),
     }
 }
 
@@ -123,7 +122,7 @@ pub(crate) fn weights_of(split: &FormSplit, side: FormSide) -> &Weights
 pub(crate) fn is_side_form(
     setting: &Setting,
     split: &FormSplit,
-    side: FormSide,
+    side: Side,
     wanted: &[Entry],
 ) -> Result<bool, NoFit>
     requires { IsTrue (ascending 0 wanted.now) }

@@ -10,12 +10,3 @@ pub(crate) enum Kind {
     /// Derived rows of the certificate.
     OfDerived,
 }
-
-/// A side of the split of a form.
-#[derive(Clone, Copy)]
-pub(crate) enum FormSide {
-    /// The form is at most the split's number.
-    AtMost,
-    /// The form is at least the next number.
-    AtLeast,
-}

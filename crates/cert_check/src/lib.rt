@@ -12,8 +12,6 @@ mod part;
 mod points;
 mod setting;
 mod sums;
-#[cfg(test)]
-mod tests;
 
 pub use checking::check;
 pub use part::{CheckFault, Checked, Part};

@@ -2,14 +2,14 @@
 use Rattle.std.proofs.Common.{◌≡◌, ◌∙◌, ℕ, zero, suc, ◌+◌, ◌<◌, ◌≤◌, List, [], ◌∷◌, ◌++◌, length, map, get_or, take, reverse, Bool, true, false, Option, Some, None, refl, sym, ap, subst, arith, take-suc}
 use Rattle.std.proofs.lemmas.List.{reverse-append, length-reverse, length-take-le, length-map}
 use Rattle.std.proofs.Math.ListN.{get_or-map}
-use Rattle.verdicts.specs.Certificate.{TreeNode, Branch, Empty, Bound, Split, Side as SideOf}
+use Rattle.verdicts.specs.Certificate.{TreeNode, Branch, Empty, Bound, Split}
 use Rattle.verdicts.specs.Preorder.{way_to}
-use Rattle.certificate.specs.declared.tree.Half.{Half}
-use Rattle.certificate.specs.declared.tree.Half.TheVariants.{Low, High}
+use Rattle.certificate.specs.declared.split.Side.{Side}
+use Rattle.certificate.specs.declared.split.Side.TheVariants.{Low, High}
 use Rattle.certificate.specs.declared.tree.Parent.{Parent}
 use Rattle.certificate.specs.declared.split.Turn.{Turn}
 use Rattle.certificate.specs.Ways.{side_of, way, IsLastTurn}
-use Rattle.certificate.specs.Parents.{side_at, turn_under, parent_to, parent_of}
+use Rattle.certificate.specs.Parents.{turn_under, parent_to, parent_of}
 
 -- the nodes before a place, the latest first
 abbrev before : List TreeNode → ℕ → List TreeNode
@@ -33,13 +33,13 @@ abbrev place_of : Option Parent → ℕ
 place_of None = 0
 place_of (Some p) = p.place
 
-abbrev high : Half → Bool
+abbrev high : Side → Bool
 high Low = false
 high High = true
 
 abbrev is_high : Option Parent → Bool
 is_high None = false
-is_high (Some p) = high p.half
+is_high (Some p) = high p.side
 
 -- ---- climbing: the place after a subtree
 
@@ -51,17 +51,17 @@ none_past (Branch s ∷ xs) zero e = cc
 none_past (Branch s ∷ xs) (suc zero) e = cc
 none_past (Branch s ∷ xs) (suc (suc skip)) e = none_past xs (suc skip) e
 
-low_past : (nodes : List TreeNode) (skip place : ℕ) → parent_to nodes skip ≡ Some (record { place = place; half = Low }) → parent_to nodes (suc skip) ≡ Some (record { place = place; half = High })
+low_past : (nodes : List TreeNode) (skip place : ℕ) → parent_to nodes skip ≡ Some (record { place = place; side = Low }) → parent_to nodes (suc skip) ≡ Some (record { place = place; side = High })
 low_past [] skip place e = cc
 low_past (Empty w ∷ xs) skip place e = low_past xs (suc skip) place e
 low_past (Bound w ∷ xs) skip place e = low_past xs (suc skip) place e
-low_past (Branch s ∷ xs) zero place e = let same : length xs ≡ place = ap place_of e in ap (λ n. Some (record { place = n; half = High })) same
+low_past (Branch s ∷ xs) zero place e = let same : length xs ≡ place = ap place_of e in ap (λ n. Some (record { place = n; side = High })) same
 low_past (Branch s ∷ xs) (suc zero) place e = let never : true ≡ false = ap is_high e in cc
 low_past (Branch s ∷ xs) (suc (suc skip)) place e = low_past xs (suc skip) place e
 
 high_over : (nodes : List TreeNode) (n skip place : ℕ) (x : TreeNode) → n ≤ length nodes
-    → ((k : ℕ) → parent_to (before nodes n) k ≡ Some (record { place = place; half = High }) → parent_to (before nodes n) (suc k) ≡ parent_to (before nodes place) 1)
-    → parent_to (x ∷ before nodes n) skip ≡ Some (record { place = place; half = High }) → parent_to (x ∷ before nodes n) (suc skip) ≡ parent_to (before nodes place) 1
+    → ((k : ℕ) → parent_to (before nodes n) k ≡ Some (record { place = place; side = High }) → parent_to (before nodes n) (suc k) ≡ parent_to (before nodes place) 1)
+    → parent_to (x ∷ before nodes n) skip ≡ Some (record { place = place; side = High }) → parent_to (x ∷ before nodes n) (suc skip) ≡ parent_to (before nodes place) 1
 high_over nodes n skip place (Empty w) h more e = more (suc skip) e
 high_over nodes n skip place (Bound w) h more e = more (suc skip) e
 high_over nodes n zero place (Branch s) h more e = let never : false ≡ true = ap is_high e in cc
@@ -71,25 +71,25 @@ high_over nodes n (suc zero) place (Branch s) h more e =
     ap (λ m. parent_to (before nodes m) 1) same
 high_over nodes n (suc (suc skip)) place (Branch s) h more e = more (suc skip) e
 
-high_past : (nodes : List TreeNode) (n skip place : ℕ) → n ≤ length nodes → parent_to (before nodes n) skip ≡ Some (record { place = place; half = High }) → parent_to (before nodes n) (suc skip) ≡ parent_to (before nodes place) 1
+high_past : (nodes : List TreeNode) (n skip place : ℕ) → n ≤ length nodes → parent_to (before nodes n) skip ≡ Some (record { place = place; side = High }) → parent_to (before nodes n) (suc skip) ≡ parent_to (before nodes place) 1
 high_past nodes zero skip place h e = cc
 high_past nodes (suc n) skip place h e =
     let x = element_at nodes n (omega arith) in
     let all : before nodes (suc n) ≡ x.0 ∷ before nodes n = back nodes n x.0 (omega arith) x.1 in
-    let here : parent_to (x.0 ∷ before nodes n) skip ≡ Some (record { place = place; half = High }) = ap (λ xs. parent_to xs skip) (sym all) ∙ e in
+    let here : parent_to (x.0 ∷ before nodes n) skip ≡ Some (record { place = place; side = High }) = ap (λ xs. parent_to xs skip) (sym all) ∙ e in
     ap (λ xs. parent_to xs (suc skip)) all ∙ high_over nodes n skip place x.0 (omega arith) (λ k. high_past nodes n k place (omega arith)) here
 
-with_half : (p : Parent) (h : Half) → p.half ≡ h → p ≡ record { place = p.place; half = h }
-with_half p h e = ap (λ x. record { place = p.place; half = x }) e
+with_side : (p : Parent) (s : Side) → p.side ≡ s → p ≡ record { place = p.place; side = s }
+with_side p s e = ap (λ x. record { place = p.place; side = x }) e
 
 pub root_past : (nodes : List TreeNode) (n : ℕ) (o : Option Parent) → None ≡ parent_of nodes n → parent_to (before nodes n) 1 ≡ o → None ≡ o
 root_past nodes n o e inv = sym (none_past (before nodes n) 0 (sym e)) ∙ inv
 
-pub past_low : (nodes : List TreeNode) (n : ℕ) (p : Parent) (o : Option Parent) → Some p ≡ parent_of nodes n → p.half ≡ Low → parent_to (before nodes n) 1 ≡ o → Some (record { place = p.place; half = High }) ≡ o
-past_low nodes n p o e low inv = sym (low_past (before nodes n) 0 p.place (sym e ∙ ap Some (with_half p Low low))) ∙ inv
+pub past_low : (nodes : List TreeNode) (n : ℕ) (p : Parent) (o : Option Parent) → Some p ≡ parent_of nodes n → p.side ≡ Low → parent_to (before nodes n) 1 ≡ o → Some (record { place = p.place; side = High }) ≡ o
+past_low nodes n p o e low inv = sym (low_past (before nodes n) 0 p.place (sym e ∙ ap Some (with_side p Low low))) ∙ inv
 
-pub past_high : (nodes : List TreeNode) (n : ℕ) (p : Parent) (o : Option Parent) → n ≤ length nodes → Some p ≡ parent_of nodes n → p.half ≡ High → parent_to (before nodes n) 1 ≡ o → parent_to (before nodes p.place) 1 ≡ o
-past_high nodes n p o h e high inv = sym (high_past nodes n 0 p.place h (sym e ∙ ap Some (with_half p High high))) ∙ inv
+pub past_high : (nodes : List TreeNode) (n : ℕ) (p : Parent) (o : Option Parent) → n ≤ length nodes → Some p ≡ parent_of nodes n → p.side ≡ High → parent_to (before nodes n) 1 ≡ o → parent_to (before nodes p.place) 1 ≡ o
+past_high nodes n p o h e high inv = sym (high_past nodes n 0 p.place h (sym e ∙ ap Some (with_side p High high))) ∙ inv
 
 -- ---- the way
 
@@ -101,7 +101,7 @@ any_default (y ∷ ys) (suc n) a b h = any_default ys n a b (omega arith)
 -- what the branch above a place says of the way there
 abbrev IsAbove : (nodes : List TreeNode) → ℕ → ℕ → Option Parent → Type 0
 IsAbove nodes n skip None = way_to (before nodes n) skip ≡ []
-IsAbove nodes n skip (Some p) = (p.place < n) × (s : Split) × ((x : TreeNode) → get_or nodes p.place x ≡ Branch s) × (way_to (before nodes n) skip ≡ side_of (side_at s p.half) ∷ way nodes p.place)
+IsAbove nodes n skip (Some p) = (p.place < n) × (s : Split) × ((x : TreeNode) → get_or nodes p.place x ≡ Branch s) × (way_to (before nodes n) skip ≡ side_of s p.side ∷ way nodes p.place)
 
 longer : (nodes : List TreeNode) (n skip more : ℕ) (o : Option Parent) → way_to (before nodes (suc n)) skip ≡ way_to (before nodes n) more → IsAbove nodes n more o → IsAbove nodes (suc n) skip o
 longer nodes n skip more None e is = e ∙ is
@@ -114,11 +114,11 @@ above_over nodes n skip (Empty w) o h is all more e = longer nodes n skip (suc s
 above_over nodes n skip (Bound w) o h is all more e = longer nodes n skip (suc skip) o (ap (λ xs. way_to xs skip) all) (more (suc skip) e)
 above_over nodes n zero (Branch s) o h is all more e =
     let there : length (before nodes n) ≡ n = before_length nodes n (omega arith) in
-    let same : Some (record { place = n; half = Low }) ≡ o = ap (λ m. Some (record { place = m; half = Low })) (sym there) ∙ e in
+    let same : Some (record { place = n; side = Low }) ≡ o = ap (λ m. Some (record { place = m; side = Low })) (sym there) ∙ e in
     subst (IsAbove nodes (suc n) zero) same (omega arith, s, λ y. any_default nodes n y (Branch s) h ∙ sym is, ap (λ xs. way_to xs zero) all)
 above_over nodes n (suc zero) (Branch s) o h is all more e =
     let there : length (before nodes n) ≡ n = before_length nodes n (omega arith) in
-    let same : Some (record { place = n; half = High }) ≡ o = ap (λ m. Some (record { place = m; half = High })) (sym there) ∙ e in
+    let same : Some (record { place = n; side = High }) ≡ o = ap (λ m. Some (record { place = m; side = High })) (sym there) ∙ e in
     subst (IsAbove nodes (suc n) 1) same (omega arith, s, λ y. any_default nodes n y (Branch s) h ∙ sym is, ap (λ xs. way_to xs 1) all)
 above_over nodes n (suc (suc skip)) (Branch s) o h is all more e = longer nodes n (suc (suc skip)) (suc skip) o (ap (λ xs. way_to xs (suc (suc skip))) all) (more (suc skip) e)
 
@@ -140,7 +140,7 @@ pub turn_is : (nodes : List TreeNode) (n : ℕ) (p : Parent) (x : TreeNode) (t :
 turn_is nodes n p x t h e is turn =
     let all = is_above nodes n 0 (Some p) h (sym e) in
     let branch : Branch all.1 ≡ x = sym (all.2 x) ∙ sym is in
-    let made : Some (record { place = p.place; side = side_at all.1 p.half }) ≡ t = ap (λ y. turn_under y p) branch ∙ sym turn in
+    let made : Some (record { place = p.place; split = all.1; side = p.side }) ≡ t = ap (λ y. turn_under y p) branch ∙ sym turn in
     subst (IsLastTurn nodes n) made (all.0, all.3)
 
 -- ---- what the nodes stand for

@@ -3,7 +3,3 @@ pub mod Values
 pub mod Ways
 pub mod Parents
 pub mod Text
-pub mod Fields
-pub mod Reading
-pub mod Gives
-pub mod Heads

@@ -1,11 +1,8 @@
 -- The branch above a place of a tree.
 use Rattle.std.specs.Prelude.{ℕ, zero, suc, ◌<◌, ◌≡◌, List, [], ◌∷◌, length, take, reverse, get_or, Option, Some, None}
-use Rattle.verdicts.specs.Certificate.{TreeNode, Branch, Empty, Bound, Split}
-use Rattle.certificate.specs.declared.split.Side.{Side}
-use Rattle.certificate.specs.declared.split.Side.TheVariants as side
+use Rattle.verdicts.specs.Certificate.{TreeNode, Branch, Empty, Bound}
+use Rattle.certificate.specs.declared.split.Side.TheVariants.{Low, High}
 use Rattle.certificate.specs.declared.split.Turn.{Turn}
-use Rattle.certificate.specs.declared.tree.Half.{Half}
-use Rattle.certificate.specs.declared.tree.Half.TheVariants.{Low, High}
 use Rattle.certificate.specs.declared.tree.Parent.{Parent}
 
 -- the branch above the place that is filled after `skip` more subtrees, from the nodes before, the latest first
@@ -13,8 +10,8 @@ abbrev pub parent_to : List TreeNode → ℕ → Option Parent
 parent_to [] skip = None
 parent_to (Empty w ∷ before) skip = parent_to before (suc skip)
 parent_to (Bound w ∷ before) skip = parent_to before (suc skip)
-parent_to (Branch s ∷ before) zero = Some (record { place = length before; half = Low })
-parent_to (Branch s ∷ before) (suc zero) = Some (record { place = length before; half = High })
+parent_to (Branch s ∷ before) zero = Some (record { place = length before; side = Low })
+parent_to (Branch s ∷ before) (suc zero) = Some (record { place = length before; side = High })
 parent_to (Branch s ∷ before) (suc (suc skip)) = parent_to before (suc skip)
 
 -- the branch above this place of the preorder
@@ -26,12 +23,8 @@ pub record AreParents (nodes : List TreeNode) (parents : List (Option Parent)) :
   pub count : length parents ≡ length nodes
   pub each : (place : ℕ) → place < length nodes → get_or parents place None ≡ parent_of nodes place
 
-abbrev pub side_at : Split → Half → Side
-side_at s Low = side.Low s
-side_at s High = side.High s
-
--- the turn into this half of a branch
+-- the turn to this side of a branch
 abbrev pub turn_under : TreeNode → Parent → Option Turn
-turn_under (Branch s) p = Some (record { place = p.place; side = side_at s p.half })
+turn_under (Branch s) p = Some (record { place = p.place; split = s; side = p.side })
 turn_under (Empty w) p = None
 turn_under (Bound w) p = None

@@ -1,15 +1,16 @@
 -- The way from the root of a tree to a node, and its last turn.
 use Rattle.std.specs.Prelude.{ℕ, ◌<◌, ◌≡◌, List, [], ◌∷◌, take, reverse, Option, Some, None}
-use Rattle.verdicts.specs.Certificate.{TreeNode, Side as SideOf}
+use Rattle.verdicts.specs.Certificate.{TreeNode, Split, Side as SideOf}
 use Rattle.verdicts.specs.Certificate as of
 use Rattle.verdicts.specs.Preorder.{way_to}
 use Rattle.certificate.specs.declared.split.Side.{Side}
 use Rattle.certificate.specs.declared.split.Side.TheVariants.{Low, High}
 use Rattle.certificate.specs.declared.split.Turn.{Turn}
 
-abbrev pub side_of : Side → SideOf
-side_of (Low s) = of.Low s
-side_of (High s) = of.High s
+-- a side of a column's split
+abbrev pub side_of : Split → Side → SideOf
+side_of s Low = of.Low s
+side_of s High = of.High s
 
 -- the splits on the way to the node at this place of the preorder, the latest first
 abbrev pub way : List TreeNode → ℕ → List SideOf
@@ -18,4 +19,4 @@ way nodes place = way_to (reverse (take place nodes)) 0
 -- the last turn on the way to a place, and the place of the branch where it is taken; none at the root
 abbrev pub IsLastTurn : List TreeNode → ℕ → Option Turn → Type 0
 IsLastTurn nodes place None = way nodes place ≡ []
-IsLastTurn nodes place (Some t) = (t.place < place) × (way nodes place ≡ side_of t.side ∷ way nodes t.place)
+IsLastTurn nodes place (Some t) = (t.place < place) × (way nodes place ≡ side_of t.split t.side ∷ way nodes t.place)

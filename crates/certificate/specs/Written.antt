@@ -14,24 +14,24 @@ count_max = 2 ^ 32 - 1
 abbrev pub is_negative : Rational → Bool
 is_negative v = int_lt v.numerator (pos 0)
 
--- where an item stands among those of its kind: by index, and of one index the positive weight first
-abbrev pub place_of : Item → ℕ
-place_of i = 2 * i.index + (if is_negative i.weight then 1 else 0)
+-- the order of the items of a kind: by index, and of one index the positive weight first
+abbrev pub rank_of : Item → ℕ
+rank_of i = 2 * i.index + (if is_negative i.weight then 1 else 0)
 
--- the least place that is free after the items
-abbrev pub next_place : ℕ → List Item → ℕ
-next_place least [] = least
-next_place least (i ∷ is) = next_place (place_of i + 1) is
+-- the least rank that may come after the items
+abbrev pub next_rank : ℕ → List Item → ℕ
+next_rank least [] = least
+next_rank least (i ∷ is) = next_rank (rank_of i + 1) is
 
 pub record IsItem (i : Item) : Type 0 where
   pub index : i.index < count_max
   pub some : i.weight.numerator ≢ pos 0
   pub number : IsTrue (fits i.weight)
 
--- items in ascending order of place, from `least` on
+-- items in ascending order of rank, from `least` on
 abbrev pub AreItemsFrom : ℕ → List Item → Type 0
 AreItemsFrom least [] = Unit {0}
-AreItemsFrom least (i ∷ is) = (least ≤ place_of i) × IsItem i × AreItemsFrom (place_of i + 1) is
+AreItemsFrom least (i ∷ is) = (least ≤ rank_of i) × IsItem i × AreItemsFrom (rank_of i + 1) is
 
 pub record AreWeights (w : Weights) : Type 0 where
   pub rows : AreItemsFrom 0 w.rows

@@ -52,18 +52,19 @@ impl Split {
     }
 }
 
-/// A side of a split.
-#[derive(Clone, Copy)]
+/// A side of a split, of a column's or of a form's.
+#[derive(Clone, Copy, Debug, PartialEq, Eq)]
 pub enum Side {
-    /// At most `at`.
-    Low(Split),
-    /// At least `at + 1`.
-    High(Split),
+    /// At most the number where the cases part.
+    Low,
+    /// At least the next whole number.
+    High,
 }
 
-/// A side that is taken at a branch, and the branch's place in the preorder, from 0.
+/// The side of its split that is taken at a branch, and the branch's place in the preorder, from 0.
 #[derive(Clone, Copy)]
 pub struct Turn {
     pub place: usize,
+    pub split: Split,
     pub side: Side,
 }

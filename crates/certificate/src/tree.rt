@@ -4,7 +4,7 @@ ghost use Rattle.std.specs.List.{AllByRecursion};
 ghost use Rattle.certificate.specs.Written.{IsNode};
 ghost use Rattle.certificate.specs.Values.{node_of};
 ghost use Rattle.certificate.specs.Ways.{IsLastTurn};
-ghost use Rattle.certificate.specs.Parents.{parent_to, parent_of, side_at, turn_under};
+ghost use Rattle.certificate.specs.Parents.{parent_to, parent_of, turn_under};
 
 use crate::{Side, Split, Turn, Weights};
 use std::alloc::{AllocFailed, Global};
@@ -38,18 +38,11 @@ fn node_has_text(node: &TreeNode)
     }
 }
 
-// A half of a split.
-#[derive(Clone, Copy)]
-enum Half {
-    Low,
-    High,
-}
-
-// The branch above a node, by its place in the preorder, and the half in which the node is.
+// The branch above a node, by its place in the preorder, and the side on which the node is.
 #[derive(Clone, Copy)]
 struct Parent {
     place: usize,
-    half: Half,
+    side: Side,
 }
 
 /// The nodes of a tree in preorder. The tree keeps the place of the branch above each node, and above the place after the
@@ -113,13 +106,13 @@ impl Tree {
         match node {
             TreeNode::Branch(_) => Some(Parent {
                 place,
-                half: Half::Low,
+                side: Side::Low,
             }),
             _ => self.above_past(place),
         }
     }
 
-    // The branch above the place after the subtree that begins at a place: the first on the way up in whose low half the
+    // The branch above the place after the subtree that begins at a place: the first on the way up on whose low side the
     // place is.
     fn above_past(&self, place: usize) -> Option<Parent>
         requires { place ≤ length self.now }
@@ -127,14 +120,14 @@ impl Tree {
     {
         let mut at = place;
         while let Some(parent) = self.above(at) {
-            match parent.half {
-                Half::Low => {
+            match parent.side {
+                Side::Low => {
                     return Some(Parent {
                         place: parent.place,
-                        half: Half::High,
+                        side: Side::High,
                     });
                 }
-                Half::High => at = parent.place,
+                Side::High => at = parent.place,
             }
         }
         None
@@ -172,25 +165,16 @@ impl Tree {
     }
 }
 
-// The turn in a half of a branch.
+// The turn to a side of a branch.
 fn turn_under(node: &TreeNode, parent: Parent) -> Option<Turn>
     ensures { result ≡ turn_under (node_of node.now) parent }
 {
     match node {
         TreeNode::Branch(split) => Some(Turn {
             place: parent.place,
-            side: side(*split, parent.half),
+            split: *split,
+            side: parent.side,
         }),
         _ => None,
-    }
-}
-
-// The side of a split.
-fn side(split: Split, half: Half) -> Side
-    ensures { result ≡ side_at split half }
-{
-    match half {
-        Half::Low => Side::Low(split),
-        Half::High => Side::High(split),
     }
 }

@@ -1,7 +1,7 @@
 // Weights: the multipliers of rows, columns and derived rows.
 ghost use Rattle.std.specs.Prelude.{◌≡◌, ◌≢◌, ◌+◌, ◌<◌, ◌≤◌, [], ◌∷◌, ◌++◌, pos, OnOk, OnErr, IfErr};
 ghost use Rattle.verdicts.specs.Certificate.{Item as ItemOf, Weights as WeightsOf};
-ghost use Rattle.certificate.specs.Written.{count_max, place_of, next_place, AreItemsFrom, AreWeights};
+ghost use Rattle.certificate.specs.Written.{count_max, rank_of, next_rank, AreItemsFrom, AreWeights};
 
 use crate::whole::parts_fit;
 use fraction::Frac;
@@ -58,9 +58,9 @@ impl Items {
     pub fn push(&mut self, item: Item) -> Result<(), AllocError>
         requires index { item.index < count_max }
         requires some { item.weight.numerator ≢ pos 0 }
-        requires order { next_place 0 self.old ≤ place_of item }
+        requires order { next_rank 0 self.old ≤ rank_of item }
         ensures ok { OnOk result (self.new ≡ self.old ++ item ∷ []) }
-        ensures next { OnOk result (next_place 0 self.new ≡ place_of item + 1) }
+        ensures next { OnOk result (next_rank 0 self.new ≡ rank_of item + 1) }
         ensures kept { OnErr result (self.new ≡ self.old) }
     {
         parts_fit(item.weight);

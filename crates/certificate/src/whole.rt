@@ -60,8 +60,8 @@ impl WholeNumber {
     }
 }
 
-// Both parts of a fraction are within plus or minus 2^127 - 1.
-pub(crate) fn parts_fit(value: Frac)
+/// Both parts of a fraction are within plus or minus 2^127 - 1.
+pub fn parts_fit(value: Frac)
     ensures { IsTrue (fits value) }
 {
     let (_numerator, _denominator) = value.parts();

@@ -1,9 +1,10 @@
 // The time that a check takes, and the speed of reading.
 ghost use Rattle.std.specs.Prelude.{◌≤◌};
 
-use crate::samples::{Shape, certificate_text, problem};
+use crate::samples::{Shape, problem, tree_text};
 use cert_check::{Checked, check};
-use certificate::{Certificate, read};
+use certificate::Certificate;
+use certificate_reader::read;
 use instance::Instance;
 use std::alloc::Global;
 use std::io;
@@ -35,7 +36,7 @@ fn name(shape: Shape) -> &'static str {
 fn tree_certificate(alloc: Global, shape: Shape, leaves: u32) -> Option<Certificate>
     requires { leaves ≤ 1000000 }
 {
-    let text = certificate_text(alloc, shape, leaves).ok()?;
+    let text = tree_text(alloc, shape, leaves).ok()?;
     read(alloc, text.as_bytes()).ok()
 }
 
@@ -80,7 +81,7 @@ fn check_time<R: Clock + Print>(
 fn reading_line<R: Clock + Print>(rt: &R, alloc: Global, leaves: u32) -> io::Result<()>
     requires { leaves ≤ 1000000 }
 {
-    let text = certificate_text(alloc, Shape::Balanced, leaves)?;
+    let text = tree_text(alloc, Shape::Balanced, leaves)?;
     let bytes = text.as_bytes().len();
     let mut least = u128::MAX;
     for _ in 0..TIMES {

@@ -100,7 +100,7 @@ fn add_tree(
 }
 
 /// The text of a certificate that the problem has no feasible points, with so many leaves.
-pub fn certificate_text(alloc: Global, shape: Shape, leaves: u32) -> Result<String, AllocError>
+pub fn tree_text(alloc: Global, shape: Shape, leaves: u32) -> Result<String, AllocError>
     requires { leaves ≤ 1000000 }
 {
     let mut text = String::from_str(

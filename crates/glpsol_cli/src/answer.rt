@@ -2,7 +2,8 @@
 ghost use Rattle.std.specs.Prelude.{◌≡◌};
 
 use cert_check::Part;
-use certificate::{CertFault, Certificate};
+use certificate::Certificate;
+use certificate_reader::CertFault;
 use fraction::NoFit;
 use instance::Name;
 use model_text::FileFault;

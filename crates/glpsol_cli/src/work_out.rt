@@ -12,7 +12,8 @@ use crate::inputs::{Inputs, Work, read_inputs};
 use crate::{Answer, OverflowSite};
 use branch_solve::{SolveFault, solve};
 use cert_check::{CheckFault, Checked, check};
-use certificate::{CertError, Certificate};
+use certificate::Certificate;
+use certificate_reader::CertError;
 use command_line::{Language, Outputs};
 use cplex_lp_reader::read_lp;
 use instance::{Direction, Instance, Name};
@@ -149,7 +150,7 @@ fn check_text(alloc: Global, problem: &Instance, text: &[u8]) -> Result<Found, A
     ensures found { IfOk result (λ f. (f ≡ Found.Accepted) × IsAccepted problem.now text.now) }
     ensures fault { IfErr result (IsCheckFault problem.now text.now) }
 {
-    let certificate = match certificate::read(alloc, text) {
+    let certificate = match certificate_reader::read(alloc, text) {
         Ok(certificate) => certificate,
         Err(CertError::Fault(fault)) => return Err(Answer::BadCertificate(fault)),
         Err(CertError::NoMemory) => return Err(Answer::NoMemory { found: None }),

@@ -7,4 +7,4 @@ mod node;
 
 pub use bases::{Bases, Basis, Exchange};
 pub use fault::{Site, Stuck, Unfit};
-pub use node::{Node, Side, SplitTaken, SplitsTaken};
+pub use node::{Node, SplitTaken, SplitsTaken};

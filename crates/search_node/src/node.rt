@@ -1,20 +1,10 @@
 // Nodes of a tree of splits.
 ghost use Rattle.std.specs.Prelude.{◌≡◌, [], ◌∷◌, ◌++◌, OnOk, OnErr, None};
-ghost use Rattle.search_node.specs.Sides.{side_of};
 
 use crate::Basis;
-use certificate::Split;
+use certificate::{Side, Split};
 use std::alloc::{AllocError, Global};
 use std::marker::Model;
-
-/// The side of a split on which a node lies.
-#[derive(Clone, Copy, Debug, PartialEq, Eq)]
-pub enum Side {
-    /// The column is at most where the split parts.
-    Low,
-    /// The column is at least the next whole number.
-    High,
-}
 
 /// A split on the way to a node: its side, and the basis of the node above, from which it was read.
 #[derive(Drop)]

@@ -11,9 +11,10 @@ use Rattle.rational.proofs.Laws.{whole-add}
 use Rattle.milp.specs.Problem.{Problem}
 use Rattle.verdicts.specs.Certificate.{Split, Side as SideOf, Low as LowOf, High as HighOf}
 use Rattle.verdicts.specs.Proves.{lower_under, upper_under, greater}
-use Rattle.search_node.specs.Sides.{side_of, sides_of}
-use Rattle.search_node.specs.declared.node.Side.{Side}
-use Rattle.search_node.specs.declared.node.Side.TheVariants.{Low, High}
+use Rattle.certificate.specs.Ways.{side_of}
+use Rattle.search_node.specs.Sides.{sides_of}
+use Rattle.certificate.specs.declared.split.Side.{Side}
+use Rattle.certificate.specs.declared.split.Side.TheVariants.{Low, High}
 use Rattle.search_node.specs.declared.node.SplitTaken.{SplitTaken}
 use Rattle.basis.specs.System.{Bounds}
 use Rattle.basis.specs.Node.{column_bounds, column_of}

@@ -6,7 +6,8 @@ ghost use Rattle.milp.specs.Points.{sign_of};
 ghost use Rattle.verdicts.specs.Certificate.{Derived as DerivedOf};
 ghost use Rattle.verdicts.specs.WeightedSums.{scaled};
 ghost use Rattle.verdicts.specs.Proves.{greater};
-ghost use Rattle.search_node.specs.Sides.{side_of, sides_of};
+ghost use Rattle.certificate.specs.Ways.{side_of};
+ghost use Rattle.search_node.specs.Sides.{sides_of};
 ghost use Rattle.basis.specs.Node.{system_of, row_bounds, derived_bounds, column_bounds as column_bounds_under, IsOverColumns};
 ghost use Rattle.simplex.specs.Bounds.{column_bounds};
 ghost use Rattle.simplex.specs.Narrowed.{narrowed_by, bounds_at, IsNextFault, IsSplitFault, AreSplitFaults, AreOnColumns};
@@ -14,10 +15,10 @@ ghost use Rattle.simplex.specs.Rays.{IsFault};
 
 use crate::fault::Fault;
 use crate::system::{Bounds, System};
-use certificate::{Derived, DerivedRows, Split};
+use certificate::{Derived, DerivedRows, Side, Split};
 use fraction::{Frac, NoFit};
 use instance::{Column, Direction, Entries, Entry, Instance, Row, greater, lesser, signed};
-use search_node::{Node, Side, SplitTaken};
+use search_node::{Node, SplitTaken};
 use std::alloc::{AllocError, Global};
 
 /// The columns, rows and derived rows of a node, with the bounds of the columns under its splits, and the objective,

@@ -1,7 +1,7 @@
 // The weights that a basis gives.
 ghost use Rattle.std.specs.Prelude.{ℕ, length, cond, ◌≡◌, ◌≤◌, ◌<◌, ◌+◌, ◌*◌, ◌++◌, OnOk, IfOk};
 ghost use Rattle.rational.specs.Rational.{zero_ℚ};
-ghost use Rattle.certificate.specs.Written.{count_max, next_place};
+ghost use Rattle.certificate.specs.Written.{count_max, next_rank};
 ghost use Rattle.basis.specs.Dictionary.{IsBasic, gain_of};
 ghost use Rattle.basis.specs.Weights.{items_at, items_of, weights_of, nonzero, row_weight};
 ghost use Rattle.simplex.specs.Table.{dictionary_of};
@@ -73,9 +73,9 @@ fn items(
 // One more weight, where it is not 0.
 fn add(items: &mut Items, index: u32, weight: Frac) -> Result<(), AllocError>
     requires index { index < count_max }
-    requires order { next_place 0 items.old ≤ 2 * index }
+    requires order { next_rank 0 items.old ≤ 2 * index }
     ensures added { OnOk result (items.new ≡ items.old ++ items_at index (nonzero weight)) }
-    ensures order { OnOk result (next_place 0 items.new ≤ 2 * index + 2) }
+    ensures order { OnOk result (next_rank 0 items.new ≤ 2 * index + 2) }
 {
     if weight.parts().0 == 0 {
         return Ok(());

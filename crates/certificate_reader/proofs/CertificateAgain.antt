@@ -1,0 +1,245 @@
+-- The text of a certificate is read as the certificate again.
+use Rattle.std.proofs.Common.{◌≡◌, ◌∙◌, ℕ, ℤ, zero, suc, ◌+◌, ◌≤◌, ◌<◌, List, [], ◌∷◌, ◌++◌, length, Bool, true, false, nat_lt, not, ◌&&◌, Option, Some, None, Result, Ok, Err, IsTrue, refl, sym, ap, subst, arith, append_assoc}
+use Rattle.std.specs.Prelude.{codes}
+use Rattle.std.specs.Fmt.{decimal}
+use Rattle.std.specs.List.{AllByRecursion, list_all, slice_split}
+use Rattle.std.proofs.lemmas.Bool.{ne_eqb, ltb-true}
+use Rattle.std.proofs.lemmas.List.{append-nil}
+use Rattle.rational.specs.Rational.{Rational, whole}
+use Rattle.fraction.specs.Text.{text_of}
+use Rattle.fraction.specs.Fits.{fits, num_fits}
+use Rattle.milp.specs.Form.{Entry}
+use Rattle.verdicts.specs.Certificate.{Verdict, Optimal, Infeasible, Unbounded, Weights, FormSplit, Proof, Plain, BySplit, Derived, TreeNode, Branch, Empty, Bound, Certificate}
+use Rattle.certificate_reader.specs.declared.fault.FaultKind.{FaultKind}
+use Rattle.certificate_reader.specs.declared.fault.CertFault.{CertFault}
+use Rattle.certificate.specs.Written.{count_max, open_after, fills, AreWeights, IsForm, IsProof, IsDerived, IsNode, IsPoint, HasPoint, HasValue, HasTree, HasParts, HasText}
+use Rattle.certificate.specs.Text.{weights_text, form_text, numbers_text, form_split_text, proof_text, derived_text, derived_rows_text, node_text, tree_text, head_text, value_text, point_text, shown_text, body_text, certificate_text}
+use Rattle.certificate_reader.specs.Fields.{◌>>=◌, fields_of}
+use Rattle.certificate_reader.specs.Reading.{Rest, Line, is_feed, closed, line_by, version_in, size_in, verdict_in, value_in, point_in, count_in, word_in, derive_in, side_in, ProofLine, PlainLine, SplitLine, proof_in, proof_from, derived_at, derived_rows_at, node_in, nodes_at, Shown, shown_at, optimal_at, infeasible_at, unbounded_at, body_at, over, certificate_at, read_of}
+use Rattle.certificate_reader.proofs.Pieces.{line_some, pieces_some}
+use Rattle.certificate_reader.proofs.FieldsFound.{Texts, blanked}
+use Rattle.certificate_reader.proofs.LinesFound.{name_of}
+use Rattle.certificate_reader.proofs.CertificateFound.{plain_glue, split_glue, derived_glue, shown_glue, optimal_glue, unbounded_glue, whole_glue, parts_text, body-parts}
+use Rattle.certificate_reader.proofs.FieldsAgain.{is_solid, is_inked, both, first_of, second_of, is_inked-append, split_word, are_solid, are_solid-append, fields_again, line_inked, inked-from_solid, decimal_solid, text_solid, whole_solid, number_again, count_again, index_again, whole_again, numbers_fields, numbers_blanked, numbers_solid, numbers_again, form_fields, form_blanked, form_solid, form_again, weights_fields, weights_again, weights_solid, weights_blanked}
+
+-- what is left where a text stands, from a line on
+abbrev pub left : ℕ → List ℕ → Rest
+left n text = record { line = n; pieces = slice_split is_feed text }
+
+no_feed : (line : List ℕ) → is_inked line ≡ true → list_all (λ c. not (is_feed c)) line ≡ true
+no_feed [] h = refl
+no_feed (c ∷ cs) h =
+    let above : 31 < c = ltb-true _ _ (first_of _ _ h) in
+    let other : is_feed c ≡ false = ne_eqb c 10 (λ e. absurd (omega arith)) in
+    both _ _ (ap not other) (no_feed cs (second_of _ _ h))
+
+line_pieces : (line rest : List ℕ) → is_inked line ≡ true → slice_split is_feed (line ++ (10 ∷ rest)) ≡ line ∷ slice_split is_feed rest
+line_pieces line rest h = split_word is_feed line rest 10 refl (no_feed line h)
+
+-- a line is read as f reads its fields
+pub line_again : {A : Type 0} (f : List (List ℕ) → Result A FaultKind) (line : List ℕ) (x : A) → f (fields_of line) ≡ Ok x → is_inked line ≡ true → (n : ℕ) (rest : List ℕ) → line_by f (left n (line ++ (10 ∷ rest))) ≡ Ok (x, left (n + 1) rest)
+line_again f line x read inked n rest =
+    rw (line_pieces line rest inked) (rw (line_some n line (slice_split is_feed rest) (pieces_some rest)) (rw read refl))
+
+-- the same, where the fields are a word and solid fields
+pub fields_line : {A : Type 0} (f : List (List ℕ) → Result A FaultKind) (word : List ℕ) (fs : List (List ℕ)) (x : A) → f (word ∷ fs) ≡ Ok x → is_solid word ≡ true → are_solid fs ≡ true → (text : List ℕ) → word ++ blanked fs ≡ text → (n : ℕ) (rest : List ℕ) → line_by f (left n (text ++ (10 ∷ rest))) ≡ Ok (x, left (n + 1) rest)
+fields_line f word fs x read solid all text is n rest =
+    let line = line_again f (word ++ blanked fs) x (ap f (fields_again word fs solid all) ∙ read) (line_inked word fs solid all) n rest in
+    ap (λ (t : List ℕ). line_by f (left n (t ++ (10 ∷ rest)))) (sym is) ∙ line
+
+bind_assoc : {A B C E : Type 0} (r : Result A E) (f : A → Result B E) (g : B → Result C E) → (r >>= λ x. f x >>= g) ≡ ((r >>= f) >>= g)
+bind_assoc (Ok x) f g = refl
+bind_assoc (Err e) f g = refl
+
+-- ---- lines of a word and numbers
+
+version_again : (n : ℕ) (rest : List ℕ) → line_by version_in (left n (codes "cert 1" ++ (10 ∷ rest))) ≡ Ok (tt, left (n + 1) rest)
+version_again n rest = line_again version_in (codes "cert 1") tt refl refl n rest
+
+word_again : (word : List ℕ) → word_in word (fields_of word) ≡ Ok tt → is_inked word ≡ true → (n : ℕ) (rest : List ℕ) → line_by (word_in word) (left n (word ++ (10 ∷ rest))) ≡ Ok (tt, left (n + 1) rest)
+word_again word read inked n rest = line_again (word_in word) word tt read inked n rest
+
+size_again : Texts → (a b : ℕ) → a ≤ count_max → b ≤ count_max → (n : ℕ) (rest : List ℕ) → line_by size_in (left n ((codes "size " ++ (decimal a ++ (codes " " ++ decimal b))) ++ (10 ∷ rest))) ≡ Ok ((a, b), left (n + 1) rest)
+size_again law a b h k n rest =
+    fields_line size_in (codes "size") (decimal a ∷ decimal b ∷ []) (a, b) (rw (count_again law a h, count_again law b k) refl) refl (both _ _ (decimal_solid a h) (both _ _ (decimal_solid b k) refl))
+    (codes "size " ++ (decimal a ++ (codes " " ++ decimal b))) (ap (λ (r : List ℕ). codes "size " ++ (decimal a ++ (codes " " ++ r))) (append-nil (decimal b))) n rest
+
+verdict_again : (v : Verdict) (n : ℕ) (rest : List ℕ) → line_by verdict_in (left n ((codes "verdict " ++ name_of v) ++ (10 ∷ rest))) ≡ Ok (v, left (n + 1) rest)
+verdict_again Optimal n rest = line_again verdict_in (codes "verdict optimal") Optimal refl refl n rest
+verdict_again Infeasible n rest = line_again verdict_in (codes "verdict infeasible") Infeasible refl refl n rest
+verdict_again Unbounded n rest = line_again verdict_in (codes "verdict unbounded") Unbounded refl refl n rest
+
+value_again : Texts → (v : Rational) → fits v ≡ true → (n : ℕ) (rest : List ℕ) → line_by value_in (left n ((codes "value " ++ text_of v) ++ (10 ∷ rest))) ≡ Ok (v, left (n + 1) rest)
+value_again law v h n rest =
+    fields_line value_in (codes "value") (text_of v ∷ []) v (rw (number_again law v h) refl) refl (both _ _ (text_solid v h) refl)
+    (codes "value " ++ text_of v) (ap (λ (r : List ℕ). codes "value " ++ r) (append-nil (text_of v))) n rest
+
+count_line_again : Texts → (k : ℕ) → k ≤ count_max → (n : ℕ) (rest : List ℕ) → line_by count_in (left n ((codes "derived " ++ decimal k) ++ (10 ∷ rest))) ≡ Ok (k, left (n + 1) rest)
+count_line_again law k h n rest =
+    fields_line count_in (codes "derived") (decimal k ∷ []) k (rw (count_again law k h) refl) refl (both _ _ (decimal_solid k h) refl)
+    (codes "derived " ++ decimal k) (ap (λ (r : List ℕ). codes "derived " ++ r) (append-nil (decimal k))) n rest
+
+point_again : Texts → (count : ℕ) (x : List Rational) → IsPoint count x → (n : ℕ) (rest : List ℕ) → line_by (point_in (codes "point") count) (left n ((codes "point" ++ numbers_text x) ++ (10 ∷ rest))) ≡ Ok (x, left (n + 1) rest)
+point_again law count x h n rest =
+    fields_line (point_in (codes "point") count) (codes "point") (numbers_fields x) x (subst (λ (k : ℕ). point_in (codes "point") k (codes "point" ∷ numbers_fields x) ≡ Ok x) h.size (numbers_again law x h.numbers)) refl (numbers_solid x h.numbers)
+    (codes "point" ++ numbers_text x) (ap (λ (r : List ℕ). codes "point" ++ r) (numbers_blanked x)) n rest
+
+ray_again : Texts → (count : ℕ) (x : List Rational) → IsPoint count x → (n : ℕ) (rest : List ℕ) → line_by (point_in (codes "ray") count) (left n ((codes "ray" ++ numbers_text x) ++ (10 ∷ rest))) ≡ Ok (x, left (n + 1) rest)
+ray_again law count x h n rest =
+    fields_line (point_in (codes "ray") count) (codes "ray") (numbers_fields x) x (subst (λ (k : ℕ). point_in (codes "ray") k (codes "ray" ∷ numbers_fields x) ≡ Ok x) h.size (numbers_again law x h.numbers)) refl (numbers_solid x h.numbers)
+    (codes "ray" ++ numbers_text x) (ap (λ (r : List ℕ). codes "ray" ++ r) (numbers_blanked x)) n rest
+
+-- ---- derived rows
+
+derive_again : Texts → (d : Derived) → IsDerived d → (n : ℕ) (rest : List ℕ) → line_by derive_in (left n ((codes "derive " ++ (text_of d.bound ++ form_text d.form)) ++ (10 ∷ rest))) ≡ Ok ((d.bound, d.form), left (n + 1) rest)
+derive_again law d h n rest =
+    fields_line derive_in (codes "derive") (text_of d.bound ∷ form_fields d.form) (d.bound, d.form) (rw (number_again law d.bound h.bound, form_again law d.form h.form) refl) refl (both _ _ (text_solid d.bound h.bound) (form_solid d.form h.form))
+    (codes "derive " ++ (text_of d.bound ++ form_text d.form)) (ap (λ (r : List ℕ). codes "derive " ++ (text_of d.bound ++ r)) (form_blanked d.form)) n rest
+
+low_again : Texts → (w : Rational) (ws : Weights) → fits w ≡ true → AreWeights ws → (n : ℕ) (rest : List ℕ) → line_by (side_in (codes "low")) (left n ((codes "low" ++ (32 ∷ (text_of w ++ weights_text ws))) ++ (10 ∷ rest))) ≡ Ok ((w, ws), left (n + 1) rest)
+low_again law w ws h k n rest =
+    fields_line (side_in (codes "low")) (codes "low") (text_of w ∷ weights_fields ws) (w, ws) (rw (number_again law w h, weights_again law ws k) refl) refl (both _ _ (text_solid w h) (weights_solid ws k))
+    (codes "low" ++ (32 ∷ (text_of w ++ weights_text ws))) (ap (λ (r : List ℕ). codes "low" ++ (32 ∷ (text_of w ++ r))) (weights_blanked ws)) n rest
+
+high_again : Texts → (w : Rational) (ws : Weights) → fits w ≡ true → AreWeights ws → (n : ℕ) (rest : List ℕ) → line_by (side_in (codes "high")) (left n ((codes "high" ++ (32 ∷ (text_of w ++ weights_text ws))) ++ (10 ∷ rest))) ≡ Ok ((w, ws), left (n + 1) rest)
+high_again law w ws h k n rest =
+    fields_line (side_in (codes "high")) (codes "high") (text_of w ∷ weights_fields ws) (w, ws) (rw (number_again law w h, weights_again law ws k) refl) refl (both _ _ (text_solid w h) (weights_solid ws k))
+    (codes "high" ++ (32 ∷ (text_of w ++ weights_text ws))) (ap (λ (r : List ℕ). codes "high" ++ (32 ∷ (text_of w ++ r))) (weights_blanked ws)) n rest
+
+plain_again : Texts → (w : Weights) → AreWeights w → (n : ℕ) (rest : List ℕ) → line_by proof_in (left n ((codes "plain" ++ weights_text w) ++ (10 ∷ rest))) ≡ Ok (PlainLine w, left (n + 1) rest)
+plain_again law w h n rest =
+    fields_line proof_in (codes "plain") (weights_fields w) (PlainLine w) (rw (weights_again law w h) refl) refl (weights_solid w h)
+    (codes "plain" ++ weights_text w) (ap (λ (r : List ℕ). codes "plain" ++ r) (weights_blanked w)) n rest
+
+split_again : Texts → (at : ℤ) (form : List Entry) → num_fits at ≡ true → IsForm form → (n : ℕ) (rest : List ℕ) → line_by proof_in (left n ((codes "split " ++ (text_of (whole at) ++ form_text form)) ++ (10 ∷ rest))) ≡ Ok (SplitLine at form, left (n + 1) rest)
+split_again law at form h k n rest =
+    fields_line proof_in (codes "split") (text_of (whole at) ∷ form_fields form) (SplitLine at form) (rw (whole_again law at h, form_again law form k) refl) refl (both _ _ (whole_solid at h) (form_solid form k))
+    (codes "split " ++ (text_of (whole at) ++ form_text form)) (ap (λ (r : List ℕ). codes "split " ++ (text_of (whole at) ++ r)) (form_blanked form)) n rest
+
+abbrev proof_lines : Rest → Result (Proof × Rest) CertFault
+proof_lines start = line_by proof_in start >>= λ line. proof_from line.0 line.1
+
+proof_again : Texts → (p : Proof) → IsProof p → (n : ℕ) (rest : List ℕ) → (m : ℕ) × (proof_lines (left n (proof_text p ++ rest)) ≡ Ok (p, left m rest))
+proof_again law (Plain w) h n rest =
+    (n + 1, ap (λ (t : List ℕ). proof_lines (left n t)) (sym (plain_glue (weights_text w) rest)) ∙ rw (plain_again law w h n rest) refl)
+proof_again law (BySplit s) h n rest =
+    let glue = sym (split_glue (text_of (whole s.at)) (form_text s.form) (text_of s.low) (weights_text s.low_weights) (text_of s.high) (weights_text s.high_weights) rest) in
+    let third : List ℕ = (codes "high" ++ (32 ∷ (text_of s.high ++ weights_text s.high_weights))) ++ (10 ∷ rest) in
+    let second : List ℕ = (codes "low" ++ (32 ∷ (text_of s.low ++ weights_text s.low_weights))) ++ (10 ∷ third) in (
+      n + 1 + 1 + 1,
+      ap (λ (t : List ℕ). proof_lines (left n t)) glue
+          ∙ rw (split_again law s.at s.form h.at h.form n second) (rw (low_again law s.low s.low_weights h.low h.low_weights (n + 1) third) (rw (high_again law s.high s.high_weights h.high h.high_weights (n + 1 + 1) rest) refl)),
+    )
+
+abbrev with_proof : Rational → List Entry → Proof × Rest → Result (Derived × Rest) CertFault
+with_proof bound form proof = Ok (record { bound = bound; form = form; proof = proof.0 }, proof.1)
+
+derived_again : Texts → (d : Derived) → IsDerived d → (n : ℕ) (rest : List ℕ) → (m : ℕ) × (derived_at (left n (derived_text d ++ rest)) ≡ Ok (d, left m rest))
+unfolding derived_at
+derived_again law d h n rest =
+    let glue = sym (derived_glue (text_of d.bound) (form_text d.form) (proof_text d.proof) rest) in
+    let proof = proof_again law d.proof h.proof (n + 1) rest in
+    let second : List ℕ = proof_text d.proof ++ rest in
+    let joined = bind_assoc (line_by proof_in (left (n + 1) second)) (λ line. proof_from line.0 line.1) (with_proof d.bound d.form) in
+    (proof.0, ap (λ (t : List ℕ). derived_at (left n t)) glue ∙ rw (derive_again law d h n second) (joined ∙ rw proof.1 refl))
+
+rows_again : Texts → (ds : List Derived) → AllByRecursion IsDerived ds → (n : ℕ) (rest : List ℕ) → (m : ℕ) × (derived_rows_at (length ds) (left n (derived_rows_text ds ++ rest)) ≡ Ok (ds, left m rest))
+unfolding derived_rows_at
+rows_again law [] h n rest = (n, refl)
+rows_again law (d ∷ ds) h n rest =
+    let first = derived_again law d h.0 n (derived_rows_text ds ++ rest) in
+    let others = rows_again law ds h.1 first.0 rest in
+    (others.0, ap (λ (t : List ℕ). derived_rows_at (length (d ∷ ds)) (left n t)) (append_assoc (derived_text d) (derived_rows_text ds) rest) ∙ rw first.1 (rw others.1 refl))
+
+-- ---- the tree
+
+record NodeAgain (node : TreeNode) : Type 0 where
+  line : List ℕ
+  text : node_text node ≡ line ++ (10 ∷ [])
+  inked : is_inked line ≡ true
+  read : node_in (fields_of line) ≡ Ok node
+
+node_of_fields : (word : List ℕ) (fs : List (List ℕ)) (node : TreeNode) → is_solid word ≡ true → are_solid fs ≡ true → node_in (word ∷ fs) ≡ Ok node → node_text node ≡ (word ++ blanked fs) ++ (10 ∷ []) → NodeAgain node
+node_of_fields word fs node solid all read text = record { line = word ++ blanked fs; text = text; inked = line_inked word fs solid all; read = ap node_in (fields_again word fs solid all) ∙ read }
+
+node_again : Texts → (node : TreeNode) → IsNode node → NodeAgain node
+node_again law (Branch s) h =
+    let a : List ℕ = decimal (s.column + 1) in
+    let b : List ℕ = text_of (whole s.at) in
+    node_of_fields (codes "branch") (a ∷ b ∷ []) (Branch s) refl (both _ _ (decimal_solid (s.column + 1) (omega (arith, h.column))) (both _ _ (whole_solid s.at h.at) refl)) (rw (index_again law s.column h.column, whole_again law s.at h.at) refl)
+    (sym (ap (λ (r : List ℕ). (codes "branch " ++ (a ++ (32 ∷ r))) ++ (10 ∷ [])) (append-nil b) ∙ ap (λ (r : List ℕ). codes "branch " ++ r) (append_assoc a (32 ∷ b) (10 ∷ []))))
+node_again law (Empty w) h =
+    node_of_fields (codes "empty") (weights_fields w) (Empty w) refl (weights_solid w h) (rw (weights_again law w h) refl) (ap (λ (r : List ℕ). (codes "empty" ++ r) ++ (10 ∷ [])) (sym (weights_blanked w)))
+node_again law (Bound w) h =
+    node_of_fields (codes "bound") (weights_fields w) (Bound w) refl (weights_solid w h) (rw (weights_again law w h) refl) (ap (λ (r : List ℕ). (codes "bound" ++ r) ++ (10 ∷ [])) (sym (weights_blanked w)))
+
+nodes_again : Texts → (places : ℕ) (ns : List TreeNode) → fills places ns ≡ true → AllByRecursion IsNode ns → (n : ℕ) (rest : List ℕ) → (m : ℕ) × (nodes_at places n (slice_split is_feed (tree_text ns ++ rest)) ≡ Ok (ns, left m rest))
+unfolding nodes_at
+nodes_again law zero [] whole h n rest = (n, refl)
+nodes_again law zero (node ∷ nodes) whole h n rest = absurd cc
+nodes_again law (suc more) [] whole h n rest = absurd cc
+nodes_again law (suc more) (node ∷ nodes) whole h n rest =
+    let first = node_again law node h.0 in
+    let others = nodes_again law (open_after node more) nodes whole h.1 (n + 1) rest in
+    let after : List ℕ = tree_text nodes ++ rest in
+    let text : (node_text node ++ tree_text nodes) ++ rest ≡ first.line ++ (10 ∷ after) = append_assoc (node_text node) (tree_text nodes) rest ∙ ap (λ (t : List ℕ). t ++ after) first.text ∙ append_assoc first.line (10 ∷ []) after in
+    let pieces : slice_split is_feed ((node_text node ++ tree_text nodes) ++ rest) ≡ first.line ∷ slice_split is_feed after = ap (slice_split is_feed) text ∙ line_pieces first.line after first.inked in
+    (others.0, rw pieces (rw (line_some n first.line (slice_split is_feed after) (pieces_some after)) (rw first.read (rw others.1 refl))))
+
+-- ---- what a verdict has
+
+shown_again : Texts → (derived : List Derived) (tree : List TreeNode) → HasTree derived tree → (n : ℕ) (rest : List ℕ) → (m : ℕ) × (shown_at (left n (shown_text derived tree ++ rest)) ≡ Ok (record { derived = derived; tree = tree }, left m rest))
+unfolding shown_at
+shown_again law derived tree h n rest =
+    let glue = sym (shown_glue (decimal (length derived)) (derived_rows_text derived) (tree_text tree) rest) in
+    let third : List ℕ = tree_text tree ++ rest in
+    let second : List ℕ = codes "tree" ++ (10 ∷ third) in
+    let rows = rows_again law derived h.rows (n + 1) second in
+    let mark = word_again (codes "tree") refl refl rows.0 third in
+    let nodes = nodes_again law 1 tree h.whole h.nodes (rows.0 + 1) rest in
+    (nodes.0, ap (λ (t : List ℕ). shown_at (left n t)) glue ∙ rw (count_line_again law (length derived) h.count n (derived_rows_text derived ++ second)) (rw rows.1 (rw mark (rw nodes.1 refl))))
+
+abbrev with_parts : ℕ → ℕ → Verdict → Option Rational → Option (List Rational) → Option (List Rational) → List Derived → List TreeNode → Certificate
+with_parts rows columns v value point ray derived tree = record { rows = rows; columns = columns; verdict = v; value = value; point = point; ray = ray; derived = derived; tree = tree }
+
+body_again : Texts → (rows columns : ℕ) (v : Verdict) (value : Option Rational) (point ray : Option (List Rational)) (derived : List Derived) (tree : List TreeNode) → HasParts (with_parts rows columns v value point ray derived tree) v → (n : ℕ) (rest : List ℕ)
+    → (m : ℕ) × (body_at rows columns v (left n (parts_text (with_parts rows columns v value point ray derived tree) v ++ rest)) ≡ Ok (with_parts rows columns v value point ray derived tree, left m rest))
+unfolding optimal_at infeasible_at unbounded_at
+body_again law rows columns Optimal None point ray derived tree h n rest = absurd h.0
+body_again law rows columns Optimal (Some v) None ray derived tree h n rest = absurd h.1
+body_again law rows columns Optimal (Some v) (Some x) (Some r) derived tree h n rest = absurd (let no : Some r ≡ None = h.2 in cc)
+body_again law rows columns Optimal (Some v) (Some x) None derived tree h n rest =
+    let glue = sym (optimal_glue (text_of v) (numbers_text x) (shown_text derived tree) rest) in
+    let third : List ℕ = shown_text derived tree ++ rest in
+    let second : List ℕ = (codes "point" ++ numbers_text x) ++ (10 ∷ third) in
+    let shown = shown_again law derived tree h.3 (n + 1 + 1) rest in
+    (shown.0, ap (λ (t : List ℕ). optimal_at rows columns (left n t)) glue ∙ rw (value_again law v h.0 n second) (rw (point_again law columns x h.1 (n + 1) third) (rw shown.1 refl)))
+body_again law rows columns Infeasible (Some v) point ray derived tree h n rest = absurd (let no : Some v ≡ None = h.0 in cc)
+body_again law rows columns Infeasible None (Some x) ray derived tree h n rest = absurd (let no : Some x ≡ None = h.1 in cc)
+body_again law rows columns Infeasible None None (Some r) derived tree h n rest = absurd (let no : Some r ≡ None = h.2 in cc)
+body_again law rows columns Infeasible None None None derived tree h n rest =
+    let shown = shown_again law derived tree h.3 n rest in
+    (shown.0, rw shown.1 refl)
+body_again law rows columns Unbounded (Some v) point ray derived tree h n rest = absurd (let no : Some v ≡ None = h.0 in cc)
+body_again law rows columns Unbounded None None ray derived tree h n rest = absurd h.1
+body_again law rows columns Unbounded None (Some x) None derived tree h n rest = absurd h.2
+body_again law rows columns Unbounded None (Some x) (Some r) (d ∷ ds) tree h n rest = absurd (let no : d ∷ ds ≡ [] = h.3 in cc)
+body_again law rows columns Unbounded None (Some x) (Some r) [] (t ∷ ts) h n rest = absurd (let no : t ∷ ts ≡ [] = h.4 in cc)
+body_again law rows columns Unbounded None (Some x) (Some r) [] [] h n rest =
+    let glue = sym (unbounded_glue (numbers_text x) (numbers_text r) rest) in
+    let second : List ℕ = (codes "ray" ++ numbers_text r) ++ (10 ∷ rest) in
+    (n + 1 + 1, ap (λ (t : List ℕ). unbounded_at rows columns (left n t)) glue ∙ rw (point_again law columns x h.1 n second) (rw (ray_again law columns r h.2 (n + 1) rest) refl))
+
+pub certificate_again : Texts → (c : Certificate) → HasText c → read_of (certificate_text c) ≡ Ok c
+unfolding certificate_at
+certificate_again law c h =
+    let parts : List ℕ = parts_text c c.verdict in
+    let last : List ℕ = codes "end" ++ (10 ∷ []) in
+    let fourth : List ℕ = parts ++ last in
+    let third : List ℕ = (codes "verdict " ++ name_of c.verdict) ++ (10 ∷ fourth) in
+    let second : List ℕ = (codes "size " ++ (decimal c.rows ++ (codes " " ++ decimal c.columns))) ++ (10 ∷ third) in
+    let whole : certificate_text c ≡ codes "cert 1" ++ (10 ∷ second) =
+    ap (λ (t : List ℕ). head_text c.rows c.columns ++ (t ++ codes "end\n")) (body-parts c c.verdict) ∙ sym (whole_glue (decimal c.rows) (decimal c.columns) (name_of c.verdict) parts) in
+    let body = body_again law c.rows c.columns c.verdict c.value c.point c.ray c.derived c.tree h.parts 4 last in
+    ap (λ (t : List ℕ). certificate_at (left 1 t)) whole
+    ∙ rw (version_again 1 second) (rw (size_again law c.rows c.columns h.rows h.columns 2 third) (rw (verdict_again c.verdict 3 fourth) (rw body.1 refl)))

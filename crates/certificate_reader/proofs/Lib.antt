@@ -1,0 +1,11 @@
+pub mod Digits
+pub mod Fronts
+pub mod Loops
+pub mod Taken
+pub mod Pieces
+pub mod LinesTaken
+pub mod FieldsFound
+pub mod LinesFound
+pub mod CertificateFound
+pub mod FieldsAgain
+pub mod CertificateAgain

@@ -1,0 +1,4 @@
+pub mod Fields
+pub mod Reading
+pub mod Gives
+pub mod Heads
