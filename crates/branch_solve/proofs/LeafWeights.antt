@@ -3,6 +3,7 @@ use Rattle.std.proofs.Common.{◌≡◌, ◌∙◌, ℕ, ◌+◌, inl, ◌==◌,
 use Rattle.std.specs.Prelude.{option_and_then}
 use mathlib.Core.Path.{ap₂}
 use Rattle.std.proofs.lemmas.Bool.Decides.{nat_tests}
+use Rattle.std.proofs.lemmas.Option.{same_Some}
 use Rattle.rational.specs.Rational.{Rational, zero_ℚ, one_ℚ, ◌+ℚ◌, ◌*ℚ◌}
 use Rattle.rational.proofs.Laws as Q
 use Rattle.milp.specs.Form.{Entry}
@@ -18,10 +19,10 @@ use Rattle.basis.specs.Numbers.{IsSitePair, sum_onto, IsNodeBase, IsNodeProducts
 use Rattle.cert_check.specs.Sums.{and_also, with_product, lower_answer, row_bound, derived_bound, then_there, are_there, all_there, with_bound, with_bounds, bound_sum, Product, products, derived_form, item_products, weight_products, with_products, are_forms}
 use Rattle.cert_check.specs.Parts.{ascending, shown_answer}
 use Rattle.cert_check.specs.Lookup.{entry_at}
-use Rattle.cert_check.proofs.Laws.{if_ok, ok_then, product_ok, all_there_ok, coefficient_found, coefficient_none, products_found, products_none}
+use Rattle.cert_check.proofs.Laws.{if_ok, ok_then, product_ok, all_there_ok, coefficient_found, coefficient_none, products_found, products_none, lower_ok}
 use Rattle.branch_solve.specs.Leaves.{AreFormsAscending, node_setting}
 use Rattle.branch_solve.proofs.Told.{Told, then_told, next_told, also_told, cond_told, product_told, sum_one_more, one_more, next_pair, Thinned, AreBase, all_told, thinned-append, base-append}
-use Rattle.branch_solve.proofs.NodeNumbers.{one_base, AreCoefficients, row_coefficients, derived_coefficients, row_bound_base, column_bound_base, derived_bound_base, lower_told, lower_ok}
+use Rattle.branch_solve.proofs.NodeNumbers.{one_base, AreCoefficients, row_coefficients, derived_coefficients, row_bound_base, column_bound_base, derived_bound_base, lower_told}
 
 -- ---- the terms of items, one by one
 
@@ -39,9 +40,6 @@ record Begins (f : Item → Option Weighted) (items : List Item) (rest : Option 
   more : rest ≡ Some us
   whole : all ≡ ts ++ us
 
-some_same : {A : Type 0} → (a b : A) → Some a ≡ Some b → a ≡ b
-some_same a b e = cc
-
 begins : (f : Item → Option Weighted) (items : List Item) (rest : Option (List Weighted)) (all : List Weighted) → gathered f items rest ≡ Some all → Begins f items rest all
 begins f [] rest all e = record { ts = []; us = all; terms = tt; more = e; whole = refl }
 begins f (i ∷ is) rest all e = go (f i) refl (gathered f is rest) (λ rs k. begins f is rest rs k) e
@@ -51,12 +49,12 @@ begins f (i ∷ is) rest all e = go (f i) refl (gathered f is rest) (λ rs k. be
     go (Some t) h None k e = cc
     go (Some t) h (Some rs) k e =
         let tail = k rs refl in
-        record { ts = t ∷ tail.ts; us = tail.us; terms = (h, tail.terms); more = tail.more; whole = sym (some_same (t ∷ rs) all e) ∙ ap (λ (xs : List Weighted). t ∷ xs) tail.whole }
+        record { ts = t ∷ tail.ts; us = tail.us; terms = (h, tail.terms); more = tail.more; whole = sym (same_Some (t ∷ rs) all e) ∙ ap (λ (xs : List Weighted). t ∷ xs) tail.whole }
 
 term_is : (w : Rational) (form : List Entry) (o : Option Rational) (t : Weighted) → term w form o ≡ Some t → (o ≡ Some t.bound) × (t ≡ record { weight = w; form = form; bound = t.bound })
 term_is w form None t e = cc
 term_is w form (Some b) t e =
-    let same : record { weight = w; form = form; bound = b } ≡ t = some_same _ _ e in
+    let same : record { weight = w; form = form; bound = b } ≡ t = same_Some _ _ e in
     (ap (λ (u : Weighted). Some u.bound) same, subst (λ (u : Weighted). u ≡ record { weight = w; form = form; bound = u.bound }) same refl)
 
 -- ---- what is summed
@@ -267,7 +265,7 @@ module _ (p : Problem) (ds : List Derived) (sides : List Side) where
       go : (b : Bool) → is_less zero_ℚ i.weight ≡ b → (o : Option Derived) → slice_get ds i.index ≡ o → (if b then option_and_then (λ (d : Derived). term i.weight d.form (Some d.bound)) o else None) ≡ Some t → IsDerivedTerm i t
       go false h o k e = cc
       go true h None k e = cc
-      go true h (Some d) k e = record { derived = d; at = k; positive = h; is = some_same _ _ e }
+      go true h (Some d) k e = record { derived = d; at = k; positive = h; is = same_Some _ _ e }
 
   deriveds_kind : ((i : ℕ) (d : Derived) → slice_get ds i ≡ Some d → ascending 0 d.form ≡ true) → IsKind (derived_term ds) derived_form_at derived_bound_at
   deriveds_kind ascends = record { is = is; found = found; base = base; told = λ i. tt; coefficients = λ i. coefficients i (slice_get ds i) refl; ascends = λ i. ascend i (slice_get ds i) refl }
@@ -319,7 +317,7 @@ module _ (p : Problem) (ds : List Derived) (sides : List Side) where
       let first = begins (row_term p) w.rows (gathered (column_term p sides) w.columns derived) all e in
       let second = begins (column_term p sides) w.columns derived first.us first.more in
       let third = begins (derived_term ds) w.derived nothing second.us second.more in
-      let last : second.us ≡ third.ts = third.whole ∙ ap (λ (us : List Weighted). third.ts ++ us) (sym (some_same [] third.us third.more)) ∙ append-nil third.ts in
+      let last : second.us ≡ third.ts = third.whole ∙ ap (λ (us : List Weighted). third.ts ++ us) (sym (same_Some [] third.us third.more)) ∙ append-nil third.ts in
       record {
         rows = first.ts;
         columns = second.ts;

@@ -19,7 +19,6 @@ use Rattle.basis.specs.Node.{system_of, IsOverColumns}
 use Rattle.basis.specs.Numbers.{base_number, left_base, at_of, IsGivenNumber, IsRunBase, IsProblemNumber, IsNodeBase, node_numbers, AllOf}
 use Rattle.basis.proofs.Laws.{row_form, derived_form, row-lower, row-upper, derived-lower}
 use Rattle.cert_check.specs.Sums.{next_answer, lower_answer}
-use Rattle.cert_check.proofs.Laws.{ok_then, next_ok}
 use Rattle.branch_solve.proofs.Told.{Told, next_told, add_told}
 
 by_used : (P : Rational → Type 0) (w : Rational) (lower upper : Option Rational) (b : Rational) → (lower ≡ Some b → P b) → (upper ≡ Some b → P b) → bound_used w lower upper ≡ Some b → P b
@@ -160,31 +159,7 @@ module _ (p : Problem) (ds : List Derived) (sides : List Side) where
   number_base (v ∷ x) h zero = h.0
   number_base (v ∷ x) h (suc j) = number_base x h.1 j
 
--- the bound that is found is the definition's
-pub lower_ok : (p : Problem) (sides : List Side) (j : ℕ) → IfOk (lower_answer p sides j) (λ o. o ≡ lower_under p sides j)
-lower_ok p [] j = refl
-lower_ok p (Low s ∷ sides) j = lower_ok p sides j
-lower_ok p (High s ∷ sides) j = go (s.column == j) (lower_ok p sides j)
-  where
-    go : (t : Bool) → IfOk (lower_answer p sides j) (λ o. o ≡ lower_under p sides j) → IfOk (if t then and_then (next_answer s.at) (λ b. and_then (lower_answer p sides j) (λ o. Ok (Some (greater o b)))) else lower_answer p sides j) (λ o. o ≡ (if t then Some (greater (lower_under p sides j) (whole (s.at +ℤ pos 1))) else lower_under p sides j))
-    go false h = h
-    go true h =
-        let wanted : Option Rational = Some (greater (lower_under p sides j) (whole (s.at +ℤ pos 1))) in
-        ok_then (next_answer s.at) (λ b. and_then (lower_answer p sides j) (λ o. Ok (Some (greater o b)))) (λ b. b ≡ whole (s.at +ℤ pos 1)) (λ o. o ≡ wanted) (next_ok s.at)
-        (λ b e. ok_then (lower_answer p sides j) (λ o. Ok (Some (greater o b))) (λ o. o ≡ lower_under p sides j) (λ o. o ≡ wanted) h (λ o k. ap₂ (λ (o : Option Rational) (b : Rational). Some (greater o b)) k e))
-
 -- ---- what a well-formed problem is
-
-order_test : (a b : ℕ) → nat_lt a b ≡ true → a < b
-order_test a b h = grind (arith, nat_tests)
-
-below : (n least : ℕ) (form : List Entry) → are_entries_from least n form ≡ true → AllBelow n form
-below n least [] h = tt
-below n least (e ∷ es) h =
-    let low = and_parts (nat_le least e.column) (nat_lt e.column n && (not (is_zero e.coefficient) && are_entries_from (e.column + 1) n es)) h in
-    let column = and_parts (nat_lt e.column n) (not (is_zero e.coefficient) && are_entries_from (e.column + 1) n es) low.1 in
-    let rest = and_parts (not (is_zero e.coefficient)) (are_entries_from (e.column + 1) n es) column.1 in
-    (order_test e.column n column.0, below n (e.column + 1) es rest.1)
 
 pub row_entries : (n : ℕ) (rows : List Row) → list_all (λ (r : Row). are_entries_from 0 n r.entries) rows ≡ true → (i : ℕ) (r : Row) → slice_get rows i ≡ Some r → are_entries_from 0 n r.entries ≡ true
 row_entries n [] h i r at = absurd cc
@@ -195,17 +170,3 @@ row_entries n (s ∷ rows) h zero r at =
 row_entries n (s ∷ rows) h (suc i) r at =
     let parts = and_parts (are_entries_from 0 n s.entries) (list_all (λ (r : Row). are_entries_from 0 n r.entries) rows) h in
     row_entries n rows parts.1 i r at
-
-rows_below : (n : ℕ) (rows : List Row) → list_all (λ (r : Row). are_entries_from 0 n r.entries) rows ≡ true → (i : ℕ) → IfSome (slice_get rows i) (λ r. AllBelow n r.entries)
-rows_below n [] h i = tt
-rows_below n (r ∷ rows) h zero = let parts = and_parts (are_entries_from 0 n r.entries) (list_all (λ (s : Row). are_entries_from 0 n s.entries) rows) h in below n 0 r.entries parts.0
-rows_below n (r ∷ rows) h (suc i) = let parts = and_parts (are_entries_from 0 n r.entries) (list_all (λ (s : Row). are_entries_from 0 n s.entries) rows) h in rows_below n rows parts.1 i
-
--- the root's forms are over columns
-pub over_columns : (p : Problem) → IsWellFormed p.columns p.rows p.objective → IsOverColumns p [] []
-over_columns p h = record {
-  objective = below (length p.columns) 0 p.objective h.objective_form;
-  rows = rows_below (length p.columns) p.rows h.row_forms;
-  derived = λ k. tt;
-  splits = λ k. tt;
-}

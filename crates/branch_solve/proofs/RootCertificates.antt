@@ -21,7 +21,8 @@ use Rattle.search_node.specs.Faults.{IsSiteFault}
 use Rattle.branch_solve.specs.Leaves.{AreFormsAscending}
 use Rattle.branch_solve.specs.Root.{NoneInteger, IsRootOptimum, IsRootCertificate}
 use Rattle.branch_solve.proofs.Told.{Told}
-use Rattle.branch_solve.proofs.NodeNumbers.{row_entries, over_columns}
+use Rattle.branch_solve.proofs.NodeNumbers.{row_entries}
+use Rattle.simplex.proofs.Laws.{over_columns}
 use Rattle.branch_solve.proofs.NodeTests.{optimal_point_told, optimal_value_told, optimal_claim_told, bound_told, empty_told, endless_point_told, endless_ray_told, told_fault}
 
 -- the rows' forms are in order, and there are no derived rows

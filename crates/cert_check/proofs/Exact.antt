@@ -71,7 +71,7 @@ product_ok total a b = ok_then (mul_answer a b) (λ p. add_answer total p) (λ p
 pub next_ok : (at : ℤ) → IfOk (next_answer at) (λ b. b ≡ whole (at +ℤ pos 1))
 next_ok at = if_ok (next_answer at) (whole at +ℚ one_ℚ) (whole (at +ℤ pos 1)) (add_ok (whole at) one_ℚ) (whole-add at (pos 1))
 
-lower_ok : (p : Problem) (sides : List Side) (j : ℕ) → IfOk (lower_answer p sides j) (λ o. o ≡ lower_under p sides j)
+pub lower_ok : (p : Problem) (sides : List Side) (j : ℕ) → IfOk (lower_answer p sides j) (λ o. o ≡ lower_under p sides j)
 lower_ok p [] j = refl
 lower_ok p (Low s ∷ sides) j = lower_ok p sides j
 lower_ok p (High s ∷ sides) j = go (s.column == j) (lower_ok p sides j)

@@ -2,7 +2,7 @@
 
 -- an answer, and then another, where the operations fit
 pub use Rattle.cert_check.proofs.Exact.{if_ok, next_ok, ok_then, product_ok}
--- all terms of weights are there
-pub use Rattle.cert_check.proofs.Exact.{all_there_ok}
+-- the bounds and terms that are found are the definitions'
+pub use Rattle.cert_check.proofs.Exact.{all_there_ok, lower_ok}
 -- forms in order of column, and the products of a weight with one
 pub use Rattle.cert_check.proofs.Ascending.{coefficient_found, coefficient_none, entries_ascend, products_found, products_none}

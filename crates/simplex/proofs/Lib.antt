@@ -1,24 +1,25 @@
-pub mod RowNumbers
-pub mod TableForms
-pub mod TablePivot
-pub mod TableRows
-pub mod TableFaults
-pub mod TableMade
-pub mod Choices
-pub mod MoveLemmas
-pub mod NodeParts
-pub mod StartLemmas
-pub mod StartTable
-pub mod TableFlip
-pub mod SumLemmas
-pub mod StartPoint
-pub mod RatioLemmas
-pub mod DecisionLemmas
-pub mod StateLemmas
-pub mod Crossing
-pub mod WeightItems
-pub mod PointNumbers
-pub mod RayNumbers
-pub mod Narrowing
-pub mod NodeEnds
-pub mod OverColumns
+mod RowNumbers
+mod TableForms
+mod TablePivot
+mod TableRows
+mod TableFaults
+mod TableMade
+mod Choices
+mod MoveLemmas
+mod NodeParts
+mod StartLemmas
+mod StartTable
+mod TableFlip
+mod SumLemmas
+mod StartPoint
+mod RatioLemmas
+mod DecisionLemmas
+mod StateLemmas
+mod Crossing
+mod WeightItems
+mod PointNumbers
+mod RayNumbers
+mod Narrowing
+mod NodeEnds
+mod OverColumns
+pub mod Laws

@@ -1,13 +1,13 @@
 -- Directions made whole.
-use Rattle.std.specs.Prelude.{ℕ, pos, ◌<◌, ◌≡◌, cond, false, List, length, slice_get, Some}
-use Rattle.rational.specs.Rational.{Rational, zero_ℚ, whole, over, ◌*ℚ◌}
+use Rattle.std.specs.Prelude.{ℕ, pos, ◌<◌, ◌≡◌, cond, List, length, slice_get}
+use Rattle.rational.specs.Rational.{Rational, zero_ℚ, whole, ◌*ℚ◌}
 use Rattle.milp.specs.Form.{number_at}
 use Rattle.milp.specs.Problem.{Column}
 use Rattle.verdicts.specs.Proves.{is_integer}
-use Rattle.rational.specs.Denominators.{prefix_denominator}
 use Rattle.rational.specs.Denominators.{common_denominator}
 use Rattle.basis.specs.Weights.{numbers_from}
 use Rattle.fraction.specs.Answers.{DoesNotFit}
+use Rattle.fraction.specs.Denominators.{IsDenominatorFault}
 use Rattle.fraction.specs.declared.frac.NoFit.{NoFit}
 use Rattle.simplex.specs.declared.fault.Fault.{Fault}
 use Rattle.simplex.specs.declared.fault.Fault.TheVariants as F

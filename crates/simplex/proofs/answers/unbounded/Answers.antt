@@ -15,9 +15,9 @@ returns-in_err-ray-clause-err c =
     let ds = c.args.derived.now in
     let sides = sides_of c.args.node.now.splits in
     fault_kept c.from_residual-in_err-ray.result c.in_err-ray.field-0.0 (IsRayFault c.columns-columns.result.now (along c.args.ended.now.dictionary c.args.q c.args.rises)) (IsSiteFault (node_numbers p ds sides)) c.from_residual-in_err-ray.ensures.1
-    (λ f h. ray_fault p ds sides c.args.ended.now.dictionary c.args.ended.now.values.items c.args.q c.args.rises c.requires c.columns-columns.result.now f c.columns-columns.ensures.columns h) c.in_err-ray.ensures.err
+    (λ f h. ray_fault p ds sides c.args.ended.now.dictionary c.args.ended.now.values.items c.args.q c.args.rises c.requires c.columns-columns.result.now f c.columns-columns.ensures h) c.in_err-ray.ensures.err
 
 pub returns-clause-ok : goal.returns-clause-ok
 returns-clause-ok c =
-    made_unbounded c.args.instance.now c.args.derived.now (sides_of c.args.node.now.splits) c.args.ended.now.dictionary c.args.ended.now.values.items c.args.q c.args.rises c.columns-columns.result.now c.in_ok-point.point c.in_ok-ray.ray c.requires c.columns-columns.ensures.columns
+    made_unbounded c.args.instance.now c.args.derived.now (sides_of c.args.node.now.splits) c.args.ended.now.dictionary c.args.ended.now.values.items c.args.q c.args.rises c.columns-columns.result.now c.in_ok-point.point c.in_ok-ray.ray c.requires c.columns-columns.ensures
     (c.in_ok-point.ensures ∙ ap (λ values. numbers_from 0 (length c.columns-columns.result.now) (number_at values)) c.deref.ensures.value) c.in_ok-ray.ensures.ok
