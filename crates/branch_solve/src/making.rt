@@ -32,6 +32,7 @@ pub fn of_optimum(
     ensures { IfOk result (λ c. c ≡ leaf_certificate problem.now is_optimal (Some (objective_value problem.now point)) (Some point) (bound_leaf weights)) }
 {
     let tree = one_leaf(alloc, TreeNode::Bound(weights))?;
+    problem.keeps_its_limits();
     let columns = problem.columns().len() as u32;
     let rows = problem.rows().len() as u32;
     Ok(Certificate::optimal(rows, columns, value, point, DerivedRows::new(alloc), tree))
@@ -46,6 +47,7 @@ pub fn of_contradiction(
     ensures { IfOk result (λ c. c ≡ leaf_certificate problem.now is_infeasible None None (empty_leaf weights)) }
 {
     let tree = one_leaf(alloc, TreeNode::Empty(weights))?;
+    problem.keeps_its_limits();
     let columns = problem.columns().len() as u32;
     let rows = problem.rows().len() as u32;
     Ok(Certificate::infeasible(rows, columns, DerivedRows::new(alloc), tree))
@@ -57,6 +59,7 @@ pub fn of_ray(alloc: Global, problem: &Instance, point: Point, ray: Point) -> Ce
     requires ray { length ray ≡ length problem.now.columns }
     ensures { result ≡ point_certificate problem.now point ray }
 {
+    problem.keeps_its_limits();
     let columns = problem.columns().len() as u32;
     let rows = problem.rows().len() as u32;
     Certificate::unbounded(alloc, rows, columns, point, ray)

@@ -25,7 +25,7 @@ fn checked(problem: &Instance, certificate: Certificate) -> Result<Certificate, 
     ensures made { IfOk result (λ c. IsRootCertificate problem.now c) }
     ensures fault { IfErr result (λ e. IsAfterRun problem.now e) }
 {
-    let _columns = problem.columns();
+    problem.keeps_its_limits();
     match check(problem, &certificate) {
         Ok(Checked::Accepted) => Ok(certificate),
         Ok(Checked::Refused(_)) => unreachable!(),
@@ -47,7 +47,7 @@ pub fn certified_optimum(
     ensures made { IfOk result (λ c. IsRootCertificate problem.now c) }
     ensures fault { IfErr result (λ e. IsAfterRun problem.now e) }
 {
-    let _columns = problem.columns();
+    problem.keeps_its_limits();
     match value(problem, &point) {
         Ok(best) => certified_value(alloc, problem, best, point, weights),
         Err(fault) => Err(SolveFault::Node(Site {

@@ -8,7 +8,7 @@ use Rattle.instance.specs.WellFormed.{has_column, has_row, entry_count as entrie
 use Rattle.model_text.specs.Names.{is_name, AreNew}
 use Rattle.cplex_lp_reader.specs.Constraints.{entry_count}
 use Rattle.model_text.proofs.Lookup.{list_any-same}
-use Rattle.cplex_lp_reader.proofs.Changed.{count-push}
+use Rattle.instance.proofs.Laws.{entry_count-snoc}
 
 new-at : {X : Type 0} (key : X → List ℕ) (xs : List X) (i : ℕ) (x : X) → AreNew (map key xs) → i < length xs → x ≡ get_or xs i x → list_any (λ y. bytes_eq (key y) (key x)) (take i xs) ≡ false
 new-at key xs i x new h e =
@@ -34,5 +34,5 @@ entry_count-take (r ∷ rs) (suc n) = let h = entry_count-take rs n in omega (ar
 
 pub entries-fit : (rows : List Row) (i : ℕ) (r : Row) → i < length rows → r ≡ get_or rows i r → entries_of_rows (take i rows) + length r.entries ≤ entry_count rows
 entries-fit rows i r h e =
-    let more : entry_count (take (i + 1) rows) ≡ entry_count (take i rows) + length r.entries = ap entry_count (take_more rows i r h ∙ ap (λ z. take i rows ++ z ∷ []) (sym e)) ∙ count-push (take i rows) r in
+    let more : entry_count (take (i + 1) rows) ≡ entry_count (take i rows) + length r.entries = ap entry_count (take_more rows i r h ∙ ap (λ z. take i rows ++ z ∷ []) (sym e)) ∙ entry_count-snoc (take i rows) r in
     omega (arith, more, entries-same (take i rows), entry_count-take rows (i + 1))

@@ -49,10 +49,6 @@ same-names key names xs i x y index g k = index ∙ sym (map-set_same key xs i y
 
 -- ---- the entries of rows
 
-pub count-push : (rs : List Row) (r : Row) → entry_count (rs ++ r ∷ []) ≡ entry_count rs + length r.entries
-count-push [] r = omega arith
-count-push (q ∷ rs) r = let e = count-push rs r in omega arith
-
 -- a row in another's place
 pub count-set : (rs : List Row) (i : ℕ) (r d : Row) → i < length rs → entry_count (set rs i r) + length (get_or rs i d).entries ≡ entry_count rs + length r.entries
 count-set [] i r d h = absurd (omega arith)

@@ -3,9 +3,10 @@ use Rattle.std.proofs.Common.{◌≡◌, ℕ, ◌≤◌, List, length}
 use Rattle.std.proofs.lemmas.List.Elements.{All-weaker}
 use Rattle.milp.specs.Form.{Entry}
 use Rattle.milp.specs.Problem.{Row, Column}
+use Rattle.instance.proofs.Laws.{entries_within}
 use Rattle.cplex_lp_reader.specs.Declaration.{with_changed, entries_of}
 use Rattle.cplex_lp_reader.specs.Consistent.{HasForm, IsConsistent}
-use Rattle.cplex_lp_reader.proofs.Terms.{terms-within, entries-within, entries-kept}
+use Rattle.cplex_lp_reader.proofs.Terms.{terms-within, entries-kept}
 use Rattle.cplex_lp_reader.proofs.Changed.{All-changed}
 
 -- columns, of which there are no fewer
@@ -13,7 +14,7 @@ pub columns-keep : (objective open_form : List Entry) (rows : List Row) (columns
 columns-keep objective open_form rows columns more h k = record {
   objective_terms = terms-within 0 (length columns) (length more) h objective k.objective_terms;
   open_terms = terms-within 0 (length columns) (length more) h open_form k.open_terms;
-  row_forms = All-weaker (HasForm (length columns)) (HasForm (length more)) (λ r f. entries-within 0 (length columns) (length more) h r.entries f) rows k.row_forms;
+  row_forms = All-weaker (HasForm (length columns)) (HasForm (length more)) (λ r f. entries_within 0 (length columns) (length more) h r.entries f) rows k.row_forms;
 }
 
 -- a row filled with the entries of the form that is read

@@ -1,7 +1,9 @@
 -- Forms that grow, in order of column.
 use Rattle.std.proofs.Common.{◌≡◌, ◌∙◌, ℕ, zero, suc, ◌+◌, ◌-◌, ◌<◌, ◌≤◌, nat_le, nat_lt, ◌==◌, ◌&&◌, not, Bool, true, false, List, [], ◌∷◌, ◌++◌, length, get_or, take, drop, Result, Ok, Err, OnErr, IsTrue, sym, refl, arith}
+use Rattle.std.proofs.lemmas.Bool.{and_parts, and_from, le-leb, lt-ltb, leb-true, ltb-true}
 use Rattle.std.proofs.lemmas.Bool.Decides.{nat_tests}
 use Rattle.rational.specs.Rational.{Rational}
+use Rattle.rational.specs.Compare.{is_zero}
 use Rattle.milp.specs.Form.{Entry}
 use Rattle.instance.specs.WellFormed.{are_entries_from}
 use Rattle.model_text.specs.declared.fault.FileFault.{FileFault}
@@ -10,27 +12,8 @@ use Rattle.model_text.specs.Follows.{Follows}
 use Rattle.model_text.specs.Steps.{then_do}
 use Rattle.cplex_lp_reader.specs.Steps.{fitting_at}
 use Rattle.fraction.specs.Answers.{add_answer}
-use Rattle.cplex_lp_reader.specs.Declaration.{place_of, joined, added, is_zero, entries_of}
+use Rattle.cplex_lp_reader.specs.Declaration.{place_of, joined, added, entries_of}
 use Rattle.cplex_lp_reader.specs.Consistent.{are_terms_from, are_terms}
-
-pub and-parts : (a b : Bool) → (a && b) ≡ true → (a ≡ true) × (b ≡ true)
-and-parts true b h = (refl, h)
-and-parts false b h = (h, cc)
-
-pub and-both : (a b : Bool) → a ≡ true → b ≡ true → (a && b) ≡ true
-and-both a b h i = rw (h, i) refl
-
-pub le-true : (a b : ℕ) → a ≤ b → nat_le a b ≡ true
-le-true a b h = grind (arith, nat_tests)
-
-pub lt-true : (a b : ℕ) → a < b → nat_lt a b ≡ true
-lt-true a b h = grind (arith, nat_tests)
-
-pub le-from : (a b : ℕ) → nat_le a b ≡ true → a ≤ b
-le-from a b h = grind (arith, nat_tests)
-
-pub lt-from : (a b : ℕ) → nat_lt a b ≡ true → a < b
-lt-from a b h = grind (arith, nat_tests)
 
 above : (a b : ℕ) → nat_le a b ≡ false → b < a
 above a b h = grind (arith, nat_tests)
@@ -46,40 +29,31 @@ same a b h = grind (arith, nat_tests)
 pub terms-least : (m n count : ℕ) → m ≤ n → (es : List Entry) → are_terms_from n count es ≡ true → are_terms_from m count es ≡ true
 terms-least m n count h [] t = refl
 terms-least m n count h (e ∷ es) t =
-    let p = and-parts _ _ t in
-    let from : n ≤ e.column = le-from n e.column p.0 in
-    and-both _ _ (le-true m e.column (omega arith)) p.1
+    let p = and_parts _ _ t in
+    let from : n ≤ e.column = leb-true n e.column p.0 in
+    and_from _ _ (le-leb m e.column (omega arith)) p.1
 
 pub terms-within : (least m n : ℕ) → m ≤ n → (es : List Entry) → are_terms_from least m es ≡ true → are_terms_from least n es ≡ true
 terms-within least m n h [] t = refl
 terms-within least m n h (e ∷ es) t =
-    let p = and-parts _ _ t in
-    let q = and-parts _ _ p.1 in
-    let below : e.column < m = lt-from e.column m q.0 in
-    and-both _ _ p.0 (and-both _ _ (lt-true e.column n (omega arith)) (terms-within (e.column + 1) m n h es q.1))
-
-pub entries-within : (least m n : ℕ) → m ≤ n → (es : List Entry) → are_entries_from least m es ≡ true → are_entries_from least n es ≡ true
-entries-within least m n h [] t = refl
-entries-within least m n h (e ∷ es) t =
-    let p = and-parts _ _ t in
-    let q = and-parts _ _ p.1 in
-    let r = and-parts _ _ q.1 in
-    let below : e.column < m = lt-from e.column m q.0 in
-    and-both _ _ p.0 (and-both _ _ (lt-true e.column n (omega arith)) (and-both _ _ r.0 (entries-within (e.column + 1) m n h es r.1)))
+    let p = and_parts _ _ t in
+    let q = and_parts _ _ p.1 in
+    let below : e.column < m = ltb-true e.column m q.0 in
+    and_from _ _ p.0 (and_from _ _ (lt-ltb e.column n (omega arith)) (terms-within (e.column + 1) m n h es q.1))
 
 -- ---- the entries but for zeros
 
 term-from : (least count : ℕ) (e : Entry) (es : List Entry) → are_terms_from least count (e ∷ es) ≡ true → least ≤ e.column
-term-from least count e es t = le-from least e.column (and-parts (nat_le least e.column) (nat_lt e.column count && are_terms_from (e.column + 1) count es) t).0
+term-from least count e es t = leb-true least e.column (and_parts (nat_le least e.column) (nat_lt e.column count && are_terms_from (e.column + 1) count es) t).0
 
 term-below : (least count : ℕ) (e : Entry) (es : List Entry) → are_terms_from least count (e ∷ es) ≡ true → nat_lt e.column count ≡ true
-term-below least count e es t = (and-parts (nat_lt e.column count) (are_terms_from (e.column + 1) count es) (and-parts (nat_le least e.column) (nat_lt e.column count && are_terms_from (e.column + 1) count es) t).1).0
+term-below least count e es t = (and_parts (nat_lt e.column count) (are_terms_from (e.column + 1) count es) (and_parts (nat_le least e.column) (nat_lt e.column count && are_terms_from (e.column + 1) count es) t).1).0
 
 terms-after : (least count : ℕ) (e : Entry) (es : List Entry) → are_terms_from least count (e ∷ es) ≡ true → are_terms_from (e.column + 1) count es ≡ true
-terms-after least count e es t = (and-parts (nat_lt e.column count) (are_terms_from (e.column + 1) count es) (and-parts (nat_le least e.column) (nat_lt e.column count && are_terms_from (e.column + 1) count es) t).1).1
+terms-after least count e es t = (and_parts (nat_lt e.column count) (are_terms_from (e.column + 1) count es) (and_parts (nat_le least e.column) (nat_lt e.column count && are_terms_from (e.column + 1) count es) t).1).1
 
 entries-whole : (least count : ℕ) (e : Entry) (es : List Entry) → least ≤ e.column → nat_lt e.column count ≡ true → not (is_zero e.coefficient) ≡ true → are_entries_from (e.column + 1) count es ≡ true → are_entries_from least count (e ∷ es) ≡ true
-entries-whole least count e es a b c d = and-both (nat_le least e.column) _ (le-true least e.column a) (and-both (nat_lt e.column count) _ b (and-both (not (is_zero e.coefficient)) (are_entries_from (e.column + 1) count es) c d))
+entries-whole least count e es a b c d = and_from (nat_le least e.column) _ (le-leb least e.column a) (and_from (nat_lt e.column count) _ b (and_from (not (is_zero e.coefficient)) (are_entries_from (e.column + 1) count es) c d))
 
 kept-by : (least count : ℕ) (e : Entry) (es : List Entry) (b : Bool) → is_zero e.coefficient ≡ b → are_terms_from least count (e ∷ es) ≡ true → ((from : ℕ) → are_terms_from from count es ≡ true → are_entries_from from count (entries_of es) ≡ true) → are_entries_from least count (entries_of (e ∷ es)) ≡ true
 kept-by least count e es true z t more =
@@ -136,9 +110,9 @@ first-by least count line j v e es new a b t from true h f = first-same least co
 first-by least count line j v e es new a b t from false h f =
     let at : Ok (record { column = j; coefficient = v } ∷ e ∷ es) ≡ Ok new = rw h at f in
     let is : record { column = j; coefficient = v } ∷ e ∷ es ≡ new = cc in
-    let p = and-parts _ _ t in
-    let later : j + 1 ≤ e.column = different j e.column h (le-from j e.column from) in
-    rw (← is) (and-both _ _ (le-true least j a) (and-both _ _ (lt-true j count b) (and-both _ _ (le-true (j + 1) e.column later) p.1)))
+    let p = and_parts _ _ t in
+    let later : j + 1 ≤ e.column = different j e.column h (leb-true j e.column from) in
+    rw (← is) (and_from _ _ (le-leb least j a) (and_from _ _ (lt-ltb j count b) (and_from _ _ (le-leb (j + 1) e.column later) p.1)))
 
 -- the place in a list whose first entry is earlier
 module _ (line j : ℕ) (v : Rational) (e : Entry) (es : List Entry) where
@@ -154,15 +128,15 @@ module _ (line j : ℕ) (v : Rational) (e : Entry) (es : List Entry) where
 added-by : (least count line j : ℕ) (v : Rational) (e : Entry) (es new : List Entry) → least ≤ j → j < count → are_terms_from least count (e ∷ es) ≡ true → ((from : ℕ) → from ≤ j → are_terms_from from count es ≡ true → (more : List Entry) → added line j v es ≡ Ok more → are_terms_from from count more ≡ true) → (b : Bool) → nat_le j e.column ≡ b → added line j v (e ∷ es) ≡ Ok new → are_terms_from least count new ≡ true
 added-by least count line j v e es new a b t more true h f = first-by least count line j v e es new a b t h (e.column == j) refl (sym (added-first line j v e es h) ∙ f)
 added-by least count line j v e es new a b t more false h f =
-    let p = and-parts _ _ t in
-    let q = and-parts _ _ p.1 in
+    let p = and_parts _ _ t in
+    let q = and_parts _ _ p.1 in
     let earlier : e.column < j = above j e.column h in
-    rest-of e (added line j v es) new (sym (added-next line j v e es h) ∙ f) (λ xs. are_terms_from least count xs ≡ true) (λ xs g. and-both _ _ p.0 (and-both _ _ q.0 (more (e.column + 1) (omega arith) q.1 xs g)))
+    rest-of e (added line j v es) new (sym (added-next line j v e es h) ∙ f) (λ xs. are_terms_from least count xs ≡ true) (λ xs g. and_from _ _ p.0 (and_from _ _ q.0 (more (e.column + 1) (omega arith) q.1 xs g)))
 
 pub added-terms : (least count line j : ℕ) (v : Rational) (form new : List Entry) → least ≤ j → j < count → are_terms_from least count form ≡ true → added line j v form ≡ Ok new → are_terms_from least count new ≡ true
 added-terms least count line j v [] new a b t f =
     let is : record { column = j; coefficient = v } ∷ [] ≡ new = cc in
-    rw (← is) (and-both _ _ (le-true least j a) (and-both _ _ (lt-true j count b) refl))
+    rw (← is) (and_from _ _ (le-leb least j a) (and_from _ _ (lt-ltb j count b) refl))
 added-terms least count line j v (e ∷ es) new a b t f = added-by least count line j v e es new a b t (λ from c u more g. added-terms from count line j v es more c b u g) (nat_le j e.column) refl f
 
 -- a step that adds a term, or changes nothing
@@ -193,5 +167,5 @@ last-place least count j (a ∷ es) (suc i) d e t h =
 -- where the last entry is of an earlier column, all are
 pub end-place : (count j : ℕ) (form : List Entry) (d : Entry) → IsTrue (are_terms count form) → 0 < length form → nat_lt (get_or form (length form - 1) d).column j ≡ true → place_of j form ≡ length form
 end-place count j form d t some h =
-    let less : (get_or form (length form - 1) d).column < j = lt-from (get_or form (length form - 1) d).column j h in
+    let less : (get_or form (length form - 1) d).column < j = ltb-true (get_or form (length form - 1) d).column j h in
     (last-place 0 count j form (length form - 1) d (omega arith) t less).1

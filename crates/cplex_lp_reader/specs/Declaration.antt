@@ -1,10 +1,11 @@
 -- What a CPLEX LP text has declared so far.
-use Rattle.std.specs.Prelude.{ℕ, ◌==◌, nat_lt, nat_le, Bool, false, zero, suc, List, [], ◌∷◌, ◌++◌, length, unsigned_abs, not, filter, codes, Some, None, Result, Ok, if◌then◌else◌, take, drop}
+use Rattle.std.specs.Prelude.{ℕ, ◌==◌, nat_lt, nat_le, Bool, false, zero, suc, List, [], ◌∷◌, ◌++◌, length, not, filter, codes, Some, None, Result, Ok, if◌then◌else◌, take, drop}
 use Rattle.std.specs.declared.option.Option.{Option}
 use Rattle.std.specs.List.{position_or_len}
 use Rattle.std.specs.Str.{bytes_eq}
 use Rattle.rational.specs.Rational.{Rational, zero_ℚ}
 use Rattle.fraction.specs.Answers.{add_answer}
+use Rattle.rational.specs.Compare.{is_zero}
 use Rattle.milp.specs.Form.{Entry}
 use Rattle.milp.specs.Problem.{Column, Row, Problem}
 use Rattle.milp.specs.declared.Direction.{Direction}
@@ -91,9 +92,6 @@ joined line j v before (e ∷ after) =
 -- a term added to those of the same column, from the left; the fault is at its line
 abbrev pub added : ℕ → ℕ → Rational → List Entry → Result (List Entry) FileFault
 added line j v form = joined line j v (take (place_of j form) form) (drop (place_of j form) form)
-
-abbrev pub is_zero : Rational → Bool
-is_zero v = unsigned_abs v.numerator == 0
 
 abbrev pub is_entry : Entry → Bool
 is_entry e = not (is_zero e.coefficient)

@@ -4,7 +4,7 @@ ghost use Rattle.std.specs.List.{position};
 ghost use Rattle.fraction.specs.Answers.{add_answer};
 ghost use Rattle.model_text.specs.Follows.{Follows, as_read};
 ghost use Rattle.cplex_lp_reader.specs.Steps.{fitting_at};
-ghost use Rattle.cplex_lp_reader.specs.Declaration.{no_entry, is_from, place_of, begins_with, joined, added, is_zero, is_entry, entries_of};
+ghost use Rattle.cplex_lp_reader.specs.Declaration.{no_entry, is_from, place_of, begins_with, joined, added, is_entry, entries_of};
 ghost use Rattle.cplex_lp_reader.specs.Consistent.{are_terms};
 
 use fraction::Frac;
@@ -41,16 +41,10 @@ pub(crate) fn sum_at(line: usize, a: Frac, b: Frac) -> Result<Frac, ReadError<Fi
     }
 }
 
-fn is_zero(value: Frac) -> bool
-    ensures { result ≡ is_zero value }
-{
-    value.parts().0 == 0
-}
-
 fn is_entry(entry: &Entry) -> bool
     ensures { result ≡ is_entry entry.now }
 {
-    !is_zero(entry.coefficient)
+    !entry.coefficient.is_zero()
 }
 
 impl Form {

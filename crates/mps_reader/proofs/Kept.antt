@@ -7,7 +7,8 @@ use Rattle.std.proofs.lemmas.List.Elements.{All-cons, All-head, All-tail, All-pu
 use Rattle.rational.specs.Rational.{Rational}
 use Rattle.milp.specs.Problem.{Column}
 use Rattle.mps_reader.specs.declared.row.RowKind.{RowKind}
-use Rattle.mps_reader.specs.Declaration.{DeclaredRow, new_row, with_first_changed, is_zero, entry_count}
+use Rattle.rational.specs.Compare.{is_zero}
+use Rattle.mps_reader.specs.Declaration.{DeclaredRow, new_row, with_first_changed, entry_count}
 use Rattle.mps_reader.specs.RowsAndColumns.{given}
 use Rattle.mps_reader.specs.Consistent.{IsGiven, IsConsistent}
 

@@ -1,5 +1,5 @@
 -- What a free MPS text has declared so far.
-use Rattle.std.specs.Prelude.{ℕ, ◌+◌, ◌==◌, nat_lt, nat_le, ◌&&◌, Bool, true, false, List, [], ◌∷◌, length, unsigned_abs, Some, None, is_some, if◌then◌else◌}
+use Rattle.std.specs.Prelude.{ℕ, ◌+◌, ◌==◌, nat_lt, nat_le, ◌&&◌, Bool, true, false, List, [], ◌∷◌, length, Some, None, is_some, if◌then◌else◌}
 use Rattle.std.specs.declared.option.Option.{Option}
 use Rattle.std.specs.Option.{option_map}
 use Rattle.std.specs.List.{list_any, find}
@@ -123,9 +123,6 @@ abbrev pub is_column : Declaration → List ℕ → Bool
 is_column d name = list_any (is_column_named name) d.columns
 
 -- ---- entries
-
-abbrev pub is_zero : Rational → Bool
-is_zero v = unsigned_abs v.numerator == 0
 
 -- the objective's aren't counted
 abbrev pub entry_count : List DeclaredRow → ℕ

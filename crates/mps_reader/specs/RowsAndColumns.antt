@@ -10,7 +10,8 @@ use Rattle.model_text.specs.declared.fault.FaultKind.TheVariants.{BadLine, Unkno
 use Rattle.model_text.specs.declared.profile.Profile.{Profile}
 use Rattle.mps_reader.specs.declared.row.RowKind.{RowKind}
 use Rattle.mps_reader.specs.declared.row.RowKind.TheVariants.{Objective, Free, AtMost, AtLeast, Exactly}
-use Rattle.mps_reader.specs.Declaration.{is_free, DeclaredRow, new_row, Declaration, is_objective_named, row_named, is_row, with_row, is_column, is_zero, entry_count}
+use Rattle.rational.specs.Compare.{is_zero}
+use Rattle.mps_reader.specs.Declaration.{is_free, DeclaredRow, new_row, Declaration, is_objective_named, row_named, is_row, with_row, is_column, entry_count}
 use Rattle.model_text.specs.Steps.{then_do}
 use Rattle.mps_reader.specs.Steps.{at_end, with_number}
 

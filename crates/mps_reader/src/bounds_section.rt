@@ -97,7 +97,7 @@ fn bound_value(number: Option<&str>) -> Result<Frac, ReadError<FaultKind>>
     ensures { result ≡ number_or_fault (bound_value (option_map (λ n. n.now) number.entry)) }
 {
     match number {
-        None => Ok(Frac::whole(0)),
+        None => Ok(Frac::zero()),
         Some(number) => read_number(number),
     }
 }

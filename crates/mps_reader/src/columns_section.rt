@@ -10,7 +10,6 @@ ghost use Rattle.mps_reader.specs.RowsAndColumns.{marker_of, begins_with_marker,
 
 use crate::draft::Draft;
 use crate::literal::read_number;
-use crate::row::is_zero;
 use fraction::Frac;
 use model_text::{FaultKind, Profile, ReadError};
 
@@ -272,7 +271,7 @@ fn with_entry(
     requires once { IfSome (row_named draft.old row.now) (λ r. r.latest ≢ length draft.old.columns) }
     ensures { Follows result draft.new (with_entry profile.now draft.old row.now value) }
 {
-    if !draft.is_objective(row) && !is_zero(value) && draft.entry_count() >= profile.entries {
+    if !draft.is_objective(row) && !value.is_zero() && draft.entry_count() >= profile.entries {
         return Err(ReadError::Fault(FaultKind::TooMany));
     }
     draft.give(row, value)?;

@@ -5,7 +5,8 @@ ghost use Rattle.std.specs.List.{All};
 ghost use Rattle.model_text.specs.Names.{AreNew};
 ghost use Rattle.mps_reader.specs.Consistent.{IsGiven};
 ghost use Rattle.milp.specs.Problem.{Column};
-ghost use Rattle.mps_reader.specs.Declaration.{DeclaredRow as RowOf, nothing_declared, row_named, is_row, is_objective_named, is_row_named, is_column, is_column_named, with_row, with_first_changed, new_row, entry_count as count_of_entries, is_zero};
+ghost use Rattle.mps_reader.specs.Declaration.{DeclaredRow as RowOf, nothing_declared, row_named, is_row, is_objective_named, is_row_named, is_column, is_column_named, with_row, with_first_changed, new_row, entry_count as count_of_entries};
+ghost use Rattle.rational.specs.Compare.{is_zero};
 ghost use Rattle.mps_reader.specs.RowsAndColumns.{given, new_column, is_the_name};
 ghost use Rattle.mps_reader.specs.RhsRangesBounds.{rhs_added, range_added, bounded, is_of_first_set, is_same_set, with_set};
 ghost use Rattle.mps_reader.specs.FreeMps.{in_section};
@@ -13,7 +14,7 @@ ghost use Rattle.mps_reader.specs.FreeMps.{in_section};
 use crate::bound::BoundKind;
 use crate::column_table::ColumnTable;
 use crate::declared_column::DeclaredColumn;
-use crate::row::{DeclaredRow, RowKind, RowRange, is_zero};
+use crate::row::{DeclaredRow, RowKind, RowRange};
 use crate::row_table::RowTable;
 use crate::section::Section;
 use fraction::Frac;
@@ -160,7 +161,7 @@ impl<'a> Draft<'a> {
             }
         } else {
             self.rows.give(name, columns, value)?;
-            if !is_zero(value) {
+            if !value.is_zero() {
                 self.entry_count += 1;
             }
         }

@@ -133,7 +133,7 @@ fn set_objective(
     let entries = form(alloc, objective.entries())?;
     let constant = match objective.rhs() {
         Some(rhs) => rhs.neg(),
-        None => Frac::whole(0),
+        None => Frac::zero(),
     };
     builder.objective(Direction::Min, name, entries, constant);
     Ok(())

@@ -1,7 +1,7 @@
 // Rows of a declaration.
 ghost use Rattle.std.specs.Prelude.{◌≡◌, ◌<◌, ◌≤◌, ◌^◌, IsTrue, OnOk, OnErr};
 ghost use Rattle.instance.specs.WellFormed.{are_entries};
-ghost use Rattle.mps_reader.specs.Declaration.{new_row, is_zero, is_free};
+ghost use Rattle.mps_reader.specs.Declaration.{new_row, is_free};
 ghost use Rattle.mps_reader.specs.RowsAndColumns.{given, row_kind_of};
 ghost use Rattle.mps_reader.specs.Finished.{row_lower, row_upper};
 ghost use Rattle.mps_reader.specs.RhsRangesBounds.{rhs_added, range_added, rhs_of};
@@ -125,7 +125,7 @@ impl<'a> DeclaredRow<'a> {
     pub(crate) fn rhs_or_zero(&self) -> Frac
         ensures { result ≡ rhs_of self.now }
     {
-        self.rhs.unwrap_or(Frac::whole(0))
+        self.rhs.unwrap_or(Frac::zero())
     }
 
     pub(crate) fn range(&self) -> Option<RowRange>
@@ -175,7 +175,7 @@ impl<'a> DeclaredRow<'a> {
         ensures given { OnOk result (self.new ≡ given columns value self.old) }
         ensures kept { OnErr result (self.new ≡ self.old) }
     {
-        if !is_zero(value) {
+        if !value.is_zero() {
             self.entries.push(Entry {
                 column: columns as u32 - 1,
                 coefficient: value,
@@ -199,10 +199,4 @@ impl<'a> DeclaredRow<'a> {
     {
         self.range = Some(range);
     }
-}
-
-pub(crate) fn is_zero(value: Frac) -> bool
-    ensures { result ≡ is_zero value }
-{
-    value.parts().0 == 0
 }

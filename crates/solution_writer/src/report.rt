@@ -73,7 +73,7 @@ fn row_lines(alloc: Global, problem: &Instance, point: &Point) -> Result<String,
     requires rows { RowsFit point.now problem.now.rows }
     ensures { IfOk result (λ text. string_bytes text ≡ row_lines point.now problem.now.rows) }
 {
-    let _columns = problem.columns();
+    problem.keeps_its_limits();
     let rows = problem.rows();
     let mut text = String::new(alloc);
     for (i, row) in rows.iter().enumerate() {

@@ -8,4 +8,4 @@ value-requires c = optimum_size c.args.problem.now c.args.point c.args.weights c
 
 pub returns-in-Err-clause-fault : goal.returns-in-Err-clause-fault
 returns-in-Err-clause-fault c =
-    (c.root.ensures, value_faults c.args.problem.now c.args.point c.args.weights c.columns-columns.ensures.well_formed c.requires.optimum c.in-Err.fault (sym c.in-Err.ensures.exact))
+    (c.root.ensures, value_faults c.args.problem.now c.args.point c.args.weights c.keeps_its_limits.ensures.well_formed c.requires.optimum c.in-Err.fault (sym c.in-Err.ensures.exact))

@@ -4,7 +4,7 @@ use Rattle.std.proofs.lemmas.List.{length-append}
 use Rattle.milp.specs.Problem.{Row}
 use Rattle.cplex_lp_reader.specs.Constraints.{blank_row, entry_count}
 use Rattle.cplex_lp_reader.proofs.Keyed.{any-name, push-kept}
-use Rattle.cplex_lp_reader.proofs.Changed.{count-push}
+use Rattle.instance.proofs.Laws.{entry_count-snoc}
 use Rattle.cplex_lp_reader.proofs.row_table.RowTable.push.Goals as goal
 
 pub push-requires : goal.push-requires
@@ -17,7 +17,7 @@ invariant_of-self-2 c =
     let same : string_bytes c.in_ok-copy.copy ≡ string_bytes c.args.name = search rules in
     let items : c.push-2.new.self.items ≡ c.self.inside.rows.items ++ blank_row (string_bytes c.args.name) ∷ [] = search rules in
     let k = push-kept (λ (r : Row). r.name) c.self.inside.names c.push.new.self (string_bytes c.in_ok-copy.copy) c.self.inside.rows.items c.push-2.new.self.items (blank_row (string_bytes c.args.name)) c.self.invariant.index c.self.invariant.new (rw same (any-name (λ (r : Row). r.name) (string_bytes c.args.name) c.self.inside.names c.self.inside.rows.items c.self.invariant.index ∙ (rw (← c.self.view_is) at c.requires.new))) c.in_ok-push.ensures.added items same in
-    let count : entry_count c.push-2.new.self.items ≡ entry_count c.self.inside.rows.items + 0 = ap entry_count items ∙ count-push c.self.inside.rows.items (blank_row (string_bytes c.args.name)) in
+    let count : entry_count c.push-2.new.self.items ≡ entry_count c.self.inside.rows.items + 0 = ap entry_count items ∙ entry_count-snoc c.self.inside.rows.items (blank_row (string_bytes c.args.name)) in
     record {
       index = k.0;
       new = k.1;

@@ -1,7 +1,8 @@
 -- The form stays in order.
 use Rattle.std.proofs.Common.{◌<◌, sym, ap, arith}
+use Rattle.instance.proofs.Laws.{entries_within}
 use Rattle.mps_reader.specs.Declaration.{DeclaredRow}
-use Rattle.mps_reader.proofs.Entries.{entries-within, entries-push}
+use Rattle.mps_reader.proofs.Entries.{entries-push}
 use Rattle.mps_reader.proofs.row.DeclaredRow.give.Goals as goal
 use Rattle.mps_reader.proofs.row.DeclaredRow.give.Goals.{then-not-is_zero+in_ok-push, else-not-is_zero}
 
@@ -11,5 +12,5 @@ invariant_of-self-2 c =
     let later : c.self.inside.latest < c.args.columns = omega (arith, c.requires.later) in
     elim c.if-not-is_zero.branch [
       | then-not-is_zero+in_ok-push w ↦ rw (w.self-inside-is, w.in_ok-push.ensures.items) (entries-push 0 c.self.inside.latest c.args.columns c.args.value (omega arith) later (sym w.if-not-is_zero.ensures) c.self.inside.entries.items c.self.invariant)
-      | else-not-is_zero w ↦ rw w.self-inside-is (entries-within 0 c.self.inside.latest c.args.columns (omega arith) c.self.inside.entries.items c.self.invariant)
+      | else-not-is_zero w ↦ rw w.self-inside-is (entries_within 0 c.self.inside.latest c.args.columns (omega arith) c.self.inside.entries.items c.self.invariant)
     ]
