@@ -1,17 +1,5 @@
-pub mod RowNumbers
-pub mod TableForms
-pub mod TablePivot
-pub mod TableRows
-pub mod TableFaults
-pub mod TableMade
 pub mod Choices
-pub mod MoveLemmas
 pub mod NodeParts
-pub mod StartLemmas
-pub mod StartTable
-pub mod TableFlip
-pub mod SumLemmas
-pub mod StartPoint
 pub mod RatioLemmas
 pub mod DecisionLemmas
 pub mod StateLemmas

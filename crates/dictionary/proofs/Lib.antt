@@ -1,0 +1,13 @@
+pub mod RowNumbers
+pub mod StartLemmas
+pub mod StartPoint
+pub mod StartTable
+pub mod SumLemmas
+pub mod MoveLemmas
+pub mod TableFaults
+pub mod TableFlip
+pub mod TableForms
+pub mod TableMade
+pub mod TablePivot
+pub mod TableRows
+pub mod Laws
