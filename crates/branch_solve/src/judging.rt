@@ -69,9 +69,23 @@ fn of_proposed_optimum(
     ensures exact { IfOk result (λ found. IfSome found (λ c. c ≡ certificate_of problem.now (Optimal best))) }
     ensures plain { IfOk result (λ found. IfSome found (λ c. IsPlainCertificate problem.now c)) }
 {
-    if !has_all_columns(problem, &best.point) {
-        return Ok(None);
+    if has_all_columns(problem, &best.point) {
+        with_value(alloc, problem, best)
+    } else {
+        Ok(None)
     }
+}
+
+// The certificate of a point with its value and weights, where the value fits.
+fn with_value(
+    alloc: Global,
+    problem: &Instance,
+    best: ProposedOptimum,
+) -> Result<Option<Certificate>, AllocError>
+    requires { length best.point ≡ length problem.now.columns }
+    ensures exact { IfOk result (λ found. IfSome found (λ c. c ≡ certificate_of problem.now (Optimal best))) }
+    ensures plain { IfOk result (λ found. IfSome found (λ c. IsPlainCertificate problem.now c)) }
+{
     let Ok(least) = value(problem, &best.point) else {
         return Ok(None);
     };

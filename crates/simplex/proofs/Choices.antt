@@ -13,9 +13,9 @@ use Rattle.basis.specs.Bland.{IsOutside, HasPassed, CanRaise, CanMend, Mends, Im
 use Rattle.basis.specs.declared.Place.{Place}
 use Rattle.basis.specs.declared.Place.TheVariants.{Basic, AtLower, AtUpper, AtZero}
 use Rattle.basis.proofs.Laws.{basic_known}
-use Rattle.simplex.specs.Table.{is_basic}
-use Rattle.simplex.specs.Values.{passed_bound, can_rise, can_fall, can_raise, can_mend}
-use Rattle.simplex.proofs.TableForms.{basic_test}
+use Rattle.dictionary.specs.Table.{is_basic}
+use Rattle.dictionary.specs.Values.{passed_bound, can_rise, can_fall, can_raise, can_mend}
+use Rattle.dictionary.proofs.Laws.{basic_test}
 
 pub lower_at : (s : System) (v : ℕ) (b : Bounds) → slice_get s.bounds v ≡ Some b → lower_of s v ≡ b.lower
 lower_at s v b e = ap (option_and_then (λ (c : Bounds). c.lower)) e

@@ -15,15 +15,15 @@ use Rattle.basis.specs.declared.Place.{Place}
 use Rattle.basis.specs.declared.Place.TheVariants.{Basic, AtLower, AtUpper, AtZero}
 use Rattle.basis.proofs.Laws.{length_operation, neg_above, neg_below, mend_exchanges, improve_exchanges, none_outside_inside, basic_known}
 use Rattle.fraction.specs.declared.frac.NoFit.{NoFit}
-use Rattle.simplex.specs.Table.{Table, dictionary_of}
-use Rattle.simplex.specs.Values.{direction_of}
+use Rattle.dictionary.specs.Table.{Table, dictionary_of}
+use Rattle.dictionary.specs.Values.{direction_of}
 use Rattle.simplex.specs.Ratio.{turned, along, IsStepFault, IsLengthFault, IsFirstReach}
 use Rattle.simplex.specs.Run.{IsRunFault}
 use Rattle.simplex.specs.Steps.{IsReached, IsStep, bound_at}
 use Rattle.simplex.specs.declared.ratio.Reach.{Reach}
 use Rattle.simplex.specs.declared.decision.Step.{Step}
 use Rattle.simplex.proofs.Choices.{lower_at, upper_at}
-use Rattle.simplex.proofs.MoveLemmas.{is_direction}
+use Rattle.dictionary.proofs.Laws.{is_direction}
 use Rattle.simplex.proofs.RatioLemmas.{length_fault}
 
 pub if_err : {X : Type 0} (r : Result X NoFit) (P R : NoFit → Type 0) → ((e : NoFit) → P e → R e) → IfErr r P → IfErr r R

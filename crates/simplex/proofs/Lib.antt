@@ -1,17 +1,5 @@
-mod RowNumbers
-mod TableForms
-mod TablePivot
-mod TableRows
-mod TableFaults
-mod TableMade
 mod Choices
-mod MoveLemmas
 mod NodeParts
-mod StartLemmas
-mod StartTable
-mod TableFlip
-mod SumLemmas
-mod StartPoint
 mod RatioLemmas
 mod DecisionLemmas
 mod StateLemmas

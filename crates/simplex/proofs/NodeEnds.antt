@@ -22,7 +22,7 @@ use Rattle.basis.specs.declared.Place.TheVariants.{Basic, AtLower, AtUpper, AtZe
 use Rattle.basis.proofs.Laws.{node_size, pair_within, run_within_node}
 use Rattle.fraction.specs.declared.frac.NoFit.{NoFit}
 use Rattle.search_node.specs.Faults.{IsSiteFault}
-use Rattle.simplex.specs.Table.{Table, is_basic, dictionary_of}
+use Rattle.dictionary.specs.Table.{Table, is_basic, dictionary_of}
 use Rattle.simplex.specs.Ratio.{along}
 use Rattle.simplex.specs.Narrowed.{AreSplitFaults}
 use Rattle.simplex.specs.Rays.{IsFault, IsRayFault, numbers_to_be_whole, whole_ray}
@@ -37,7 +37,7 @@ use Rattle.simplex.specs.declared.runs.RunFault.TheVariants as R
 use Rattle.simplex.specs.declared.weights.Source.{Source}
 use Rattle.simplex.specs.declared.weights.Source.TheVariants as W
 use Rattle.simplex.proofs.Choices.{is_resting}
-use Rattle.simplex.proofs.TableForms.{basic_test}
+use Rattle.dictionary.proofs.Laws.{basic_test}
 
 -- ---- faults on their way
 

@@ -20,7 +20,7 @@ use Rattle.rational.specs.Compare.{is_zero}
 use Rattle.instance.specs.WellFormed.{are_entries_from, IsWellFormed}
 use Rattle.basis.specs.System.{Bounds}
 use Rattle.basis.specs.Node.{column_bounds, row_bounds, derived_bounds, system_of}
-use Rattle.simplex.specs.Ascending.{IsAscending, AreAscending}
+use Rattle.dictionary.specs.Ascending.{IsAscending, AreAscending}
 use Rattle.simplex.specs.Bounds as B
 
 -- ---- its parts

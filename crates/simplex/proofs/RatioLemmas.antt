@@ -19,12 +19,12 @@ use Rattle.fraction.specs.Answers.{sub_answer, div_answer}
 use Rattle.fraction.specs.Fits.{fits, sum_fits}
 use Rattle.fraction.specs.declared.frac.Op.TheVariants.{Sub, Div}
 use Rattle.fraction.specs.declared.frac.NoFit.{NoFit}
-use Rattle.simplex.specs.Table.{Table, is_basic, dictionary_of}
-use Rattle.simplex.specs.Values.{direction_of}
+use Rattle.dictionary.specs.Table.{Table, is_basic, dictionary_of}
+use Rattle.dictionary.specs.Values.{direction_of}
 use Rattle.simplex.specs.Ratio.{turned, along, bound_ahead, IsReach, IsLengthFault, IsStepFault, IsReachOf, IsFirstReach, sooner_reach, sooner_of}
 use Rattle.simplex.specs.declared.ratio.Reach.{Reach}
 use Rattle.simplex.proofs.Choices.{lower_at, upper_at}
-use Rattle.simplex.proofs.MoveLemmas.{direction-self, direction-basic}
+use Rattle.dictionary.proofs.Laws.{direction-self, direction-basic}
 
 -- ---- how far the mover goes
 

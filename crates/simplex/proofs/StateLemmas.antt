@@ -17,19 +17,17 @@ use Rattle.fraction.specs.Answers.{result_fits}
 use Rattle.fraction.specs.declared.frac.NoFit.{NoFit}
 use Rattle.search_node.specs.Bases.{next_bases}
 use Rattle.search_node.specs.declared.bases.Exchange.{Exchange}
-use Rattle.simplex.specs.Rows.{IsProductOrSum}
-use Rattle.simplex.specs.Sums.{IsTermFault, IsStartFault, AreStartNumbers}
-use Rattle.simplex.specs.Table.{Table, dictionary_of, IsPivotFault}
-use Rattle.simplex.specs.Values.{direction_of, AreMoved, IsVariableFault}
+use Rattle.dictionary.specs.Rows.{IsProductOrSum}
+use Rattle.dictionary.specs.Sums.{IsTermFault, IsStartFault, AreStartNumbers}
+use Rattle.dictionary.specs.Table.{Table, dictionary_of, IsPivotFault}
+use Rattle.dictionary.specs.Values.{direction_of, AreMoved, IsVariableFault}
 use Rattle.simplex.specs.Run.{IsRunFault, IsFaultOf}
 use Rattle.simplex.specs.Steps.{IsReached, CanLeave, IsStep, IsStepOperation, IsStepFailure}
 use Rattle.simplex.specs.declared.decision.Step.{Step}
 use Rattle.simplex.specs.declared.runs.RunFault.{RunFault}
 use Rattle.simplex.specs.declared.runs.RunFault.TheVariants.{NoFit as NotFitting, PivotLimit, NoMemory}
 use Rattle.simplex.proofs.DecisionLemmas.{if_err}
-use Rattle.simplex.proofs.MoveLemmas.{is_direction}
-use Rattle.simplex.proofs.SumLemmas.{entry_below}
-use Rattle.simplex.proofs.TableForms.{is_over_resting}
+use Rattle.dictionary.proofs.Laws.{is_direction, entry_below, is_over_resting}
 
 pub failed : {X : Type 0} (r : Result X RunFault) (f : RunFault) (P : RunFault → Type 0) → IsErrAnd r (λ d. d ≡ f) → P f → IfErr r P
 failed (Ok u) f P h p = tt

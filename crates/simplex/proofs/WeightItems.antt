@@ -10,10 +10,10 @@ use Rattle.basis.specs.Dictionary as D
 use Rattle.basis.specs.Dictionary.{IsResting, IsBasic, rate_of, gain_of}
 use Rattle.basis.specs.Weights.{items_at, items_of, nonzero, row_weight, contradiction_weights}
 use Rattle.basis.proofs.Laws.{not_resting}
-use Rattle.simplex.specs.Table.{Table, is_basic, dictionary_of}
+use Rattle.dictionary.specs.Table.{Table, is_basic, dictionary_of}
 use Rattle.simplex.specs.Sources.{weight_from, weights_from}
 use Rattle.simplex.specs.declared.weights.Source.{Source}
-use Rattle.simplex.proofs.TableForms.{basic_test, is_over_resting}
+use Rattle.dictionary.proofs.Laws.{basic_test, is_over_resting}
 
 -- ---- numbers of basic variables
 

@@ -13,7 +13,7 @@ use Rattle.search_node.specs.declared.node.Node.{Node}
 use Rattle.search_node.specs.declared.fault.Site.{Site}
 use Rattle.search_node.specs.declared.fault.Stuck.{Stuck}
 use Rattle.search_node.specs.declared.fault.Stuck.TheVariants as S
-use Rattle.simplex.specs.Table.{dictionary_of}
+use Rattle.dictionary.specs.Table.{dictionary_of}
 use Rattle.simplex.specs.Run.{IsLimited}
 use Rattle.simplex.specs.declared.fault.Fault.{Fault}
 use Rattle.simplex.specs.declared.fault.Fault.TheVariants as F

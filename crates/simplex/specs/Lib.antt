@@ -1,15 +1,9 @@
 pub mod Answer
-pub mod Ascending
 pub mod Bounds
 pub mod Crossed
 pub mod Narrowed
 pub mod Ratio
 pub mod Rays
-pub mod Rows
 pub mod Run
 pub mod Sources
-pub mod Start
 pub mod Steps
-pub mod Sums
-pub mod Table
-pub mod Values

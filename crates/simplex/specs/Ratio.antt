@@ -11,9 +11,9 @@ use Rattle.fraction.specs.Fits.{sum_fits}
 use Rattle.fraction.specs.Answers.{DoesNotFit}
 use Rattle.fraction.specs.declared.frac.Op.TheVariants.{Sub}
 use Rattle.fraction.specs.declared.frac.NoFit.{NoFit}
-use Rattle.simplex.specs.Rows.{IsQuotient}
-use Rattle.simplex.specs.Table.{Table, dictionary_of}
-use Rattle.simplex.specs.Values.{direction_of}
+use Rattle.dictionary.specs.Rows.{IsQuotient}
+use Rattle.dictionary.specs.Table.{Table, dictionary_of}
+use Rattle.dictionary.specs.Values.{direction_of}
 use Rattle.simplex.specs.declared.ratio.Reach.{Reach}
 use Rattle.basis.specs.declared.Place.{Place}
 use Rattle.basis.specs.declared.Place.TheVariants.{AtLower, AtUpper}

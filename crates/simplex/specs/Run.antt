@@ -9,7 +9,7 @@ use Rattle.basis.specs.Relaxation.{IsBlocked, IsUnboundedBasis}
 use Rattle.basis.specs.Numbers.{IsSitePair, run_numbers}
 use Rattle.fraction.specs.Answers.{DoesNotFit}
 use Rattle.fraction.specs.declared.frac.NoFit.{NoFit}
-use Rattle.simplex.specs.Table.{Table, dictionary_of}
+use Rattle.dictionary.specs.Table.{Table, dictionary_of}
 use Rattle.simplex.specs.Ratio.{along}
 use Rattle.simplex.specs.declared.runs.End.{End}
 use Rattle.simplex.specs.declared.runs.End.TheVariants.{Optimal, Blocked, Endless}

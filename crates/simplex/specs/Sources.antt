@@ -4,7 +4,7 @@ use Rattle.rational.specs.Rational.{Rational, neg_ℚ}
 use Rattle.basis.specs.Dictionary.{IsBasic, gain_of}
 use Rattle.basis.specs.Weights.{nonzero, row_weight}
 use Rattle.basis.specs.declared.Place.{Place}
-use Rattle.simplex.specs.Table.{Table, dictionary_of}
+use Rattle.dictionary.specs.Table.{Table, dictionary_of}
 use Rattle.simplex.specs.declared.weights.Source.{Source}
 use Rattle.simplex.specs.declared.weights.Source.TheVariants.{Objective, Row, MinusRow}
 

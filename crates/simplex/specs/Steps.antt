@@ -8,8 +8,8 @@ use Rattle.basis.specs.Bland.{exchanged, BlandStep}
 use Rattle.fraction.specs.declared.frac.NoFit.{NoFit}
 use Rattle.search_node.specs.Bases.{next_bases}
 use Rattle.simplex.specs.Run.{IsState, IsEndOf, IsEnded}
-use Rattle.simplex.specs.Table.{Table, dictionary_of, IsPivotFault}
-use Rattle.simplex.specs.Values.{direction_of, AreMoved, IsMoveFault}
+use Rattle.dictionary.specs.Table.{Table, dictionary_of, IsPivotFault}
+use Rattle.dictionary.specs.Values.{direction_of, AreMoved, IsMoveFault}
 use Rattle.simplex.specs.declared.decision.Step.{Step}
 use Rattle.simplex.specs.declared.decision.Choice.{Choice}
 use Rattle.simplex.specs.declared.decision.Choice.TheVariants.{Next, Stop}

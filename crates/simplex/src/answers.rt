@@ -14,17 +14,16 @@ ghost use Rattle.simplex.specs.Answer.{IsRelaxed, IsNodeStop, IsStuck, source_of
 ghost use Rattle.simplex.specs.declared.runs.End.TheVariants as EndOf;
 
 use crate::contradiction::{contradiction, contradiction_weights};
-use crate::dictionary::Dictionary;
 use crate::fault::Fault;
 use crate::node_copy::copy_node;
 use crate::point::point_of;
 use crate::ray::ray;
 use crate::relaxation::node_system;
 use crate::runs::{End, Ended, RunFault, run};
-use crate::system::System;
 use crate::weights::{Source, weights};
 use basis::Place;
 use certificate::{DerivedRows, Weights};
+use dictionary::{Dictionary, System};
 use fraction::Frac;
 use instance::{Instance, Point};
 use search_node::{Node, Site, Stuck};

@@ -4,12 +4,11 @@ ghost use Rattle.milp.specs.Form.{number_at};
 ghost use Rattle.basis.specs.System.{size};
 ghost use Rattle.basis.specs.Dictionary.{IsBasic};
 ghost use Rattle.basis.specs.Bland.{IsOutside, HasPassed, Mends, Improves, IsLeast};
-ghost use Rattle.simplex.specs.Table.{dictionary_of};
-ghost use Rattle.simplex.specs.Values.{can_mend};
+ghost use Rattle.dictionary.specs.Table.{dictionary_of};
+ghost use Rattle.dictionary.specs.Values.{can_mend};
 
-use crate::dictionary::Dictionary;
-use crate::system::{Bounds, System, may_raise, passed};
 use basis::Place;
+use dictionary::{Bounds, Dictionary, System, may_raise, passed};
 use fraction::Frac;
 
 // The bound that the variable v has passed, if it is basic and has passed one.

@@ -6,8 +6,8 @@ ghost use Rattle.basis.specs.System.{AreBoundsInOrder};
 ghost use Rattle.basis.specs.Weights.{IsContradictory, items_at, items_of, weights_of, contradiction_weights};
 ghost use Rattle.simplex.specs.Crossed.{is_above, are_crossed};
 
-use crate::system::{Bounds, System};
 use certificate::{DerivedRows, Item, Items, Weights};
+use dictionary::{Bounds, System};
 use fraction::Frac;
 use instance::Instance;
 use std::alloc::{AllocError, Global};

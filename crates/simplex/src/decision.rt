@@ -4,8 +4,8 @@ ghost use Rattle.rational.specs.Rational.{Rational, ◌+ℚ◌, ◌*ℚ◌};
 ghost use Rattle.milp.specs.Form.{number_at};
 ghost use Rattle.basis.specs.Dictionary.{RestsAt};
 ghost use Rattle.basis.specs.Bland.{IsOutside, HasPassed, Improves, IsLeast, MendStep};
-ghost use Rattle.simplex.specs.Table.{dictionary_of};
-ghost use Rattle.simplex.specs.Values.{direction_of};
+ghost use Rattle.dictionary.specs.Table.{dictionary_of};
+ghost use Rattle.dictionary.specs.Values.{direction_of};
 ghost use Rattle.simplex.specs.Run.{IsRunFault};
 ghost use Rattle.simplex.specs.Steps.{IsAt, IsChoice, bound_at};
 
@@ -13,8 +13,8 @@ use crate::choose::{first_improving, first_mending, first_outside};
 use crate::ratio::{first_reach, step_to, turned};
 use crate::runs::End;
 use crate::state::State;
-use crate::system::{Bounds, System};
 use basis::Place;
+use dictionary::{Bounds, System};
 use fraction::{Frac, NoFit};
 
 /// One variable enters, and one leaves to a place, which it reaches where the entering one rises by `by`.

@@ -5,11 +5,10 @@ ghost use Rattle.milp.specs.Form.{number_at};
 ghost use Rattle.basis.specs.System.{size};
 ghost use Rattle.basis.specs.Dictionary.{IsResting};
 ghost use Rattle.simplex.specs.Ratio.{turned, bound_ahead, along, IsStepFault, IsLengthFault, IsReachOf, IsFirstReach, sooner_reach, sooner_of};
-ghost use Rattle.simplex.specs.Values.{direction_of};
+ghost use Rattle.dictionary.specs.Values.{direction_of};
 
-use crate::dictionary::Dictionary;
-use crate::system::{Bounds, System};
 use basis::Place;
+use dictionary::{Bounds, Dictionary, System};
 use fraction::{Frac, NoFit};
 
 /// Where and when a variable on its way reaches a bound.

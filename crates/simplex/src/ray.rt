@@ -8,9 +8,9 @@ ghost use Rattle.basis.specs.Weights.{numbers_from};
 ghost use Rattle.simplex.specs.Ratio.{along};
 ghost use Rattle.simplex.specs.Rays.{IsFault, IsRayFault, IsProduct, IsProductFault, AreScaled, numbers_to_be_whole, whole_ray};
 
-use crate::dictionary::Dictionary;
 use crate::fault::Fault;
 use crate::ratio::{change, turned};
+use dictionary::Dictionary;
 use fraction::{Frac, NoFit, common_denominator};
 use instance::{Column, Point};
 use std::alloc::{AllocError, Global};

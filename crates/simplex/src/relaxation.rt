@@ -14,8 +14,8 @@ ghost use Rattle.simplex.specs.Narrowed.{narrowed_by, bounds_at, IsNextFault, Is
 ghost use Rattle.simplex.specs.Rays.{IsFault};
 
 use crate::fault::Fault;
-use crate::system::{Bounds, System};
 use certificate::{Derived, DerivedRows, Side, Split};
+use dictionary::{Bounds, System};
 use fraction::{Frac, NoFit};
 use instance::{Column, Direction, Entries, Entry, Instance, Row, greater, lesser, signed};
 use search_node::{Node, SplitTaken};

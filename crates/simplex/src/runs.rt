@@ -6,10 +6,9 @@ ghost use Rattle.simplex.specs.Steps.{IsAt, IsProgress};
 ghost use Rattle.simplex.specs.declared.runs.RunFault.TheVariants.{NoFit as NotFitting, NoMemory};
 
 use crate::decision::{Choice, decide};
-use crate::dictionary::Dictionary;
 use crate::state::State;
-use crate::system::System;
 use basis::Place;
+use dictionary::{Dictionary, System};
 use fraction::{Frac, NoFit};
 use search_node::Bases;
 use std::alloc::{AllocError, Global};

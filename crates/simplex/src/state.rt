@@ -4,17 +4,14 @@ ghost use Rattle.basis.specs.System.{System as SystemOf, IsSystem, AreBoundsInOr
 ghost use Rattle.basis.specs.Dictionary.{IsBasic, IsResting, IsDictionary};
 ghost use Rattle.basis.specs.Bland.{exchanged};
 ghost use Rattle.basis.specs.declared.Place.TheVariants.{Basic};
-ghost use Rattle.simplex.specs.Sums.{IsStartFault, AreStartNumbers};
-ghost use Rattle.simplex.specs.Table.{dictionary_of, IsPivotFault};
+ghost use Rattle.dictionary.specs.Sums.{IsStartFault, AreStartNumbers};
+ghost use Rattle.dictionary.specs.Table.{dictionary_of, IsPivotFault};
 ghost use Rattle.simplex.specs.Run.{IsFaultOf};
 ghost use Rattle.simplex.specs.Steps.{IsAt, CanLeave, IsAdvanced, IsStepFailure};
 
 use crate::decision::Step;
-use crate::dictionary::Dictionary;
-use crate::moves::move_variables;
 use crate::runs::RunFault;
-use crate::start_values::{first_values, set_forms};
-use crate::system::System;
+use dictionary::{Dictionary, System, first_values, move_variables, set_forms};
 use fraction::{Frac, NoFit};
 use search_node::{Bases, Exchange};
 use std::alloc::Global;

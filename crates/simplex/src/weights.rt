@@ -4,11 +4,11 @@ ghost use Rattle.rational.specs.Rational.{zero_ℚ};
 ghost use Rattle.certificate.specs.Written.{count_max, next_rank};
 ghost use Rattle.basis.specs.Dictionary.{IsBasic, gain_of};
 ghost use Rattle.basis.specs.Weights.{items_at, items_of, weights_of, nonzero, row_weight};
-ghost use Rattle.simplex.specs.Table.{dictionary_of};
+ghost use Rattle.dictionary.specs.Table.{dictionary_of};
 ghost use Rattle.simplex.specs.Sources.{IsFromBasic, weight_from, weights_from};
 
-use crate::dictionary::Dictionary;
 use certificate::{DerivedRows, Item, Items, Weights};
+use dictionary::Dictionary;
 use fraction::Frac;
 use instance::Instance;
 use std::alloc::{AllocError, Global};

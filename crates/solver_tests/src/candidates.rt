@@ -4,7 +4,8 @@ ghost use Rattle.branch_solve.specs.Root.{NoneInteger};
 
 use branch_solve::{SolveFault, solve_with};
 use candidate::{Candidate, ProposedOptimum, ProposedRay};
-use certificate::{Item, Items, Weights, text};
+use certificate::{Item, Items, Weights};
+use certificate_writer::text;
 use fraction::Frac;
 use instance::{Instance, Point};
 use mps_reader::read_mps;

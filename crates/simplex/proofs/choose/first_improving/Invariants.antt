@@ -1,7 +1,7 @@
 use Rattle.std.proofs.Common.{◌<◌, ℕ}
 use Rattle.milp.specs.Form.{number_at}
 use Rattle.basis.specs.Bland.{Improves}
-use Rattle.simplex.specs.Table.{dictionary_of}
+use Rattle.dictionary.specs.Table.{dictionary_of}
 use Rattle.simplex.proofs.choose.first_improving.Given as goal
 
 abbrev pub invariant-loop-q : goal.invariant-loop-q

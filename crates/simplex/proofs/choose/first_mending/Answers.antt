@@ -1,6 +1,6 @@
 use Rattle.milp.specs.Form.{number_at}
 use Rattle.basis.specs.Bland.{Mends}
-use Rattle.simplex.specs.Table.{dictionary_of}
+use Rattle.dictionary.specs.Table.{dictionary_of}
 use Rattle.simplex.proofs.Choices.{one_more}
 use Rattle.simplex.proofs.choose.first_mending.Goals as goal
 

@@ -1,7 +1,7 @@
 use Rattle.std.proofs.Common.{rules}
 use Rattle.milp.specs.Form.{number_at}
-use Rattle.simplex.specs.Table.{dictionary_of}
-use Rattle.simplex.proofs.RowNumbers.{read_number}
+use Rattle.dictionary.specs.Table.{dictionary_of}
+use Rattle.dictionary.proofs.Laws.{read_number}
 use Rattle.simplex.proofs.Choices.{mends_no}
 use Rattle.simplex.proofs.choose.mends.Goals as goal
 

@@ -1,6 +1,6 @@
 use Rattle.std.proofs.Common.{rules}
 use Rattle.milp.specs.Form.{number_at}
-use Rattle.simplex.proofs.RowNumbers.{read_number}
+use Rattle.dictionary.proofs.Laws.{read_number}
 use Rattle.simplex.proofs.Choices.{outside_some}
 use Rattle.simplex.proofs.choose.outside.Goals as goal
 

@@ -1,7 +1,7 @@
 use Rattle.std.proofs.Common.{rules, subst, List}
 use Rattle.rational.specs.Rational.{Rational}
 use Rattle.simplex.specs.Ratio.{IsLengthFault}
-use Rattle.simplex.proofs.RowNumbers.{err_from}
+use Rattle.dictionary.proofs.Laws.{err_from}
 use Rattle.simplex.proofs.DecisionLemmas.{run_fault, is_endless, enter_step}
 use Rattle.simplex.proofs.decision.enter.Goals as goal
 

@@ -2,7 +2,7 @@ use Rattle.std.proofs.Common.{ℕ, subst, List}
 use Rattle.rational.specs.Rational.{Rational}
 use Rattle.milp.specs.Form.{number_at}
 use Rattle.basis.specs.Bland.{Improves}
-use Rattle.simplex.specs.Table.{dictionary_of}
+use Rattle.dictionary.specs.Table.{dictionary_of}
 use Rattle.simplex.proofs.DecisionLemmas.{is_optimal}
 use Rattle.simplex.proofs.decision.improve.Goals as goal
 

@@ -2,7 +2,7 @@ use Rattle.std.proofs.Common.{subst, List}
 use Rattle.rational.specs.Rational.{Rational}
 use Rattle.milp.specs.Form.{number_at}
 use Rattle.basis.specs.Bland.{Mends, IsLeast}
-use Rattle.simplex.specs.Table.{dictionary_of}
+use Rattle.dictionary.specs.Table.{dictionary_of}
 use Rattle.simplex.proofs.DecisionLemmas.{mend_step}
 use Rattle.simplex.proofs.decision.mend.Goals as goal
 

@@ -1,5 +1,5 @@
 use Rattle.std.proofs.Common.{arith}
-use Rattle.simplex.proofs.RowNumbers.{read_number}
+use Rattle.dictionary.proofs.Laws.{read_number}
 use Rattle.simplex.proofs.DecisionLemmas.{mend_moves, way_back_fault}
 use Rattle.simplex.proofs.decision.way_back.Goals as goal
 

@@ -1,5 +1,5 @@
 use Rattle.std.proofs.Common.{rules}
-use Rattle.simplex.proofs.RowNumbers.{err_from, read_number}
+use Rattle.dictionary.proofs.Laws.{err_from, read_number}
 use Rattle.simplex.proofs.RatioLemmas.{reach_moves, reach_some, reach_fault}
 use Rattle.simplex.proofs.ratio.reach_of.Goals as goal
 

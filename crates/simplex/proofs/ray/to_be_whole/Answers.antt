@@ -1,5 +1,5 @@
 use Rattle.std.proofs.Common.{◌<◌, length, rules}
-use Rattle.simplex.proofs.RowNumbers.{read_number}
+use Rattle.dictionary.proofs.Laws.{read_number}
 use Rattle.simplex.proofs.RayNumbers.{one_more_integer}
 use Rattle.simplex.proofs.ray.to_be_whole.Goals as goal
 

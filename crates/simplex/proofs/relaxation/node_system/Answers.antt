@@ -1,6 +1,6 @@
 use Rattle.std.proofs.Common.{◌∙◌, length, subst, sym}
 use Rattle.search_node.specs.Sides.{sides_of}
-use Rattle.simplex.specs.Ascending.{AreAscending}
+use Rattle.dictionary.specs.Ascending.{AreAscending}
 use Rattle.simplex.proofs.NodeParts.{is_made, are_ascending}
 use Rattle.simplex.proofs.Narrowing.{on_columns}
 use Rattle.simplex.proofs.relaxation.node_system.Goals as goal

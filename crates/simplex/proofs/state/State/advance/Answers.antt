@@ -1,7 +1,7 @@
 use Rattle.std.proofs.Common.{rules, subst, List}
 use Rattle.std.proofs.lemmas.List.{with_items_is, places}
 use Rattle.rational.specs.Rational.{Rational}
-use Rattle.simplex.specs.Values.{AreMoved}
+use Rattle.dictionary.specs.Values.{AreMoved}
 use Rattle.simplex.specs.Steps.{IsStepOperation}
 use Rattle.simplex.proofs.StateLemmas.{failed}
 use Rattle.simplex.proofs.state.State.advance.Goals as goal

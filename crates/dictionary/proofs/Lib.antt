@@ -1,0 +1,13 @@
+mod RowNumbers
+mod StartLemmas
+mod StartPoint
+mod StartTable
+mod SumLemmas
+mod MoveLemmas
+mod TableFaults
+mod TableFlip
+mod TableForms
+mod TableMade
+mod TablePivot
+mod TableRows
+pub mod Laws
