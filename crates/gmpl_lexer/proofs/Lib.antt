@@ -2,4 +2,4 @@ pub mod Places
 pub mod Walks
 pub mod Texts
 pub mod Scanned
-mod TokenExamples
+pub mod TokenExamples
