@@ -3,10 +3,10 @@ use crate::lists::{Entry, Lists};
 use crate::numbers::{is_zero, sum, whole};
 use crate::stop::Stop;
 use crate::vectors::{add, at, number_at, put, zeros};
-use certificate::Split;
+use certificate::{Side, Split};
 use fraction::Frac;
 use instance::{Column, Direction, Entry as FormEntry, Instance, Row};
-use search_node::{Side, SplitsTaken};
+use search_node::SplitsTaken;
 use std::alloc::Global;
 
 /// The bounds of a variable.

@@ -1,6 +1,6 @@
 // The parts of a certificate, read off where a search ends.
 ghost use Rattle.std.specs.Prelude.{◌≤◌, ◌<◌, ◌+◌, ◌*◌, OnOk};
-ghost use Rattle.certificate.specs.Written.{count_max, next_place};
+ghost use Rattle.certificate.specs.Written.{count_max, next_rank};
 
 use crate::ending::{Blocked, Endless};
 use crate::model::Model;
@@ -124,8 +124,8 @@ fn items(
 // One more weight, where it is not 0.
 fn add_item(items: &mut Items, index: u32, weight: Frac) -> Result<(), AllocError>
     requires index { index < count_max }
-    requires order { next_place 0 items.old ≤ 2 * index }
-    ensures { OnOk result (next_place 0 items.new ≤ 2 * index + 2) }
+    requires order { next_rank 0 items.old ≤ 2 * index }
+    ensures { OnOk result (next_rank 0 items.new ≤ 2 * index + 2) }
 {
     if weight.parts().0 == 0 {
         return Ok(());
