@@ -136,12 +136,7 @@ Refused:Size cert 1|size 2 3|verdict optimal|value 13/5|point 7/5 6/5 0|derived 
 
 #[test]
 fn best_points(rt: HostRuntime) -> Result<(), Fail> {
-    check_table(
-        &rt,
-        rt.alloc(),
-        two_rows(rt.alloc(), Frac::whole(0)),
-        BEST,
-    )
+    check_table(&rt, rt.alloc(), two_rows(rt.alloc(), Frac::whole(0)), BEST)
 }
 
 // The same with 10 more.

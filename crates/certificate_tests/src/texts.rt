@@ -152,7 +152,10 @@ fn text_that_is_not_utf_8(rt: HostRuntime) {
 // A tree that goes on without a leaf.
 #[test]
 fn deep_tree(rt: HostRuntime) -> Result<(), Fail> {
-    let mut deep = written(rt.alloc(), "cert 1|size 0 1|verdict infeasible|derived 0|tree|")?;
+    let mut deep = written(
+        rt.alloc(),
+        "cert 1|size 0 1|verdict infeasible|derived 0|tree|",
+    )?;
     for _ in 0..10000u32 {
         deep.push_str("branch 1 0\n")?;
     }
