@@ -10,13 +10,14 @@ use Rattle.fraction.specs.Text.{text_of}
 use Rattle.fraction.specs.Fits.{fits, num_fits}
 use Rattle.milp.specs.Form.{Entry}
 use Rattle.verdicts.specs.Certificate.{Verdict, Optimal, Infeasible, Unbounded, Weights, FormSplit, Proof, Plain, BySplit, Derived, TreeNode, Branch, Empty, Bound, Certificate}
-use Rattle.certificate_reader.specs.declared.fault.FaultKind.{FaultKind}
-use Rattle.certificate_reader.specs.declared.fault.CertFault.{CertFault}
+use Rattle.certificate_lines.specs.declared.fault.FaultKind.{FaultKind}
+use Rattle.certificate_lines.specs.declared.fault.CertFault.{CertFault}
 use Rattle.certificate.specs.Written.{count_max, open_after, fills, AreWeights, IsForm, IsProof, IsDerived, IsNode, IsPoint, HasPoint, HasValue, HasTree, HasParts, HasText}
 use Rattle.certificate.specs.Text.{weights_text, form_text, numbers_text, form_split_text, proof_text, derived_text, derived_rows_text, node_text, tree_text, head_text, value_text, point_text, shown_text, body_text, certificate_text}
-use Rattle.certificate_reader.specs.Fields.{◌>>=◌, fields_of}
-use Rattle.certificate_reader.specs.Reading.{Rest, Line, is_feed, closed, line_by, version_in, size_in, verdict_in, value_in, point_in, count_in, word_in, derive_in, side_in, ProofLine, PlainLine, SplitLine, proof_in, proof_from, derived_at, derived_rows_at, node_in, nodes_at, Shown, shown_at, optimal_at, infeasible_at, unbounded_at, body_at, over, certificate_at, read_of}
-use Rattle.certificate_reader.proofs.Pieces.{line_some, pieces_some}
+use Rattle.certificate_lines.specs.Fields.{◌>>=◌, fields_of}
+use Rattle.certificate_lines.specs.Lines.{Rest, Line, is_feed, closed, line_by}
+use Rattle.certificate_reader.specs.Reading.{version_in, size_in, verdict_in, value_in, point_in, count_in, word_in, derive_in, side_in, ProofLine, PlainLine, SplitLine, proof_in, proof_from, derived_at, derived_rows_at, node_in, nodes_at, Shown, shown_at, optimal_at, infeasible_at, unbounded_at, body_at, over, certificate_at, read_of}
+use Rattle.certificate_lines.proofs.Pieces.{line_some, pieces_some}
 use Rattle.certificate_reader.proofs.FieldsFound.{Texts, blanked}
 use Rattle.certificate_reader.proofs.LinesFound.{name_of}
 use Rattle.certificate_reader.proofs.CertificateFound.{plain_glue, split_glue, derived_glue, shown_glue, optimal_glue, unbounded_glue, whole_glue, parts_text, body-parts}

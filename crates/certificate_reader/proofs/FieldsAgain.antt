@@ -18,11 +18,11 @@ use Rattle.milp.specs.Form.{Entry}
 use Rattle.rational.specs.Compare.{is_zero}
 use Rattle.instance.specs.WellFormed.{are_entries_from}
 use Rattle.verdicts.specs.Certificate.{Item, Weights}
-use Rattle.certificate_reader.specs.declared.fault.FaultKind.{FaultKind}
-use Rattle.certificate_reader.specs.declared.fault.FaultKind.TheVariants.{BadLine, TooWide}
+use Rattle.certificate_lines.specs.declared.fault.FaultKind.{FaultKind}
+use Rattle.certificate_lines.specs.declared.fault.FaultKind.TheVariants.{BadLine, TooWide}
 use Rattle.certificate.specs.Written.{count_max, is_negative, rank_of, IsItem, AreItemsFrom, AreWeights, IsForm}
 use Rattle.certificate.specs.Text.{items_text, weights_text, form_text, numbers_text}
-use Rattle.certificate_reader.specs.Fields.{◌>>=◌, expect, counted, count_of, index_of, numbered, number_of, is_some, some_number_of, whole_of, is_blank, is_colon, fields_of, ended, numbers_of, entry_of, form_of, item_of, is_of, items_of, weights_of}
+use Rattle.certificate_lines.specs.Fields.{◌>>=◌, expect, counted, count_of, index_of, numbered, number_of, is_some, some_number_of, whole_of, is_blank, is_colon, fields_of, ended, numbers_of, entry_of, form_of, item_of, is_of, items_of, weights_of}
 use Rattle.certificate_reader.proofs.FieldsFound.{Texts, blanked}
 
 -- ---- bytes

@@ -18,12 +18,12 @@ use Rattle.fraction.specs.declared.read.ReadFault.TheVariants as fault
 use Rattle.milp.specs.Form.{Entry}
 use Rattle.rational.specs.Compare.{is_zero}
 use Rattle.verdicts.specs.Certificate.{Item, Weights}
-use Rattle.certificate_reader.specs.declared.fault.FaultKind.{FaultKind}
-use Rattle.certificate_reader.specs.declared.fault.FaultKind.TheVariants.{BadLine, TooWide}
+use Rattle.certificate_lines.specs.declared.fault.FaultKind.{FaultKind}
+use Rattle.certificate_lines.specs.declared.fault.FaultKind.TheVariants.{BadLine, TooWide}
 use Rattle.certificate.specs.Written.{count_max, rank_of, IsItem, AreItemsFrom, AreWeights, IsForm}
 use Rattle.certificate.specs.Text.{item_text, items_text, weights_text, entry_text, form_text, numbers_text}
-use Rattle.certificate_reader.specs.Fields.{◌>>=◌, expect, counted, count_of, index_of, numbered, number_of, is_some, some_number_of, whole_of, is_blank, is_colon, fields_of, next_field, first_by, after_word, ended, numbers_of, entry_of, form_of, item_of, is_of, items_of, weights_of}
-use Rattle.certificate_reader.proofs.Taken.{bind_ok, expect_ok, counted_ok, index_takes, nonzero_takes, EntryTakes, entry_takes, form_entries}
+use Rattle.certificate_lines.specs.Fields.{◌>>=◌, expect, counted, count_of, index_of, numbered, number_of, is_some, some_number_of, whole_of, is_blank, is_colon, fields_of, next_field, first_by, after_word, ended, numbers_of, entry_of, form_of, item_of, is_of, items_of, weights_of}
+use Rattle.certificate_lines.proofs.Taken.{bind_ok, expect_ok, counted_ok, index_takes, nonzero_takes, EntryTakes, entry_takes, form_entries}
 use Rattle.certificate_reader.proofs.LinesTaken.{chosen, made_of_is}
 
 -- the law of `fraction` on the texts of numbers

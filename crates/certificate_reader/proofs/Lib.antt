@@ -1,8 +1,3 @@
-pub mod Digits
-pub mod Fronts
-pub mod Loops
-pub mod Taken
-pub mod Pieces
 pub mod LinesTaken
 pub mod FieldsFound
 pub mod LinesFound

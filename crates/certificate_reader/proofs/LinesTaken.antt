@@ -8,17 +8,18 @@ use Rattle.milp.specs.Form.{Entry}
 use Rattle.instance.specs.WellFormed.{are_entries}
 use Rattle.verdicts.specs.Certificate.{Derived, TreeNode, Branch, Empty, Bound}
 use Rattle.certificate.specs.Written.{count_max, open_after, fills, is_tree}
-use Rattle.certificate_reader.specs.declared.fault.FaultKind.{FaultKind}
-use Rattle.certificate_reader.specs.declared.fault.FaultKind.TheVariants.{BadLine, Unended}
-use Rattle.certificate_reader.specs.declared.fault.CertFault.{CertFault}
-use Rattle.certificate_reader.specs.declared.fault.CertError.{CertError}
-use Rattle.certificate_reader.specs.declared.fault.CertError.TheVariants as cert_error
-use Rattle.certificate_reader.specs.Fields.{◌>>=◌, number_of, whole_of, fields_of, next_field, first_by, after_word, ended, numbers_of, form_of, weights_of}
-use Rattle.certificate_reader.specs.Reading.{Rest, Line, is_nil, fault_at, line_of, next_from, next_of, closed, line_by, derive_in, point_in, ProofLine, PlainLine, SplitLine, IsHead, plain_in, split_in, proof_after, proof_in, node_in, nodes_at, count_in, word_in, Shown, shown_at, derived_at, derived_rows_at}
-use Rattle.certificate_reader.specs.Gives.{Fails}
-use Rattle.certificate_reader.proofs.Taken.{bind_ok, form_entries}
-use Rattle.certificate_reader.proofs.Pieces.{line_some}
-use Rattle.certificate_reader.proofs.Fronts.{with_front_of, with_front_of-cons}
+use Rattle.certificate_lines.specs.declared.fault.FaultKind.{FaultKind}
+use Rattle.certificate_lines.specs.declared.fault.FaultKind.TheVariants.{BadLine, Unended}
+use Rattle.certificate_lines.specs.declared.fault.CertFault.{CertFault}
+use Rattle.certificate_lines.specs.declared.fault.CertError.{CertError}
+use Rattle.certificate_lines.specs.declared.fault.CertError.TheVariants as cert_error
+use Rattle.certificate_lines.specs.Fields.{◌>>=◌, number_of, whole_of, fields_of, next_field, first_by, after_word, ended, numbers_of, form_of, weights_of}
+use Rattle.certificate_lines.specs.Lines.{Rest, Line, is_nil, fault_at, line_of, next_from, next_of, closed, line_by}
+use Rattle.certificate_reader.specs.Reading.{derive_in, point_in, ProofLine, PlainLine, SplitLine, IsHead, plain_in, split_in, proof_after, proof_in, node_in, nodes_at, count_in, word_in, Shown, shown_at, derived_at, derived_rows_at}
+use Rattle.certificate_lines.specs.Gives.{Fails}
+use Rattle.certificate_lines.proofs.Taken.{bind_ok, form_entries}
+use Rattle.certificate_lines.proofs.Pieces.{line_some}
+use Rattle.certificate_lines.proofs.Fronts.{with_front_of, with_front_of-cons}
 
 abbrev made : {A : Type 0} → A → Result A CertFault
 made x = Ok x

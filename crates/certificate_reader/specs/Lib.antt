@@ -1,4 +1,2 @@
-pub mod Fields
 pub mod Reading
-pub mod Gives
 pub mod Heads

@@ -7,19 +7,18 @@ ghost use Rattle.verdicts.specs.Certificate.{Branch as is_branch, BySplit as by_
 ghost use Rattle.certificate.specs.Values.{verdict_of, proof_of, node_of};
 ghost use Rattle.certificate_reader.specs.Heads.{proof_line_of};
 ghost use Rattle.certificate.specs.Text.{certificate_text};
-ghost use Rattle.certificate_reader.specs.Fields.{fields_of};
-ghost use Rattle.certificate_reader.specs.Reading.{line_by, version_in, size_in, verdict_named, verdict_in, value_in, point_in, count_in, word_in, derive_in, side_in, split_in, plain_in, proof_in, proof_from, derived_at, derived_rows_at, branch_in, node_in, nodes_at, SplitLine, IsHead, shown_at, optimal_at, infeasible_at, unbounded_at, body_at, read_of};
-ghost use Rattle.certificate_reader.specs.Gives.{Takes, LineGives, Gives, Reads};
+ghost use Rattle.certificate_lines.specs.Fields.{fields_of};
+ghost use Rattle.certificate_lines.specs.Lines.{line_by};
+ghost use Rattle.certificate_reader.specs.Reading.{version_in, size_in, verdict_named, verdict_in, value_in, point_in, count_in, word_in, derive_in, side_in, split_in, plain_in, proof_in, proof_from, derived_at, derived_rows_at, branch_in, node_in, nodes_at, SplitLine, IsHead, shown_at, optimal_at, infeasible_at, unbounded_at, body_at, read_of};
+ghost use Rattle.certificate_lines.specs.Gives.{Takes, LineGives, Gives, Reads};
 
-use crate::fault::LineError;
-use crate::fields::{
-    after_word, count, end, fields_in, first, form, index, number, numbers, weights, whole,
-};
-use crate::lines::{Lines, closed, fault_at};
-use crate::{CertError, FaultKind};
 use certificate::{
     Certificate, Derived, DerivedRows, FormSplit, Proof, Split, Tree, TreeNode, Verdict, Weights,
     WholeNumber,
+};
+use certificate_lines::{
+    CertError, FaultKind, LineError, Lines, after_word, closed, count, end, fault_at, fields_in,
+    first, form, index, number, numbers, weights, whole,
 };
 use fraction::{Frac, texts};
 use instance::{Entries, Point};
@@ -140,11 +139,7 @@ fn point_line(
 {
     let line = lines.next()?;
     let fields = fields_in(alloc, line.text)?;
-    closed(
-        line.number,
-        line.feed,
-        point(alloc, word, columns, &fields),
-    )
+    closed(line.number, line.feed, point(alloc, word, columns, &fields))
 }
 
 // As many numbers as there are columns.

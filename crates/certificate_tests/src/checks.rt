@@ -1,420 +1,190 @@
 // Worked certificates that are accepted, and their twins that are refused at a part.
-ghost use Rattle.std.specs.Prelude.{◌≡◌, ◌+◌, IsTrue, false, IfSome, length};
-ghost use Rattle.rational.specs.Compare.{is_zero};
-ghost use Rattle.instance.specs.WellFormed.{are_entries};
-
-use cert_check::{CheckFault, Checked, Part, check};
+use crate::problems::{endless, odd_difference, thirds, two_rows};
+use crate::rows::written;
+use cert_check::{CheckFault, Checked, check};
 use certificate_reader::{CertError, read};
 use fraction::Frac;
-use instance::{Builder, Column, Entries, Entry, Instance, Name, Row};
+use instance::Instance;
 use milp::Direction;
-use std::alloc::Global;
+use std::alloc::{AllocError, Global};
+use std::process::Abort;
+use std::test::Fail;
 
-// What comes of the text of a certificate.
-#[derive(Clone, Copy, Debug, PartialEq, Eq)]
-enum Told {
-    Accepted,
-    Refused(Part),
-    // A number does not fit in the test of a part.
-    NoFit(Part),
-    // The text has a fault in this line.
-    Unread(u64),
-}
-
-fn answer_of(checked: Result<Checked, CheckFault>) -> Told {
+// A check's answer in a word, with the part that it names.
+fn checked_text(alloc: Global, checked: Result<Checked, CheckFault>) -> Result<String, AllocError> {
     match checked {
-        Ok(Checked::Accepted) => Told::Accepted,
-        Ok(Checked::Refused(part)) => Told::Refused(part),
-        Err(fault) => Told::NoFit(fault.part),
+        Ok(Checked::Accepted) => String::from_str(alloc, "Accepted"),
+        Ok(Checked::Refused(part)) => format!(in alloc; "Refused:{part:?}"),
+        Err(fault) => format!(in alloc; "NoFit:{:?}", fault.part),
     }
 }
 
-fn answer(alloc: Global, problem: &Instance, text: &str) -> Option<Told> {
+// The same, or the line of the text's first fault.
+fn answer_text(alloc: Global, problem: &Instance, text: &str) -> Result<String, AllocError> {
     match read(alloc, text.as_bytes()) {
-        Ok(certificate) => Some(answer_of(check(problem, &certificate))),
-        Err(CertError::Fault(fault)) => Some(Told::Unread(fault.line)),
-        Err(CertError::NoMemory) => None,
+        Ok(certificate) => checked_text(alloc, check(problem, &certificate)),
+        Err(CertError::Fault(fault)) => format!(in alloc; "Unread:{}", fault.line),
+        Err(CertError::NoMemory) => String::from_str(alloc, "NoMemory"),
     }
 }
 
-// One more column, at least 0.
-fn add_column(alloc: Global, builder: &mut Builder, name: &str, integer: bool) -> Option<u32>
-    ensures { IfSome result (λ place. length builder.new.columns ≡ place + 1) }
-{
-    if builder.has_column(name) {
-        return None;
-    }
-    let name = Name::new(alloc, name).ok()?;
-    let column = Column::new(name, Some(Frac::whole(0)), None, integer);
-    builder.column(column).ok()
-}
-
-fn one_column(alloc: Global, integer: bool) -> Option<Builder>
-    ensures { IfSome result (λ builder. length builder.columns ≡ 1) }
-{
-    let mut builder = Builder::new(alloc).ok()?;
-    if add_column(alloc, &mut builder, "x", integer)? != 0 {
-        return None;
-    }
-    Some(builder)
-}
-
-fn two_columns(alloc: Global, integer: bool) -> Option<Builder>
-    ensures { IfSome result (λ builder. length builder.columns ≡ 2) }
-{
-    let mut builder = Builder::new(alloc).ok()?;
-    add_column(alloc, &mut builder, "x", integer)?;
-    if add_column(alloc, &mut builder, "y", integer)? != 1 {
-        return None;
-    }
-    Some(builder)
-}
-
-fn form_of_one(alloc: Global, x: Frac) -> Option<Entries>
-    requires { is_zero x ≡ false }
-    ensures { IfSome result (λ form. IsTrue (are_entries 1 form)) }
-{
-    let mut entries = Vec::new(alloc);
-    let x = Entry {
-        column: 0,
-        coefficient: x,
-    };
-    entries.push(x).ok()?;
-    Some(Entries::from_vec(entries))
-}
-
-fn form_of_two(alloc: Global, x: Frac, y: Frac) -> Option<Entries>
-    requires x { is_zero x ≡ false }
-    requires y { is_zero y ≡ false }
-    ensures { IfSome result (λ form. IsTrue (are_entries 2 form)) }
-{
-    let mut entries = Vec::new(alloc);
-    let x = Entry {
-        column: 0,
-        coefficient: x,
-    };
-    let y = Entry {
-        column: 1,
-        coefficient: y,
-    };
-    entries.push(x).ok()?;
-    entries.push(y).ok()?;
-    Some(Entries::from_vec(entries))
-}
-
-fn add_row(
+// Each row of a table is the answer that is wanted, and a text; a row after `#` says what the next one tries.
+fn check_table(
+    rt: &impl Abort,
     alloc: Global,
-    builder: &mut Builder,
-    name: &str,
-    lower: Option<Frac>,
-    upper: Frac,
-    entries: Entries,
-) -> Option<u32>
-    requires { IsTrue (are_entries (length builder.old.columns) entries) }
-    ensures { IfSome result (λ _. length builder.new.columns ≡ length builder.old.columns) }
-{
-    if builder.has_row(name) {
-        return None;
+    problem: Option<Instance>,
+    table: &str,
+) -> Result<(), Fail> {
+    let Some(problem) = problem else {
+        panic!(rt; "a problem");
+    };
+    for row in table.lines() {
+        if !row.starts_with('#') {
+            check_row(rt, alloc, &problem, row)?;
+        }
     }
-    let name = Name::new(alloc, name).ok()?;
-    builder
-        .row(Row::new(name, lower, Some(upper), entries))
-        .ok()
+    Ok(())
 }
 
-// The least 0, where 2 x - 2 y is 1, and x and y are whole.
-fn odd_difference(alloc: Global) -> Option<Instance> {
-    let mut builder = two_columns(alloc, true)?;
-    let one = Frac::whole(1);
-    let difference = form_of_two(alloc, Frac::whole(2), Frac::whole(-2))?;
-    add_row(alloc, &mut builder, "r", Some(one), one, difference)?;
-    Some(builder.done())
-}
-
-// The least 0, where 3 x is from 1 to 2.
-fn thirds(alloc: Global, integer: bool) -> Option<Instance> {
-    let mut builder = one_column(alloc, integer)?;
-    let (one, two) = (Frac::whole(1), Frac::whole(2));
-    let triple = form_of_one(alloc, Frac::whole(3))?;
-    add_row(alloc, &mut builder, "r", Some(one), two, triple)?;
-    Some(builder.done())
-}
-
-// The greatest x + y + constant, where 2 x + y is at most 4 and x + 3 y at most 5.
-fn two_rows(alloc: Global, constant: Frac) -> Option<Instance> {
-    let mut builder = two_columns(alloc, false)?;
-    let (one, two, three) = (Frac::whole(1), Frac::whole(2), Frac::whole(3));
-    let first = form_of_two(alloc, two, one)?;
-    add_row(alloc, &mut builder, "r", None, Frac::whole(4), first)?;
-    let second = form_of_two(alloc, one, three)?;
-    add_row(alloc, &mut builder, "s", None, Frac::whole(5), second)?;
-    let sum = form_of_two(alloc, one, one)?;
-    let name = Name::new(alloc, "sum").ok()?;
-    builder.objective(Direction::Max, name, sum, constant);
-    Some(builder.done())
-}
-
-// The least or the greatest x.
-fn endless(alloc: Global, direction: Direction, integer: bool) -> Option<Instance> {
-    let mut builder = one_column(alloc, integer)?;
-    let form = form_of_one(alloc, Frac::whole(1))?;
-    let name = Name::new(alloc, "cost").ok()?;
-    builder.objective(direction, name, form, Frac::whole(0));
-    Some(builder.done())
+fn check_row(rt: &impl Abort, alloc: Global, problem: &Instance, row: &str) -> Result<(), Fail> {
+    let Some((wanted, text)) = row.split_once(' ') else {
+        panic!(rt; "an answer: {row}");
+    };
+    let text = written(alloc, text)?;
+    let found = answer_text(alloc, problem, &text)?;
+    assert_eq!(rt; found.as_str(), wanted, "at {row}");
+    Ok(())
 }
 
 // Of 2 x - 2 y = 1 in whole numbers. The derived row says that 0 is at least 1: x - y is at most 0 or at least 1.
-const DERIVED_ROWS: [(&str, Told); 9] = [
-    (
-        "cert 1\nsize 1 2\nverdict infeasible\nderived 1\nderive 1\nsplit 0 1:1 2:-1\nlow 2 r1:1\nhigh 2 r1:-1\ntree\nempty d1:1\nend\n",
-        Told::Accepted,
-    ),
-    // One side leaves 2 x - 2 y.
-    (
-        "cert 1\nsize 1 2\nverdict infeasible\nderived 1\nderive 1\nsplit 0 1:1 2:-1\nlow 2 r1:1\nhigh 2\ntree\nempty d1:1\nend\n",
-        Told::Refused(Part::DerivedRow(1)),
-    ),
-    // The split's form is not whole.
-    (
-        "cert 1\nsize 1 2\nverdict infeasible\nderived 1\nderive 1\nsplit 0 1:1/2 2:-1/2\nlow 4 r1:1\nhigh 4 r1:-1\ntree\nempty d1:1\nend\n",
-        Told::Refused(Part::DerivedRow(1)),
-    ),
-    // The weight of a side's inequality is negative.
-    (
-        "cert 1\nsize 1 2\nverdict infeasible\nderived 1\nderive -1\nsplit 0 1:1 2:-1\nlow -2 r1:-1\nhigh 2 r1:-1\ntree\nempty d1:1\nend\n",
-        Told::Refused(Part::DerivedRow(1)),
-    ),
-    // The form has a third column.
-    (
-        "cert 1\nsize 1 2\nverdict infeasible\nderived 1\nderive 1 3:1\nsplit 0 1:1 2:-1\nlow 2 r1:1\nhigh 2 r1:-1\ntree\nempty d1:1\nend\n",
-        Told::Refused(Part::DerivedRow(1)),
-    ),
-    // A derived row by another.
-    (
-        "cert 1\nsize 1 2\nverdict infeasible\nderived 2\nderive 1\nsplit 0 1:1 2:-1\nlow 2 r1:1\nhigh 2 r1:-1\nderive 1\nplain d1:1\ntree\nempty d2:1\nend\n",
-        Told::Refused(Part::DerivedRow(2)),
-    ),
-    // A derived row has no upper bound.
-    (
-        "cert 1\nsize 1 2\nverdict infeasible\nderived 1\nderive 1\nsplit 0 1:1 2:-1\nlow 2 r1:1\nhigh 2 r1:-1\ntree\nempty d1:-1\nend\n",
-        Told::Refused(Part::Node(1)),
-    ),
-    // There is no second row.
-    (
-        "cert 1\nsize 1 2\nverdict infeasible\nderived 0\ntree\nempty r2:1\nend\n",
-        Told::Refused(Part::Node(1)),
-    ),
-    // There is no value that a leaf's points could fail to better.
-    (
-        "cert 1\nsize 1 2\nverdict infeasible\nderived 0\ntree\nbound\nend\n",
-        Told::Refused(Part::Node(1)),
-    ),
-];
+const DERIVED_ROWS: &str = "\
+Accepted cert 1|size 1 2|verdict infeasible|derived 1|derive 1|split 0 1:1 2:-1|low 2 r1:1|high 2 r1:-1|tree|empty d1:1|end|
+# One side leaves 2 x - 2 y.
+Refused:DerivedRow(1) cert 1|size 1 2|verdict infeasible|derived 1|derive 1|split 0 1:1 2:-1|low 2 r1:1|high 2|tree|empty d1:1|end|
+# The split's form is not whole.
+Refused:DerivedRow(1) cert 1|size 1 2|verdict infeasible|derived 1|derive 1|split 0 1:1/2 2:-1/2|low 4 r1:1|high 4 r1:-1|tree|empty d1:1|end|
+# The weight of a side's inequality is negative.
+Refused:DerivedRow(1) cert 1|size 1 2|verdict infeasible|derived 1|derive -1|split 0 1:1 2:-1|low -2 r1:-1|high 2 r1:-1|tree|empty d1:1|end|
+# The form has a third column.
+Refused:DerivedRow(1) cert 1|size 1 2|verdict infeasible|derived 1|derive 1 3:1|split 0 1:1 2:-1|low 2 r1:1|high 2 r1:-1|tree|empty d1:1|end|
+# A derived row by another.
+Refused:DerivedRow(2) cert 1|size 1 2|verdict infeasible|derived 2|derive 1|split 0 1:1 2:-1|low 2 r1:1|high 2 r1:-1|derive 1|plain d1:1|tree|empty d2:1|end|
+# A derived row has no upper bound.
+Refused:Node(1) cert 1|size 1 2|verdict infeasible|derived 1|derive 1|split 0 1:1 2:-1|low 2 r1:1|high 2 r1:-1|tree|empty d1:-1|end|
+# There is no second row.
+Refused:Node(1) cert 1|size 1 2|verdict infeasible|derived 0|tree|empty r2:1|end|
+# There is no value that a leaf's points could fail to better.
+Refused:Node(1) cert 1|size 1 2|verdict infeasible|derived 0|tree|bound|end|
+";
 
 #[test]
-fn derived_rows(rt: HostRuntime) {
-    let Some(problem) = odd_difference(rt.alloc()) else {
-        panic!(rt; "problem");
-    };
-    for (text, expected) in &DERIVED_ROWS {
-        assert!(rt;
-            answer(rt.alloc(), &problem, text) == Some(*expected),
-            "{text}"
-        );
-    }
+fn derived_rows(rt: HostRuntime) -> Result<(), Fail> {
+    check_table(&rt, rt.alloc(), odd_difference(rt.alloc()), DERIVED_ROWS)
 }
 
 // Of 1 <= 3 x <= 2 in whole numbers.
-const BRANCHES: [(&str, Told); 8] = [
-    (
-        "cert 1\nsize 1 1\nverdict infeasible\nderived 0\ntree\nbranch 1 0\nempty r1:1 c1:-3\nempty r1:-1 c1:3\nend\n",
-        Told::Accepted,
-    ),
-    // x has no upper bound on the high side.
-    (
-        "cert 1\nsize 1 1\nverdict infeasible\nderived 0\ntree\nbranch 1 0\nempty r1:1 c1:-3\nempty r1:1 c1:-3\nend\n",
-        Told::Refused(Part::Node(3)),
-    ),
-    // There is no second column.
-    (
-        "cert 1\nsize 1 1\nverdict infeasible\nderived 0\ntree\nbranch 2 0\nempty r1:1 c1:-3\nempty r1:-1 c1:3\nend\n",
-        Told::Refused(Part::Node(1)),
-    ),
-    // A leaf is left out.
-    (
-        "cert 1\nsize 1 1\nverdict infeasible\nderived 0\ntree\nbranch 1 0\nempty r1:1 c1:-3\nend\n",
-        Told::Unread(8),
-    ),
-    // A leaf is one too many.
-    (
-        "cert 1\nsize 1 1\nverdict infeasible\nderived 0\ntree\nbranch 1 0\nempty r1:1 c1:-3\nempty r1:-1 c1:3\nempty r1:-1 c1:3\nend\n",
-        Told::Unread(9),
-    ),
-    // Three times the greatest number is too great.
-    (
-        "cert 1\nsize 1 1\nverdict infeasible\nderived 0\ntree\nbranch 1 0\nempty r1:170141183460469231731687303715884105727\nempty r1:-1 c1:3\nend\n",
-        Told::NoFit(Part::Node(2)),
-    ),
-    (
-        "cert 1\nsize 1 1\nverdict infeasible\nderived 1\nderive 1\nplain r1:170141183460469231731687303715884105727\ntree\nempty d1:1\nend\n",
-        Told::NoFit(Part::DerivedRow(1)),
-    ),
-    (
-        "cert 1\nsize 1 1\nverdict optimal\nvalue 0\npoint 170141183460469231731687303715884105727\nderived 0\ntree\nbound\nend\n",
-        Told::NoFit(Part::Point),
-    ),
-];
+const BRANCHES: &str = "\
+Accepted cert 1|size 1 1|verdict infeasible|derived 0|tree|branch 1 0|empty r1:1 c1:-3|empty r1:-1 c1:3|end|
+# A branch on the low side, and one on the high side: each bound is the last on its way.
+Accepted cert 1|size 1 1|verdict infeasible|derived 0|tree|branch 1 1|branch 1 0|empty r1:1 c1:-3|empty r1:-1 c1:3|empty r1:-1 c1:3|end|
+Accepted cert 1|size 1 1|verdict infeasible|derived 0|tree|branch 1 0|empty r1:1 c1:-3|branch 1 1|empty r1:-1 c1:3|empty r1:-1 c1:3|end|
+Refused:Node(4) cert 1|size 1 1|verdict infeasible|derived 0|tree|branch 1 1|branch 1 0|empty r1:1 c1:-3|empty r1:1 c1:-3|empty r1:-1 c1:3|end|
+# x has no upper bound on the high side.
+Refused:Node(3) cert 1|size 1 1|verdict infeasible|derived 0|tree|branch 1 0|empty r1:1 c1:-3|empty r1:1 c1:-3|end|
+# There is no second column.
+Refused:Node(1) cert 1|size 1 1|verdict infeasible|derived 0|tree|branch 2 0|empty r1:1 c1:-3|empty r1:-1 c1:3|end|
+# A leaf is left out.
+Unread:8 cert 1|size 1 1|verdict infeasible|derived 0|tree|branch 1 0|empty r1:1 c1:-3|end|
+# A leaf is one too many.
+Unread:9 cert 1|size 1 1|verdict infeasible|derived 0|tree|branch 1 0|empty r1:1 c1:-3|empty r1:-1 c1:3|empty r1:-1 c1:3|end|
+# Three times the greatest number is too great.
+NoFit:Node(2) cert 1|size 1 1|verdict infeasible|derived 0|tree|branch 1 0|empty r1:170141183460469231731687303715884105727|empty r1:-1 c1:3|end|
+NoFit:DerivedRow(1) cert 1|size 1 1|verdict infeasible|derived 1|derive 1|plain r1:170141183460469231731687303715884105727|tree|empty d1:1|end|
+NoFit:Point cert 1|size 1 1|verdict optimal|value 0|point 170141183460469231731687303715884105727|derived 0|tree|bound|end|
+";
 
 #[test]
-fn branches(rt: HostRuntime) {
-    let Some(problem) = thirds(rt.alloc(), true) else {
-        panic!(rt; "problem");
-    };
-    for (text, expected) in &BRANCHES {
-        assert!(rt;
-            answer(rt.alloc(), &problem, text) == Some(*expected),
-            "{text}"
-        );
-    }
+fn branches(rt: HostRuntime) -> Result<(), Fail> {
+    check_table(&rt, rt.alloc(), thirds(rt.alloc(), true), BRANCHES)
 }
 
 // A branch on a column that takes all numbers.
+const BRANCH_OF_ANY_NUMBERS: &str =
+    "Refused:Node(1) cert 1|size 1 1|verdict infeasible|derived 0|tree|branch 1 0|empty r1:1 c1:-3|empty r1:-1 c1:3|end|";
+
 #[test]
-fn branch_of_any_numbers(rt: HostRuntime) {
-    let Some(problem) = thirds(rt.alloc(), false) else {
-        panic!(rt; "problem");
-    };
-    let text =
-        "cert 1\nsize 1 1\nverdict infeasible\nderived 0\ntree\nbranch 1 0\nempty r1:1 c1:-3\nempty r1:-1 c1:3\nend\n";
-    let expected = Told::Refused(Part::Node(1));
-    assert!(rt; answer(rt.alloc(), &problem, text) == Some(expected));
+fn branch_of_any_numbers(rt: HostRuntime) -> Result<(), Fail> {
+    check_table(
+        &rt,
+        rt.alloc(),
+        thirds(rt.alloc(), false),
+        BRANCH_OF_ANY_NUMBERS,
+    )
 }
 
 // Of the greatest x + y, where 2 x + y is at most 4 and x + 3 y at most 5.
-const BEST: [(&str, Told); 6] = [
-    (
-        "cert 1\nsize 2 2\nverdict optimal\nvalue 13/5\npoint 7/5 6/5\nderived 0\ntree\nbound r1:-2/5 r2:-1/5\nend\n",
-        Told::Accepted,
-    ),
-    // The first row has no lower bound.
-    (
-        "cert 1\nsize 2 2\nverdict optimal\nvalue 13/5\npoint 7/5 6/5\nderived 0\ntree\nbound r1:2/5 r2:-1/5\nend\n",
-        Told::Refused(Part::Node(1)),
-    ),
-    // There are better points.
-    (
-        "cert 1\nsize 2 2\nverdict optimal\nvalue 2\npoint 1 1\nderived 0\ntree\nbound r1:-2/5 r2:-1/5\nend\n",
-        Told::Refused(Part::Node(1)),
-    ),
-    (
-        "cert 1\nsize 2 2\nverdict optimal\nvalue 3\npoint 7/5 6/5\nderived 0\ntree\nbound r1:-2/5 r2:-1/5\nend\n",
-        Told::Refused(Part::Value),
-    ),
-    (
-        "cert 1\nsize 2 2\nverdict optimal\nvalue 3\npoint 2 1\nderived 0\ntree\nbound r1:-2/5 r2:-1/5\nend\n",
-        Told::Refused(Part::Point),
-    ),
-    (
-        "cert 1\nsize 2 3\nverdict optimal\nvalue 13/5\npoint 7/5 6/5 0\nderived 0\ntree\nbound r1:-2/5 r2:-1/5\nend\n",
-        Told::Refused(Part::Size),
-    ),
-];
+const BEST: &str = "\
+Accepted @bound r1:-2/5 r2:-1/5|end|
+# The first row has no lower bound.
+Refused:Node(1) @bound r1:2/5 r2:-1/5|end|
+# There are better points.
+Refused:Node(1) cert 1|size 2 2|verdict optimal|value 2|point 1 1|derived 0|tree|bound r1:-2/5 r2:-1/5|end|
+Refused:Value cert 1|size 2 2|verdict optimal|value 3|point 7/5 6/5|derived 0|tree|bound r1:-2/5 r2:-1/5|end|
+Refused:Point cert 1|size 2 2|verdict optimal|value 3|point 2 1|derived 0|tree|bound r1:-2/5 r2:-1/5|end|
+Refused:Size cert 1|size 2 3|verdict optimal|value 13/5|point 7/5 6/5 0|derived 0|tree|bound r1:-2/5 r2:-1/5|end|
+";
 
 #[test]
-fn best_points(rt: HostRuntime) {
-    let Some(problem) = two_rows(rt.alloc(), Frac::whole(0)) else {
-        panic!(rt; "problem");
-    };
-    for (text, expected) in &BEST {
-        assert!(rt;
-            answer(rt.alloc(), &problem, text) == Some(*expected),
-            "{text}"
-        );
-    }
+fn best_points(rt: HostRuntime) -> Result<(), Fail> {
+    check_table(&rt, rt.alloc(), two_rows(rt.alloc(), Frac::whole(0)), BEST)
 }
 
 // The same with 10 more.
-const BEST_AND_TEN: [(&str, Told); 2] = [
-    (
-        "cert 1\nsize 2 2\nverdict optimal\nvalue 63/5\npoint 7/5 6/5\nderived 0\ntree\nbound r1:-2/5 r2:-1/5\nend\n",
-        Told::Accepted,
-    ),
-    (
-        "cert 1\nsize 2 2\nverdict optimal\nvalue 13/5\npoint 7/5 6/5\nderived 0\ntree\nbound r1:-2/5 r2:-1/5\nend\n",
-        Told::Refused(Part::Value),
-    ),
-];
+const BEST_AND_TEN: &str = "\
+Accepted cert 1|size 2 2|verdict optimal|value 63/5|point 7/5 6/5|derived 0|tree|bound r1:-2/5 r2:-1/5|end|
+Refused:Value @bound r1:-2/5 r2:-1/5|end|
+";
 
 #[test]
-fn best_points_with_a_constant(rt: HostRuntime) {
-    let Some(problem) = two_rows(rt.alloc(), Frac::whole(10)) else {
-        panic!(rt; "problem");
-    };
-    for (text, expected) in &BEST_AND_TEN {
-        assert!(rt;
-            answer(rt.alloc(), &problem, text) == Some(*expected),
-            "{text}"
-        );
-    }
+fn best_points_with_a_constant(rt: HostRuntime) -> Result<(), Fail> {
+    check_table(
+        &rt,
+        rt.alloc(),
+        two_rows(rt.alloc(), Frac::whole(10)),
+        BEST_AND_TEN,
+    )
 }
 
-// Of x at least 0: what is told where the greatest whole x is wanted, the greatest x, and the least.
-const RAYS: [(&str, Told, Told, Told); 5] = [
-    (
-        "cert 1\nsize 0 1\nverdict unbounded\npoint 0\nray 1\nend\n",
-        Told::Accepted,
-        Told::Accepted,
-        Told::Refused(Part::Ray),
-    ),
-    (
-        "cert 1\nsize 0 1\nverdict unbounded\npoint 1\nray 1/2\nend\n",
-        Told::Refused(Part::Ray),
-        Told::Accepted,
-        Told::Refused(Part::Ray),
-    ),
-    // It goes nowhere.
-    (
-        "cert 1\nsize 0 1\nverdict unbounded\npoint 0\nray 0\nend\n",
-        Told::Refused(Part::Ray),
-        Told::Refused(Part::Ray),
-        Told::Refused(Part::Ray),
-    ),
-    // It leads past the lower bound.
-    (
-        "cert 1\nsize 0 1\nverdict unbounded\npoint 0\nray -1\nend\n",
-        Told::Refused(Part::Ray),
-        Told::Refused(Part::Ray),
-        Told::Refused(Part::Ray),
-    ),
-    (
-        "cert 1\nsize 0 1\nverdict unbounded\npoint -1\nray 1\nend\n",
-        Told::Refused(Part::Point),
-        Told::Refused(Part::Point),
-        Told::Refused(Part::Point),
-    ),
-];
-
-// What is told of a ray.
-fn ray_answer(alloc: Global, direction: Direction, integer: bool, text: &str) -> Option<Told> {
-    let problem = endless(alloc, direction, integer)?;
-    answer(alloc, &problem, text)
-}
+// Of the greatest whole x, at least 0.
+const WHOLE_RAYS: &str = "\
+Accepted cert 1|size 0 1|verdict unbounded|point 0|ray 1|end|
+# It leaves the whole numbers.
+Refused:Ray cert 1|size 0 1|verdict unbounded|point 1|ray 1/2|end|
+# It goes nowhere.
+Refused:Ray cert 1|size 0 1|verdict unbounded|point 0|ray 0|end|
+# It leads past the lower bound.
+Refused:Ray cert 1|size 0 1|verdict unbounded|point 0|ray -1|end|
+Refused:Point cert 1|size 0 1|verdict unbounded|point -1|ray 1|end|
+";
 
 #[test]
-fn rays(rt: HostRuntime) {
-    let alloc = rt.alloc();
-    for (text, whole, greatest, least) in &RAYS {
-        assert!(rt;
-            ray_answer(alloc, Direction::Max, true, text) == Some(*whole),
-            "{text}"
-        );
-        assert!(rt;
-            ray_answer(alloc, Direction::Max, false, text) == Some(*greatest),
-            "{text}"
-        );
-        assert!(rt;
-            ray_answer(alloc, Direction::Min, false, text) == Some(*least),
-            "{text}"
-        );
-    }
+fn whole_rays(rt: HostRuntime) -> Result<(), Fail> {
+    let problem = endless(rt.alloc(), Direction::Max, true);
+    check_table(&rt, rt.alloc(), problem, WHOLE_RAYS)
+}
+
+// Of the greatest x, at least 0.
+#[test]
+fn rays_of_any_numbers(rt: HostRuntime) -> Result<(), Fail> {
+    let problem = endless(rt.alloc(), Direction::Max, false);
+    let row = "Accepted cert 1|size 0 1|verdict unbounded|point 1|ray 1/2|end|";
+    check_table(&rt, rt.alloc(), problem, row)
+}
+
+// Of the least x, at least 0: the ray makes it worse.
+#[test]
+fn rays_of_the_other_direction(rt: HostRuntime) -> Result<(), Fail> {
+    let problem = endless(rt.alloc(), Direction::Min, false);
+    let row = "Refused:Ray cert 1|size 0 1|verdict unbounded|point 0|ray 1|end|";
+    check_table(&rt, rt.alloc(), problem, row)
 }

@@ -17,7 +17,7 @@ use Rattle.simplex.specs.Run.{IsLimited}
 use Rattle.branch_solve.specs.Solved.{IsRoot}
 use Rattle.basis.specs.declared.Place.{Place}
 use Rattle.certificate_reader.specs.Reading.{read_of}
-use Rattle.certificate_reader.specs.declared.fault.CertFault.{CertFault}
+use Rattle.certificate_lines.specs.declared.fault.CertFault.{CertFault}
 use Rattle.cert_check.specs.Outcome.{Fault, outcome, trials, part_of}
 use Rattle.cert_check.specs.declared.part.Part.{Part}
 use Rattle.search_node.specs.declared.node.Node.{Node}

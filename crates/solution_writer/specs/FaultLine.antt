@@ -7,9 +7,9 @@ use Rattle.fraction.specs.declared.frac.Op.TheVariants.{Add, Sub, Mul, Div}
 use Rattle.fraction.specs.declared.frac.NoFit.{NoFit}
 use Rattle.model_text.specs.KindText.{kind_text}
 use Rattle.model_text.specs.declared.fault.FileFault.{FileFault}
-use Rattle.certificate_reader.specs.declared.fault.FaultKind.{FaultKind}
-use Rattle.certificate_reader.specs.declared.fault.FaultKind.TheVariants.{BadLine, TooWide, Unended, Extra}
-use Rattle.certificate_reader.specs.declared.fault.CertFault.{CertFault}
+use Rattle.certificate_lines.specs.declared.fault.FaultKind.{FaultKind}
+use Rattle.certificate_lines.specs.declared.fault.FaultKind.TheVariants.{BadLine, TooWide, Unended, Extra}
+use Rattle.certificate_lines.specs.declared.fault.CertFault.{CertFault}
 use Rattle.cert_check.specs.declared.part.Part.{Part}
 use Rattle.cert_check.specs.declared.part.Part.TheVariants.{Size, Point, Value, Ray, DerivedRow, Node}
 use Rattle.solution_writer.specs.declared.fault.Fault.{Fault}

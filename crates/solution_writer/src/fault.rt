@@ -3,7 +3,7 @@ ghost use Rattle.std.specs.Prelude.{◌≡◌, IfOk, string_bytes};
 ghost use Rattle.solution_writer.specs.FaultLine.{operator_text, named_line, file_line, overflow_line, fault_line, certificate_kind_text, certificate_line, part_text, refused_line};
 
 use cert_check::Part;
-use certificate_reader::{CertFault, FaultKind};
+use certificate_lines::{CertFault, FaultKind};
 use fraction::{NoFit, Op};
 use instance::Name;
 use model_text::FileFault;

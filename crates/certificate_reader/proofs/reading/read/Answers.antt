@@ -1,10 +1,10 @@
 use Rattle.std.proofs.Common.{◌≡◌, ◌∙◌, List, ℕ, Result, Ok, Err, ap, subst}
 use Rattle.std.specs.Prelude.{IfOk}
 use Rattle.verdicts.specs.Certificate.{Certificate}
-use Rattle.certificate_reader.specs.declared.fault.CertError.{CertError}
+use Rattle.certificate_lines.specs.declared.fault.CertError.{CertError}
 use Rattle.certificate.specs.Text.{certificate_text}
 use Rattle.certificate_reader.specs.Reading.{read_of}
-use Rattle.certificate_reader.specs.Gives.{Gives}
+use Rattle.certificate_lines.specs.Gives.{Gives}
 use Rattle.certificate_reader.proofs.FieldsFound.{Texts}
 use Rattle.certificate_reader.proofs.CertificateFound.{certificate_found}
 use Rattle.certificate_reader.proofs.CertificateAgain.{certificate_again}

@@ -1,6 +1,6 @@
 use Rattle.std.proofs.Common.{◌≡◌, ◌+◌, ◌≤◌, length}
 use Rattle.certificate_reader.specs.Reading.{nodes_at}
-use Rattle.certificate_reader.proofs.Fronts.{with_front_of}
+use Rattle.certificate_lines.proofs.Fronts.{with_front_of}
 use Rattle.certificate_reader.proofs.reading.tree.Given as goal
 
 abbrev pub invariant-loop-open : goal.invariant-loop-open

@@ -1,6 +1,0 @@
-use Rattle.std.proofs.Common.{sym, ap, ◌∙◌}
-use Rattle.certificate_reader.proofs.Loops.{texts, drop-map}
-use Rattle.certificate_reader.proofs.fields.after.Goals as goal
-
-pub returns : goal.returns
-returns c = ap texts c.split_at.ensures.back ∙ sym (drop-map c.args.count c.args.fields.now)
