@@ -10,11 +10,11 @@ ghost use Rattle.cplex_lp_reader.specs.declared.expecting.Limit.TheVariants.{Fin
 ghost use Rattle.cplex_lp_reader.specs.Declaration.{now_expecting};
 ghost use Rattle.cplex_lp_reader.specs.Bounds.{is_infinity, infinite, is_possible, turned, bound_word, with_right_bound, at_bound_start, at_bound_left, at_bound_relation, at_bound_name, at_bound_compared, at_bound_named, at_bound_right, at_general, at_binary};
 
-use crate::columns::mention_changed;
 use crate::column_change::ColumnChange;
+use crate::columns::mention_changed;
 use crate::draft::Draft;
+use crate::expecting::{Expecting, Limit, Sign};
 use crate::faults::{misplaced, number_of_token};
-use crate::expecting::{Limit, Expecting, Sign};
 use crate::section_words::is_word;
 use crate::token::{Relation, Token, TokenKind};
 use model_text::{FileFault, Profile, ReadError};

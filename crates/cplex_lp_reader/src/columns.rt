@@ -7,8 +7,8 @@ ghost use Rattle.cplex_lp_reader.specs.Bounds.{with_mentioned};
 
 use crate::column_change::ColumnChange;
 use crate::draft::Draft;
-use crate::faults::fault_at;
 use crate::expecting::Expecting;
+use crate::faults::fault_at;
 use crate::token::Token;
 use model_text::{FaultKind, FileFault, Profile, ReadError};
 

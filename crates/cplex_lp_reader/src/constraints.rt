@@ -14,8 +14,8 @@ ghost use Rattle.cplex_lp_reader.specs.Constraints.{row_opened, unnamed_row, unn
 
 use crate::columns::mention;
 use crate::draft::Draft;
-use crate::faults::{fault_at, misplaced, number_of_token};
 use crate::expecting::{Expecting, Sign, TermPart};
+use crate::faults::{fault_at, misplaced, number_of_token};
 use crate::token::{Relation, Token, TokenKind, is_before_colon};
 use fraction::Frac;
 use model_text::{FaultKind, FileFault, Profile, ReadError};
@@ -290,7 +290,13 @@ fn unnamed_literal(
     ensures { Follows result draft.new (then_do (λ v. unnamed_row_at (expecting.RowNumber v) profile.now token.now.line draft.old) (number_of token.now)) }
 {
     let value = number_of_token(token)?;
-    unnamed_row_at(alloc, profile, draft, Expecting::RowNumber(value), token.line())
+    unnamed_row_at(
+        alloc,
+        profile,
+        draft,
+        Expecting::RowNumber(value),
+        token.line(),
+    )
 }
 
 pub(crate) fn at_row_start<'a>(

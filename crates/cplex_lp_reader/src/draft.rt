@@ -14,9 +14,9 @@ ghost use Rattle.cplex_lp_reader.specs.Constraints.{is_row, blank_row, entry_cou
 ghost use Rattle.cplex_lp_reader.specs.Bounds.{changed};
 
 use crate::column_change::ColumnChange;
+use crate::expecting::{Expecting, Sign, TermPart};
 use crate::form::Form;
 use crate::open_row::OpenRow;
-use crate::expecting::{Expecting, Sign, TermPart};
 use crate::row::DeclaredRow;
 use crate::row_table::RowTable;
 use crate::token::Relation;

@@ -10,9 +10,9 @@ ghost use Rattle.cplex_lp_reader.specs.Objective.{objective_term, with_constant,
 
 use crate::columns::mention;
 use crate::draft::Draft;
+use crate::expecting::{Expecting, Sign, TermPart};
 use crate::faults::{misplaced, number_of_token};
 use crate::form::sum_at;
-use crate::expecting::{Expecting, Sign, TermPart};
 use crate::token::{Token, TokenKind, is_before_colon, is_before_name};
 use fraction::Frac;
 use model_text::{FileFault, Profile, ReadError};

@@ -12,9 +12,9 @@ use crate::constraints::{
     at_row_colon, at_row_first, at_row_number, at_row_right, at_row_start, in_row_terms,
 };
 use crate::draft::Draft;
+use crate::expecting::Expecting;
 use crate::faults::{fault_at, misplaced};
 use crate::objective::{at_objective_colon, at_objective_start, in_objective};
-use crate::expecting::Expecting;
 use crate::token::{Section, Token, TokenKind};
 use milp::Direction;
 use model_text::{FaultKind, FileFault, Profile, ReadError};
@@ -23,7 +23,12 @@ use std::alloc::Global;
 // ---- sections
 
 // Another section begins, if it may.
-fn enter(draft: &mut Draft, may: bool, next: Expecting, token: &Token) -> Result<(), ReadError<FileFault>>
+fn enter(
+    draft: &mut Draft,
+    may: bool,
+    next: Expecting,
+    token: &Token,
+) -> Result<(), ReadError<FileFault>>
     ensures { Follows result draft.new (entered may next draft.old token.now) }
 {
     if may {

@@ -86,12 +86,12 @@ impl<'a> ColumnTable<'a> {
         Ok(())
     }
 
-    /// The column at a place.
+    /// A copy of the column at a place.
     pub fn at(&self, place: usize) -> DeclaredColumn<'a>
         requires { place < length self.now }
         ensures { slice_get self.now place ≡ Some result }
     {
-        self.columns[place]
+        self.columns[place].copy()
     }
 
     /// The column at a place, changed but for its name.

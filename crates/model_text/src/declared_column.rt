@@ -6,7 +6,7 @@ use fraction::Frac;
 use std::marker::Model;
 
 /// A column, as far as it is declared. Clauses see a problem's column.
-#[derive(Clone, Copy)]
+#[derive(Drop)]
 pub struct DeclaredColumn<'a> {
     name: &'a str,
     lower: Option<Frac>,
@@ -32,6 +32,18 @@ impl<'a> DeclaredColumn<'a> {
             lower: Some(Frac::whole(0)),
             upper: None,
             integer,
+        }
+    }
+
+    /// Another of the same name, bounds and kind.
+    pub fn copy(&self) -> Self
+        ensures { result ≡ self.now }
+    {
+        DeclaredColumn {
+            name: self.name,
+            lower: self.lower,
+            upper: self.upper,
+            integer: self.integer,
         }
     }
 
