@@ -4,8 +4,8 @@ use Rattle.std.proofs.Math.Seq.{map-set_same}
 use Rattle.std.specs.List.{All}
 use Rattle.std.proofs.lemmas.List.Elements.{All-cons, All-head, All-tail}
 use Rattle.milp.specs.Problem.{Row, Column}
-use Rattle.cplex_lp_reader.specs.declared.declared_column.ColumnChange.{ColumnChange}
-use Rattle.cplex_lp_reader.specs.declared.declared_column.ColumnChange.TheVariants.{Kept, Bounded, Freed, MadeInteger, MadeBinary}
+use Rattle.cplex_lp_reader.specs.declared.column_change.ColumnChange.{ColumnChange}
+use Rattle.cplex_lp_reader.specs.declared.column_change.ColumnChange.TheVariants.{Kept, Bounded, Freed, MadeInteger, MadeBinary}
 use Rattle.cplex_lp_reader.specs.declared.token.Relation.TheVariants.{AtMost, AtLeast, Exactly}
 use Rattle.cplex_lp_reader.specs.Declaration.{with_changed}
 use Rattle.cplex_lp_reader.specs.Bounds.{changed}
@@ -43,9 +43,6 @@ changed-name (Bounded Exactly limit) c = refl
 changed-name Freed c = refl
 changed-name MadeInteger c = refl
 changed-name MadeBinary c = refl
-
-pub same-names : {X : Type 0} (key : X → List ℕ) (names : List (List ℕ)) (xs : List X) (i : ℕ) (x y : X) → names ≡ map key xs → x ≡ get_or xs i x → key y ≡ key x → names ≡ map key (set xs i y)
-same-names key names xs i x y index g k = index ∙ sym (map-set_same key xs i y x (k ∙ ap key g))
 
 -- ---- the entries of rows
 

@@ -1,7 +1,10 @@
 // Bounds of columns.
 ghost use Rattle.std.specs.Prelude.{◌≡◌};
 ghost use Rattle.std.specs.Option.{option_map};
-ghost use Rattle.mps_reader.specs.RhsRangesBounds.{bound_kind_of, has_value, makes_integer};
+ghost use Rattle.mps_reader.specs.RhsRangesBounds.{bound_kind_of, bounded, has_value, makes_integer};
+
+use fraction::Frac;
+use model_text::DeclaredColumn;
 
 // LO, UP, FX, LI, UI, FR, MI, PL and BV.
 #[derive(Clone, Copy)]
@@ -71,6 +74,39 @@ impl BoundKind {
             | BoundKind::Unbounded
             | BoundKind::NoLower
             | BoundKind::NoUpper => false,
+        }
+    }
+
+    // Sets this bound of a column.
+    pub(crate) fn set(self, column: &mut DeclaredColumn, value: Frac)
+        ensures { column.new ≡ bounded self value column.old }
+    {
+        match self {
+            BoundKind::Lower => column.set_lower(Some(value)),
+            BoundKind::Upper => column.set_upper(Some(value)),
+            BoundKind::Fixed => {
+                column.set_lower(Some(value));
+                column.set_upper(Some(value));
+            }
+            BoundKind::IntegerLower => {
+                column.set_lower(Some(value));
+                column.make_integer();
+            }
+            BoundKind::IntegerUpper => {
+                column.set_upper(Some(value));
+                column.make_integer();
+            }
+            BoundKind::Unbounded => {
+                column.set_lower(None);
+                column.set_upper(None);
+            }
+            BoundKind::NoLower => column.set_lower(None),
+            BoundKind::NoUpper => column.set_upper(None),
+            BoundKind::Binary => {
+                column.set_lower(Some(Frac::whole(0)));
+                column.set_upper(Some(Frac::whole(1)));
+                column.make_integer();
+            }
         }
     }
 }

@@ -1,7 +1,7 @@
 -- As many columns as before.
 use Rattle.std.proofs.Common.{arith}
 use Rattle.mps_reader.proofs.Kept.{columns-keep, length-changed}
-use Rattle.mps_reader.specs.Declaration.{is_column_named}
+use Rattle.model_text.specs.Columns.{is_column_named}
 use Rattle.mps_reader.specs.RhsRangesBounds.{bounded}
 use Rattle.mps_reader.proofs.draft.Draft.bound.Goals as goal
 
