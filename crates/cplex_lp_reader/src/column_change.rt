@@ -1,11 +1,12 @@
 // Changes of columns.
 ghost use Rattle.std.specs.Prelude.{◌≡◌};
+ghost use Rattle.cplex_lp_reader.specs.Declaration.{with_changed};
 ghost use Rattle.cplex_lp_reader.specs.Bounds.{bound_of, bounded, changed};
 
 use crate::expecting::Limit;
 use crate::token::Relation;
 use fraction::Frac;
-use model_text::DeclaredColumn;
+use model_text::{ColumnTable, DeclaredColumn};
 
 // What a text does to a column after its first mention.
 #[derive(Clone, Copy)]
@@ -31,8 +32,8 @@ impl ColumnChange {
             }
             ColumnChange::MadeInteger => column.make_integer(),
             ColumnChange::MadeBinary => {
-                column.set_lower(Some(Frac::whole(0)));
-                column.set_upper(Some(Frac::whole(1)));
+                column.set_lower(Some(Frac::zero()));
+                column.set_upper(Some(Frac::one()));
                 column.make_integer();
             }
         }
@@ -60,5 +61,16 @@ fn bound_of(limit: &Limit) -> Option<Frac>
         Limit::MinusInfinity => None,
         Limit::Finite(value) => Some(*value),
         Limit::PlusInfinity => None,
+    }
+}
+
+// The column at a place changed, where there is one.
+pub(crate) fn change_at(columns: &mut ColumnTable, place: usize, change: ColumnChange)
+    ensures { columns.new ≡ with_changed place (changed change) columns.old }
+{
+    if place < columns.len() {
+        let mut column = columns.at(place);
+        change.apply(&mut column);
+        columns.set(place, column);
     }
 }

@@ -141,7 +141,7 @@ fn row_begun<'a>(
             Ok(())
         }
         TokenKind::Literal => row_literal(draft, sign, token),
-        TokenKind::Word => row_term(profile, draft, sign.signed(Frac::whole(1)), token),
+        TokenKind::Word => row_term(profile, draft, sign.signed(Frac::one()), token),
         _ => Err(misplaced(token)),
     }
 }
@@ -258,7 +258,7 @@ fn unnamed_term<'a>(
     ensures { Follows result draft.new (then_do (row_term profile.now one_ℚ token.now) (unnamed_row profile.now token.now.line draft.old)) }
 {
     unnamed_row(alloc, profile, draft, token.line())?;
-    row_term(profile, draft, Frac::whole(1), token)
+    row_term(profile, draft, Frac::one(), token)
 }
 
 // A name before a colon is the row's, and another is that of its first term.
@@ -363,7 +363,7 @@ pub(crate) fn at_row_first<'a>(
             Ok(())
         }
         TokenKind::Literal => first_literal(draft, sign, token),
-        TokenKind::Word => row_term(profile, draft, sign.signed(Frac::whole(1)), token),
+        TokenKind::Word => row_term(profile, draft, sign.signed(Frac::one()), token),
         _ => Err(misplaced(token)),
     }
 }

@@ -13,7 +13,7 @@ ghost use Rattle.cplex_lp_reader.specs.Declaration.{nothing_declared, now_expect
 ghost use Rattle.cplex_lp_reader.specs.Constraints.{is_row, blank_row, entry_count, with_left, with_right, filled};
 ghost use Rattle.cplex_lp_reader.specs.Bounds.{changed};
 
-use crate::column_change::ColumnChange;
+use crate::column_change::{ColumnChange, change_at};
 use crate::expecting::{Expecting, Sign, TermPart};
 use crate::form::Form;
 use crate::open_row::OpenRow;
@@ -61,7 +61,7 @@ impl<'a> Draft<'a> {
             direction: Direction::Min,
             objective_name: "obj",
             objective: Form::new(alloc),
-            constant: Frac::whole(0),
+            constant: Frac::zero(),
             rows: RowTable::new(alloc),
             open_row: OpenRow::new(alloc, 0),
             columns: ColumnTable::new(alloc),
@@ -297,11 +297,6 @@ impl<'a> Draft<'a> {
     pub(crate) fn change_column(&mut self, column: u32, change: ColumnChange)
         ensures { self.new ≡ with_column column (changed change) self.old }
     {
-        let place = column as usize;
-        if place < self.columns.len() {
-            let mut there = self.columns.at(place);
-            change.apply(&mut there);
-            self.columns.set(place, there);
-        }
+        change_at(&mut self.columns, column as usize, change);
     }
 }

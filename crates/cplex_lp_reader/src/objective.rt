@@ -92,7 +92,7 @@ fn objective_begun<'a>(
             Ok(())
         }
         TokenKind::Literal => objective_literal(draft, sign, token, rest),
-        TokenKind::Word => objective_term(profile, draft, sign.signed(Frac::whole(1)), token),
+        TokenKind::Word => objective_term(profile, draft, sign.signed(Frac::one()), token),
         _ => Err(misplaced(token)),
     }
 }

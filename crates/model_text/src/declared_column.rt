@@ -29,7 +29,7 @@ impl<'a> DeclaredColumn<'a> {
     {
         DeclaredColumn {
             name,
-            lower: Some(Frac::whole(0)),
+            lower: Some(Frac::zero()),
             upper: None,
             integer,
         }

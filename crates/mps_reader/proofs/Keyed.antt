@@ -1,5 +1,5 @@
 -- Lists whose elements have names of their own: what is found and changed by name is so by its place among the names.
-use Rattle.std.proofs.Common.{suc, ◌≡◌, ℕ, ◌+◌, ◌<◌, ◌≤◌, Bool, true, false, cond, ltb, List, [], ◌∷◌, ◌++◌, length, map, get_or, set, Some, None, is_some, sym, ap, add_comm, refl, ◌∙◌, add-one, arith}
+use Rattle.std.proofs.Common.{suc, ◌≡◌, ℕ, ◌+◌, ◌<◌, ◌≤◌, Bool, true, false, cond, ltb, List, [], ◌∷◌, ◌++◌, length, map, get_or, set, slice_get, Some, None, is_some, sym, ap, add_comm, refl, ◌∙◌, add-one, arith}
 use Rattle.std.proofs.lemmas.Bool.Decides.{nat_tests}
 use Rattle.std.proofs.lemmas.Option.{slice_get-get_or, slice_get_past}
 use Rattle.std.proofs.lemmas.List.Folds.{find_at}
@@ -36,6 +36,9 @@ none-found p (x ∷ xs) h = none-any p x xs (p x) refl (none-found p xs) h
 
 pub changed-found : {X : Type 0} (p : X → Bool) (f : X → X) → (xs : List X) (i : ℕ) (x : X) → position p xs ≡ Some i → x ≡ get_or xs i x → with_first_changed p f xs ≡ set xs i (f x)
 changed-found p f xs i x e g = let s = place-some p xs i e in changed-at p f xs x (rw s.0 s.1) ∙ (rw (s.0, ← g) refl)
+
+pub changed-got : {X : Type 0} (p : X → Bool) (f : X → X) → (xs : List X) (i : ℕ) (x : X) → position p xs ≡ Some i → slice_get xs i ≡ Some x → with_first_changed p f xs ≡ set xs i (f x)
+changed-got p f xs i x e g = let s = place-some p xs i e in let here : Some (get_or xs i x) ≡ Some x = sym (slice_get-get_or xs i x s.1) ∙ g in let same : x ≡ get_or xs i x = cc in changed-found p f xs i x e same
 
 pub unchanged-past : {X : Type 0} (p : X → Bool) (f : X → X) → (xs : List X) → position p xs ≡ None → with_first_changed p f xs ≡ xs
 unchanged-past p f xs e = unchanged p f xs (place-none p xs e)

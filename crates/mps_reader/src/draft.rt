@@ -12,7 +12,7 @@ ghost use Rattle.model_text.specs.Columns.{is_column_named, new_column};
 ghost use Rattle.mps_reader.specs.RhsRangesBounds.{rhs_added, range_added, bounded, is_of_first_set, is_same_set, with_set};
 ghost use Rattle.mps_reader.specs.FreeMps.{in_section};
 
-use crate::bound::BoundKind;
+use crate::bound::{BoundKind, set_bound};
 use crate::row::{DeclaredRow, RowKind, RowRange};
 use crate::row_table::RowTable;
 use crate::section::Section;
@@ -231,11 +231,7 @@ impl<'a> Draft<'a> {
     pub(crate) fn bound(&mut self, name: &str, kind: BoundKind, value: Frac)
         ensures { self.new ≡ record self.old { columns = with_first_changed (is_column_named name.now) (bounded kind value) self.old.columns } }
     {
-        if let Some(place) = self.columns.place(name) {
-            let mut column = self.columns.at(place);
-            kind.set(&mut column, value);
-            self.columns.set(place, column);
-        }
+        set_bound(&mut self.columns, name, kind, value);
     }
 
     pub(crate) fn in_integers(&self) -> bool
