@@ -1,10 +1,11 @@
 // Values, prices and the basis, as steps change them.
+use crate::lifting::{lifted_columns, lifted_rows};
 use crate::lists::Entry;
 use crate::model::Model;
 use crate::numbers::{difference, fused, is_zero, quotient, sum};
 use crate::state::State;
 use crate::stop::Stop;
-use crate::vectors::{add, at, number_at, put, zeros};
+use crate::vectors::{add, at, copied, nonzero_places, number_at, put, zeros};
 use fraction::Frac;
 use std::alloc::Global;
 
@@ -70,6 +71,28 @@ pub(crate) fn prices_at(
 }
 
 impl State {
+    // ---- systems of the basis
+
+    // Solves B x = a. Where numbers on the way do not fit, they are lifted.
+    fn solve_columns(&self, alloc: Global, a: &[Frac]) -> Result<Vec<Frac>, Stop> {
+        let mut x = copied(alloc, a)?;
+        match self.factors.solve_columns(&mut x) {
+            Ok(()) => Ok(x),
+            Err(Stop::NoFit) => lifted_columns(alloc, &self.model, &self.slots, a),
+            Err(stop) => Err(stop),
+        }
+    }
+
+    // Solves y B = c in the same way.
+    fn solve_rows(&self, alloc: Global, c: &[Frac]) -> Result<Vec<Frac>, Stop> {
+        let mut y = copied(alloc, c)?;
+        match self.factors.solve_rows(&mut y) {
+            Ok(()) => Ok(y),
+            Err(Stop::NoFit) => lifted_rows(alloc, &self.model, &self.slots, c),
+            Err(stop) => Err(stop),
+        }
+    }
+
     // ---- values and prices from the basis
 
     /// Finds the values of the basic variables anew.
@@ -81,7 +104,7 @@ impl State {
                 add_column(&mut x, &self.model, v, value.neg())?;
             }
         }
-        self.factors.solve_columns(&mut x)?;
+        let x = self.solve_columns(alloc, &x)?;
         self.set_values(&x);
         self.look_at_all();
         Ok(())
@@ -100,8 +123,7 @@ impl State {
         for v in &self.slots {
             add(&mut y, number_at(costs, *v))?;
         }
-        self.factors.solve_rows(&mut y)?;
-        Ok(y)
+        self.solve_rows(alloc, &y)
     }
 
     /// Finds the prices of all variables anew.
@@ -123,8 +145,8 @@ impl State {
     pub(crate) fn solved_column(&self, alloc: Global, v: usize) -> Result<Solved, Stop> {
         let mut numbers = zeros(alloc, self.model.rows)?;
         add_column(&mut numbers, &self.model, v, Frac::whole(1))?;
-        self.factors.solve_columns(&mut numbers)?;
-        let used = crate::vectors::nonzero_places(alloc, &numbers)?;
+        let numbers = self.solve_columns(alloc, &numbers)?;
+        let used = nonzero_places(alloc, &numbers)?;
         Ok(Solved { numbers, used })
     }
 
@@ -132,8 +154,7 @@ impl State {
     pub(crate) fn inverse_row(&self, alloc: Global, slot: usize) -> Result<Vec<Frac>, Stop> {
         let mut y = zeros(alloc, self.model.rows)?;
         put(&mut y, slot, Frac::whole(1));
-        self.factors.solve_rows(&mut y)?;
-        Ok(y)
+        self.solve_rows(alloc, &y)
     }
 
     /// Finds the numbers of a slot's row from its row of the inverse, for the resting variables that may move.
@@ -251,7 +272,7 @@ impl State {
         self.factors.exchange(slot, &column.numbers, &column.used)?;
         self.look_at(slot);
         if self.is_worn() {
-            self.refactor(alloc)?;
+            self.try_to_refactor(alloc)?;
             self.look_at_all();
         }
         Ok(())
@@ -266,7 +287,7 @@ impl State {
             let way = difference(old, self.value_of(*v))?;
             add_column(&mut x, &self.model, *v, way)?;
         }
-        self.factors.solve_columns(&mut x)?;
+        let x = self.solve_columns(alloc, &x)?;
         self.add_values(&x)
     }
 

@@ -21,7 +21,7 @@ impl State {
             }
             self.ties = next_rule(self.ties);
             self.steps_between = (self.steps_between / 2).max(4);
-            self.refactor(alloc)?;
+            self.try_to_refactor(alloc)?;
         }
         self.run_once(alloc)
     }
@@ -33,7 +33,7 @@ impl State {
         self.find_prices(alloc)?;
         let wrong = self.wrong_prices(alloc)?;
         if self.are_boxed(&wrong) {
-            self.flip_resting(&wrong);
+            self.flip_resting(&wrong)?;
             self.find_values(alloc)?;
         } else {
             self.find_values(alloc)?;
@@ -78,10 +78,12 @@ impl State {
         true
     }
 
-    fn flip_resting(&mut self, variables: &[usize]) {
+    fn flip_resting(&mut self, variables: &[usize]) -> Result<(), Stop> {
         for v in variables {
+            self.count_step()?;
             self.flip(*v);
         }
+        Ok(())
     }
 
     // Sets the wrong prices to 0, by other costs for now.

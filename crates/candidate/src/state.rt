@@ -282,7 +282,7 @@ impl State {
     // ---- factoring anew
 
     /// Factors the basis anew. Values and prices stay.
-    pub(crate) fn refactor(&mut self, alloc: Global) -> Result<(), Stop> {
+    fn refactor(&mut self, alloc: Global) -> Result<(), Stop> {
         let weights = self.weights_by_variable(alloc)?;
         let Factored { factors, slots } = factorise(alloc, &self.model, &self.slots)?;
         self.factors = factors;
@@ -290,6 +290,17 @@ impl State {
         self.settle();
         self.take_weights(&weights);
         Ok(())
+    }
+
+    /// The same, but where its numbers do not fit the factors stay, for longer than before.
+    pub(crate) fn try_to_refactor(&mut self, alloc: Global) -> Result<(), Stop> {
+        match self.refactor(alloc) {
+            Err(Stop::NoFit) => {
+                self.steps_between = self.steps_between.saturating_mul(2);
+                Ok(())
+            }
+            outcome => outcome,
+        }
     }
 
     fn weights_by_variable(&self, alloc: Global) -> Result<Vec<i32>, Stop> {
