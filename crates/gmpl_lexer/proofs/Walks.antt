@@ -10,16 +10,6 @@ comment-next [] n h isnt = absurd (omega arith)
 comment-next (b ∷ bs) zero h isnt = rw isnt refl
 comment-next (b ∷ bs) (suc n) h isnt = let e : suc n + 1 ≡ suc (n + 1) = omega arith in rw e (comment-next bs n (omega arith) isnt)
 
-pub comment-ends : (text : List ℕ) → closes_comment text ≡ true → comment_length text ≡ 0
-comment-ends [] is = refl
-comment-ends (b ∷ bs) is = rw is refl
-
-pub comment-past : (text : List ℕ) (n : ℕ) → length text ≤ n → comment_length (drop n text) ≡ 0
-comment-past [] zero h = refl
-comment-past [] (suc n) h = refl
-comment-past (b ∷ bs) zero h = absurd (omega arith)
-comment-past (b ∷ bs) (suc n) h = comment-past bs n (omega arith)
-
 two : (quote b c : ℕ) (x y z : Bool) (bs : List ℕ) → (s : ℕ) → s ≡ (if x then 0 else if y then (if z then 2 else 0) else 1)
     → (if x then 0 else if y then (if z then 2 + string_length quote bs else 0) else 1 + string_length quote (c ∷ bs)) ≡ (if s == 0 then 0 else s + string_length quote (drop s (b ∷ c ∷ bs)))
 two quote b c true y z bs s is = rw is refl
