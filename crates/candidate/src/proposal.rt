@@ -1,4 +1,10 @@
 // What is proposed.
+use crate::ending::End;
+use crate::model::model_of;
+use crate::reading::{contradiction, endless_ray, optimum};
+use crate::start::start_of;
+use crate::state::State;
+use crate::stop::Stop;
 use certificate::Weights;
 use instance::{Instance, Point};
 use search_node::{Basis, SplitsTaken};
@@ -40,5 +46,29 @@ pub fn propose(
     start: Option<&Basis>,
     steps: u32,
 ) -> Result<Option<Candidate>, AllocError> {
-    Ok(None)
+    match searched(alloc, problem, splits, start, steps) {
+        Ok(candidate) => Ok(Some(candidate)),
+        Err(Stop::NoMemory) => Err(AllocError),
+        Err(_) => Ok(None),
+    }
+}
+
+fn searched(
+    alloc: Global,
+    problem: &Instance,
+    splits: &SplitsTaken,
+    start: Option<&Basis>,
+    steps: u32,
+) -> Result<Candidate, Stop> {
+    let model = model_of(alloc, problem, splits)?;
+    if !model.has_bounds_in_order() {
+        return Err(Stop::NoFit);
+    }
+    let start = start_of(alloc, &model, start)?;
+    let mut state = State::at_basis(alloc, model, start, steps)?;
+    match state.run(alloc)? {
+        End::Optimal => optimum(alloc, &state),
+        End::Infeasible(blocked) => contradiction(alloc, &state, &blocked),
+        End::Unbounded(endless) => endless_ray(alloc, &state, &endless),
+    }
 }

@@ -1,11 +1,11 @@
 -- The element at a place, changed.
-use Rattle.std.proofs.Common.{◌≡◌, ◌∙◌, ℕ, zero, suc, ◌+◌, ◌<◌, ◌≤◌, List, [], ◌∷◌, ◌++◌, length, map, get_or, set, sym, ap, refl, arith}
-use Rattle.std.proofs.Math.Seq.{map-set_same}
+use Rattle.std.proofs.Common.{◌≡◌, ◌∙◌, ℕ, zero, suc, ◌+◌, ◌<◌, ◌≤◌, List, [], ◌∷◌, ◌++◌, length, map, get_or, set, slice_get, Some, sym, ap, refl, arith}
+use Rattle.std.proofs.lemmas.Option.{slice_get-get_or}
 use Rattle.std.specs.List.{All}
 use Rattle.std.proofs.lemmas.List.Elements.{All-cons, All-head, All-tail}
 use Rattle.milp.specs.Problem.{Row, Column}
-use Rattle.cplex_lp_reader.specs.declared.declared_column.ColumnChange.{ColumnChange}
-use Rattle.cplex_lp_reader.specs.declared.declared_column.ColumnChange.TheVariants.{Kept, Bounded, Freed, MadeInteger, MadeBinary}
+use Rattle.cplex_lp_reader.specs.declared.column_change.ColumnChange.{ColumnChange}
+use Rattle.cplex_lp_reader.specs.declared.column_change.ColumnChange.TheVariants.{Kept, Bounded, Freed, MadeInteger, MadeBinary}
 use Rattle.cplex_lp_reader.specs.declared.token.Relation.TheVariants.{AtMost, AtLeast, Exactly}
 use Rattle.cplex_lp_reader.specs.Declaration.{with_changed}
 use Rattle.cplex_lp_reader.specs.Bounds.{changed}
@@ -18,6 +18,9 @@ changed-get (suc place) f (x ∷ xs) d h = ap (λ ys. x ∷ ys) (changed-get pla
 
 pub changed-at : {X : Type 0} (place : ℕ) (f : X → X) (xs : List X) (x : X) → place < length xs → x ≡ get_or xs place x → with_changed place f xs ≡ set xs place (f x)
 changed-at place f xs x h e = changed-get place f xs x h ∙ ap (λ y. set xs place (f y)) (sym e)
+
+pub changed-got : {X : Type 0} (place : ℕ) (f : X → X) (xs : List X) (x : X) → place < length xs → slice_get xs place ≡ Some x → with_changed place f xs ≡ set xs place (f x)
+changed-got place f xs x h g = let here : Some (get_or xs place x) ≡ Some x = sym (slice_get-get_or xs place x h) ∙ g in let same : x ≡ get_or xs place x = cc in changed-at place f xs x h same
 
 pub changed-past : {X : Type 0} (place : ℕ) (f : X → X) (xs : List X) → length xs ≤ place → with_changed place f xs ≡ xs
 changed-past place f [] h = refl
@@ -43,9 +46,6 @@ changed-name (Bounded Exactly limit) c = refl
 changed-name Freed c = refl
 changed-name MadeInteger c = refl
 changed-name MadeBinary c = refl
-
-pub same-names : {X : Type 0} (key : X → List ℕ) (names : List (List ℕ)) (xs : List X) (i : ℕ) (x y : X) → names ≡ map key xs → x ≡ get_or xs i x → key y ≡ key x → names ≡ map key (set xs i y)
-same-names key names xs i x y index g k = index ∙ sym (map-set_same key xs i y x (k ∙ ap key g))
 
 -- ---- the entries of rows
 

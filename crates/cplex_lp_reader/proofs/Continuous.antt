@@ -16,22 +16,22 @@ use Rattle.cplex_lp_reader.specs.declared.token.Section.{Section}
 use Rattle.cplex_lp_reader.specs.declared.token.Section.TheVariants.{Minimize, Maximize, Constraints, Bounds, General, Binary, End}
 use Rattle.cplex_lp_reader.specs.declared.token.TokenKind.{TokenKind}
 use Rattle.cplex_lp_reader.specs.declared.token.TokenKind.TheVariants.{SectionWords, Word, Literal, Plus, Minus, Compared}
-use Rattle.cplex_lp_reader.specs.declared.place.Sign.{Sign}
-use Rattle.cplex_lp_reader.specs.declared.place.Sign.TheVariants.{Unsigned}
-use Rattle.cplex_lp_reader.specs.declared.place.Limit.{Limit}
-use Rattle.cplex_lp_reader.specs.declared.place.Limit.TheVariants.{Finite, PlusInfinity}
-use Rattle.cplex_lp_reader.specs.declared.place.TermPlace.{TermPlace}
-use Rattle.cplex_lp_reader.specs.declared.place.TermPlace.TheVariants.{Begun, Factor, Done}
-use Rattle.cplex_lp_reader.specs.declared.place.Place.{Place}
-use Rattle.cplex_lp_reader.specs.declared.place.Place.TheVariants as place
-use Rattle.cplex_lp_reader.specs.declared.declared_column.ColumnChange.{ColumnChange}
-use Rattle.cplex_lp_reader.specs.declared.declared_column.ColumnChange.TheVariants.{Kept, Bounded, Freed}
+use Rattle.cplex_lp_reader.specs.declared.expecting.Sign.{Sign}
+use Rattle.cplex_lp_reader.specs.declared.expecting.Sign.TheVariants.{Unsigned}
+use Rattle.cplex_lp_reader.specs.declared.expecting.Limit.{Limit}
+use Rattle.cplex_lp_reader.specs.declared.expecting.Limit.TheVariants.{Finite, PlusInfinity}
+use Rattle.cplex_lp_reader.specs.declared.expecting.TermPart.{TermPart}
+use Rattle.cplex_lp_reader.specs.declared.expecting.TermPart.TheVariants.{Begun, Factor, Done}
+use Rattle.cplex_lp_reader.specs.declared.expecting.Expecting.{Expecting}
+use Rattle.cplex_lp_reader.specs.declared.expecting.Expecting.TheVariants as expecting
+use Rattle.cplex_lp_reader.specs.declared.column_change.ColumnChange.{ColumnChange}
+use Rattle.cplex_lp_reader.specs.declared.column_change.ColumnChange.TheVariants.{Kept, Bounded, Freed}
 use Rattle.model_text.specs.Profile.{reader_profile}
 use Rattle.cplex_lp_reader.specs.Tokens.{Token, is_word, is_name, tokens_of}
 use Rattle.model_text.specs.Steps.{then_do}
 use Rattle.cplex_lp_reader.specs.Steps.{fault_at, misplaced, fitting_at, number_of}
 use Rattle.cplex_lp_reader.specs.Grammar.{after_plus, after_minus, signed, is_colon, is_before_colon, is_before_name}
-use Rattle.cplex_lp_reader.specs.Declaration.{new_column, Declaration, nothing_declared, at_place, added, entries_of, place_in, mentioned, with_column, problem_of}
+use Rattle.cplex_lp_reader.specs.Declaration.{new_column, Declaration, nothing_declared, now_expecting, added, entries_of, column_place, mentioned, with_column, problem_of}
 use Rattle.cplex_lp_reader.specs.Objective.{objective_term, with_constant, objective_number, objective_begun, objective_factor, objective_done, in_objective, at_objective_start, at_objective_colon}
 use Rattle.cplex_lp_reader.specs.Constraints.{is_row, row_opened, default_name, unnamed_row, unnamed_row_at, row_term, row_begun, row_factor, may_follow, row_done, in_row_terms, at_row_name, at_row_start, at_row_colon, at_row_first, at_row_number, with_right, entry_count, row_closed, at_row_right}
 use Rattle.cplex_lp_reader.specs.Bounds.{is_infinity, infinite, is_possible, bounded, turned, changed, with_mentioned, bound_word, at_bound_start, at_bound_left, at_bound_relation, at_bound_name, at_bound_compared, at_bound_named, with_right_bound, at_bound_right}
@@ -41,14 +41,14 @@ use Rattle.cplex_lp_reader.proofs.Changed.{All-changed}
 abbrev IsContinuous : Column → Type 0
 IsContinuous c = c.integer ≡ false
 
-abbrev is_among_integers : Place → Bool
-is_among_integers place.Generals = true
-is_among_integers place.Binaries = true
+abbrev is_among_integers : Expecting → Bool
+is_among_integers expecting.Generals = true
+is_among_integers expecting.Binaries = true
 is_among_integers other = false
 
 record IsPlain (d : Declaration) : Type 0 where
   continuous : All IsContinuous d.columns
-  outside : is_among_integers d.place ≡ false
+  outside : is_among_integers d.expecting ≡ false
 
 -- ---- cases
 
@@ -68,14 +68,14 @@ either : (b : Bool) (x y : Result Declaration FileFault) → IfOk x IsPlain → 
 either true x y s t = s
 either false x y s t = t
 
-moved : (p : Place) (d : Declaration) → is_among_integers p ≡ false → IsPlain d → IsPlain (at_place p d)
+moved : (p : Expecting) (d : Declaration) → is_among_integers p ≡ false → IsPlain d → IsPlain (now_expecting p d)
 moved p d e h = record { continuous = h.continuous; outside = e }
 
 -- ---- columns
 
 mentioned-plain : (profile : Profile) (t : Token) (d : Declaration) → IsPlain d → IfOk (mentioned profile t d) IsPlain
 mentioned-plain profile t d h =
-    either (nat_lt (place_in t.text d.columns) (length d.columns)) (Ok d) _ h
+    either (nat_lt (column_place t.text d.columns) (length d.columns)) (Ok d) _ h
     (either (nat_le profile.columns (length d.columns)) (fault_at t.line TooMany) (Ok (record d { columns = d.columns ++ new_column t.text ∷ [] })) tt
     (record { continuous = All-push IsContinuous d.columns (new_column t.text) h.continuous refl; outside = h.outside }))
 
@@ -84,22 +84,22 @@ bounded-continuous AtMost limit c h = h
 bounded-continuous AtLeast limit c h = h
 bounded-continuous Exactly limit c h = h
 
-changed-plain : (p : Place) (column : ℕ) (change : ColumnChange) (d : Declaration) → ((c : Column) → IsContinuous c → IsContinuous (changed change c)) → is_among_integers p ≡ false → IsPlain d → IsPlain (at_place p (with_column column (changed change) d))
+changed-plain : (p : Expecting) (column : ℕ) (change : ColumnChange) (d : Declaration) → ((c : Column) → IsContinuous c → IsContinuous (changed change c)) → is_among_integers p ≡ false → IsPlain d → IsPlain (now_expecting p (with_column column (changed change) d))
 changed-plain p column change d keeps e h = record { continuous = All-changed IsContinuous column (changed change) keeps d.columns h.continuous; outside = e }
 
-with_mentioned-plain : (profile : Profile) (d : Declaration) (t : Token) (p : Place) (change : ColumnChange) → ((c : Column) → IsContinuous c → IsContinuous (changed change c)) → is_among_integers p ≡ false → IsPlain d → IfOk (with_mentioned profile d t p change) IsPlain
-with_mentioned-plain profile d t p change keeps e h = then-plain _ (mentioned profile t d) (mentioned-plain profile t d h) (λ more k. changed-plain p (place_in t.text d.columns) change more keeps e k)
+with_mentioned-plain : (profile : Profile) (d : Declaration) (t : Token) (p : Expecting) (change : ColumnChange) → ((c : Column) → IsContinuous c → IsContinuous (changed change c)) → is_among_integers p ≡ false → IsPlain d → IfOk (with_mentioned profile d t p change) IsPlain
+with_mentioned-plain profile d t p change keeps e h = then-plain _ (mentioned profile t d) (mentioned-plain profile t d h) (λ more k. changed-plain p (column_place t.text d.columns) change more keeps e k)
 
 -- ---- the objective
 
 objective_term-plain : (profile : Profile) (d : Declaration) (v : Rational) (t : Token) → IsPlain d → IfOk (objective_term profile d v t) IsPlain
-objective_term-plain profile d v t h = then-plain _ (mentioned profile t d) (mentioned-plain profile t d h) (λ more k. then-any _ (added t.line (place_in t.text d.columns) v more.objective) (λ form. record { continuous = k.continuous; outside = refl }))
+objective_term-plain profile d v t h = then-plain _ (mentioned profile t d) (mentioned-plain profile t d h) (λ more k. then-any _ (added t.line (column_place t.text d.columns) v more.objective) (λ form. record { continuous = k.continuous; outside = refl }))
 
 with_constant-plain : (d : Declaration) (v : Rational) (t : Token) → IsPlain d → IfOk (with_constant d v t) IsPlain
 with_constant-plain d v t h = then-any _ (fitting_at t.line (add_answer d.constant v)) (λ sum. record { continuous = h.continuous; outside = refl })
 
 objective_number-plain : (d : Declaration) (t : Token) (rest : List Token) (v : Rational) → IsPlain d → IfOk (objective_number d t rest v) IsPlain
-objective_number-plain d t rest v h = either (is_before_name rest) _ _ (moved (place.Objective (Factor v)) d refl h) (with_constant-plain d v t h)
+objective_number-plain d t rest v h = either (is_before_name rest) _ _ (moved (expecting.Objective (Factor v)) d refl h) (with_constant-plain d v t h)
 
 objective_begun-plain : (kind : TokenKind) (profile : Profile) (d : Declaration) (sign : Sign) (t : Token) (rest : List Token) → IsPlain d → IfOk (objective_begun kind profile d sign t rest) IsPlain
 objective_begun-plain Plus profile d sign t rest h = moved _ d refl h
@@ -117,7 +117,7 @@ objective_done-plain Plus d t h = moved _ d refl h
 objective_done-plain Minus d t h = moved _ d refl h
 objective_done-plain kind d t h = tt
 
-in_objective-plain : (p : TermPlace) (profile : Profile) (d : Declaration) (t : Token) (rest : List Token) → IsPlain d → IfOk (in_objective p profile d t rest) IsPlain
+in_objective-plain : (p : TermPart) (profile : Profile) (d : Declaration) (t : Token) (rest : List Token) → IsPlain d → IfOk (in_objective p profile d t rest) IsPlain
 in_objective-plain (Begun sign) profile d t rest h = objective_begun-plain t.kind profile d sign t rest h
 in_objective-plain (Factor v) profile d t rest h = objective_factor-plain t.kind profile d v t h
 in_objective-plain Done profile d t rest h = objective_done-plain t.kind d t h
@@ -126,18 +126,18 @@ at_objective_start-plain : (profile : Profile) (d : Declaration) (t : Token) (re
 at_objective_start-plain profile d t rest h = either (is_name t.kind && is_before_colon rest) _ _ (record { continuous = h.continuous; outside = refl }) (objective_begun-plain t.kind profile d Unsigned t rest h)
 
 at_objective_colon-plain : (d : Declaration) (t : Token) → IsPlain d → IfOk (at_objective_colon d t) IsPlain
-at_objective_colon-plain d t h = either (is_colon t.kind) _ _ (moved (place.Objective (Begun Unsigned)) d refl h) tt
+at_objective_colon-plain d t h = either (is_colon t.kind) _ _ (moved (expecting.Objective (Begun Unsigned)) d refl h) tt
 
 -- ---- constraints
 
 row_opened-plain : (profile : Profile) (line : ℕ) (name : List ℕ) (d : Declaration) → IsPlain d → IfOk (row_opened profile line name d) IsPlain
 row_opened-plain profile line name d h = either (is_row name d.rows) (fault_at line Twice) _ tt (either (nat_le profile.rows (length d.rows)) (fault_at line TooMany) _ tt (record { continuous = h.continuous; outside = h.outside }))
 
-unnamed_row_at-plain : (p : Place) (profile : Profile) (line : ℕ) (d : Declaration) → is_among_integers p ≡ false → IsPlain d → IfOk (unnamed_row_at p profile line d) IsPlain
+unnamed_row_at-plain : (p : Expecting) (profile : Profile) (line : ℕ) (d : Declaration) → is_among_integers p ≡ false → IsPlain d → IfOk (unnamed_row_at p profile line d) IsPlain
 unnamed_row_at-plain p profile line d e h = then-plain _ (unnamed_row profile line d) (row_opened-plain profile line (default_name d.rows) d h) (λ opened k. moved p opened e k)
 
 row_term-plain : (profile : Profile) (v : Rational) (t : Token) (d : Declaration) → IsPlain d → IfOk (row_term profile v t d) IsPlain
-row_term-plain profile v t d h = then-plain _ (mentioned profile t d) (mentioned-plain profile t d h) (λ more k. then-any _ (added t.line (place_in t.text d.columns) v more.open_row.form) (λ form. record { continuous = k.continuous; outside = refl }))
+row_term-plain profile v t d h = then-plain _ (mentioned profile t d) (mentioned-plain profile t d h) (λ more k. then-any _ (added t.line (column_place t.text d.columns) v more.open_row.form) (λ form. record { continuous = k.continuous; outside = refl }))
 
 row_begun-plain : (kind : TokenKind) (profile : Profile) (d : Declaration) (sign : Sign) (t : Token) → IsPlain d → IfOk (row_begun kind profile d sign t) IsPlain
 row_begun-plain Plus profile d sign t h = moved _ d refl h
@@ -153,10 +153,10 @@ row_factor-plain kind profile d v t h = tt
 row_done-plain : (kind : TokenKind) (d : Declaration) (t : Token) → IsPlain d → IfOk (row_done kind d t) IsPlain
 row_done-plain Plus d t h = moved _ d refl h
 row_done-plain Minus d t h = moved _ d refl h
-row_done-plain (Compared relation) d t h = either (may_follow d.open_row.left relation) _ _ (moved (place.RowRight relation Unsigned) d refl h) tt
+row_done-plain (Compared relation) d t h = either (may_follow d.open_row.left relation) _ _ (moved (expecting.RowRight relation Unsigned) d refl h) tt
 row_done-plain kind d t h = tt
 
-in_row_terms-plain : (p : TermPlace) (profile : Profile) (d : Declaration) (t : Token) → IsPlain d → IfOk (in_row_terms p profile d t) IsPlain
+in_row_terms-plain : (p : TermPart) (profile : Profile) (d : Declaration) (t : Token) → IsPlain d → IfOk (in_row_terms p profile d t) IsPlain
 in_row_terms-plain (Begun sign) profile d t h = row_begun-plain t.kind profile d sign t h
 in_row_terms-plain (Factor v) profile d t h = row_factor-plain t.kind profile d v t h
 in_row_terms-plain Done profile d t h = row_done-plain t.kind d t h
@@ -164,18 +164,18 @@ in_row_terms-plain Done profile d t h = row_done-plain t.kind d t h
 at_row_name-plain : (profile : Profile) (d : Declaration) (t : Token) (rest : List Token) → IsPlain d → IfOk (at_row_name profile d t rest) IsPlain
 at_row_name-plain profile d t rest h =
     either (is_before_colon rest) _ _
-    (then-plain _ (row_opened profile t.line t.text d) (row_opened-plain profile t.line t.text d h) (λ opened k. moved place.RowColon opened refl k))
+    (then-plain _ (row_opened profile t.line t.text d) (row_opened-plain profile t.line t.text d h) (λ opened k. moved expecting.RowColon opened refl k))
     (then-plain (row_term profile one_ℚ t) (unnamed_row profile t.line d) (row_opened-plain profile t.line (default_name d.rows) d h) (λ opened k. row_term-plain profile one_ℚ t opened k))
 
 at_row_start-plain : (kind : TokenKind) (profile : Profile) (d : Declaration) (t : Token) (rest : List Token) → IsPlain d → IfOk (at_row_start kind profile d t rest) IsPlain
 at_row_start-plain Word profile d t rest h = at_row_name-plain profile d t rest h
-at_row_start-plain Plus profile d t rest h = unnamed_row_at-plain (place.RowFirst (after_plus Unsigned)) profile t.line d refl h
-at_row_start-plain Minus profile d t rest h = unnamed_row_at-plain (place.RowFirst (after_minus Unsigned)) profile t.line d refl h
-at_row_start-plain Literal profile d t rest h = then-any _ (number_of t) (λ v. unnamed_row_at-plain (place.RowNumber v) profile t.line d refl h)
+at_row_start-plain Plus profile d t rest h = unnamed_row_at-plain (expecting.RowFirst (after_plus Unsigned)) profile t.line d refl h
+at_row_start-plain Minus profile d t rest h = unnamed_row_at-plain (expecting.RowFirst (after_minus Unsigned)) profile t.line d refl h
+at_row_start-plain Literal profile d t rest h = then-any _ (number_of t) (λ v. unnamed_row_at-plain (expecting.RowNumber v) profile t.line d refl h)
 at_row_start-plain kind profile d t rest h = tt
 
 at_row_colon-plain : (d : Declaration) (t : Token) → IsPlain d → IfOk (at_row_colon d t) IsPlain
-at_row_colon-plain d t h = either (is_colon t.kind) _ _ (moved (place.RowFirst Unsigned) d refl h) tt
+at_row_colon-plain d t h = either (is_colon t.kind) _ _ (moved (expecting.RowFirst Unsigned) d refl h) tt
 
 at_row_first-plain : (kind : TokenKind) (profile : Profile) (d : Declaration) (sign : Sign) (t : Token) → IsPlain d → IfOk (at_row_first kind profile d sign t) IsPlain
 at_row_first-plain Plus profile d sign t h = moved _ d refl h
@@ -202,7 +202,7 @@ at_row_right-plain kind profile d relation sign t h = tt
 -- ---- bounds
 
 bound_word-plain : (profile : Profile) (d : Declaration) (t : Token) → IsPlain d → IfOk (bound_word profile d t) IsPlain
-bound_word-plain profile d t h = either (is_infinity t.text) _ _ (moved (place.BoundRelation PlusInfinity) d refl h) (with_mentioned-plain profile d t (place.BoundNamed (place_in t.text d.columns)) Kept (λ c k. k) refl h)
+bound_word-plain profile d t h = either (is_infinity t.text) _ _ (moved (expecting.BoundRelation PlusInfinity) d refl h) (with_mentioned-plain profile d t (expecting.BoundNamed (column_place t.text d.columns)) Kept (λ c k. k) refl h)
 
 at_bound_start-plain : (kind : TokenKind) (profile : Profile) (d : Declaration) (t : Token) → IsPlain d → IfOk (at_bound_start kind profile d t) IsPlain
 at_bound_start-plain Word profile d t h = bound_word-plain profile d t h
@@ -215,15 +215,15 @@ at_bound_left-plain : (kind : TokenKind) (d : Declaration) (s : Sign) (t : Token
 at_bound_left-plain Plus d s t h = moved _ d refl h
 at_bound_left-plain Minus d s t h = moved _ d refl h
 at_bound_left-plain Literal d s t h = then-any _ (number_of t) (λ v. moved _ d refl h)
-at_bound_left-plain Word d s t h = either (is_infinity t.text) _ _ (moved (place.BoundRelation (infinite s)) d refl h) tt
+at_bound_left-plain Word d s t h = either (is_infinity t.text) _ _ (moved (expecting.BoundRelation (infinite s)) d refl h) tt
 at_bound_left-plain kind d s t h = tt
 
 at_bound_relation-plain : (kind : TokenKind) (d : Declaration) (limit : Limit) (t : Token) → IsPlain d → IfOk (at_bound_relation kind d limit t) IsPlain
-at_bound_relation-plain (Compared relation) d limit t h = either (is_possible (turned relation) limit) _ _ (moved (place.BoundName limit relation) d refl h) tt
+at_bound_relation-plain (Compared relation) d limit t h = either (is_possible (turned relation) limit) _ _ (moved (expecting.BoundName limit relation) d refl h) tt
 at_bound_relation-plain kind d limit t h = tt
 
 at_bound_name-plain : (kind : TokenKind) (profile : Profile) (d : Declaration) (limit : Limit) (relation : Relation) (t : Token) → IsPlain d → IfOk (at_bound_name kind profile d limit relation t) IsPlain
-at_bound_name-plain Word profile d limit relation t h = either (is_infinity t.text) (misplaced t) _ tt (with_mentioned-plain profile d t (place.BoundCompared (place_in t.text d.columns)) (Bounded (turned relation) limit) (bounded-continuous (turned relation) limit) refl h)
+at_bound_name-plain Word profile d limit relation t h = either (is_infinity t.text) (misplaced t) _ tt (with_mentioned-plain profile d t (expecting.BoundCompared (column_place t.text d.columns)) (Bounded (turned relation) limit) (bounded-continuous (turned relation) limit) refl h)
 at_bound_name-plain kind profile d limit relation t h = tt
 
 at_bound_compared-plain : (kind : TokenKind) (profile : Profile) (d : Declaration) (column : ℕ) (t : Token) → IsPlain d → IfOk (at_bound_compared kind profile d column t) IsPlain
@@ -231,11 +231,11 @@ at_bound_compared-plain (Compared relation) profile d column t h = moved _ d ref
 at_bound_compared-plain kind profile d column t h = at_bound_start-plain kind profile d t h
 
 at_bound_named-plain : (kind : TokenKind) (profile : Profile) (d : Declaration) (column : ℕ) (t : Token) → IsPlain d → IfOk (at_bound_named kind profile d column t) IsPlain
-at_bound_named-plain Word profile d column t h = either (is_word t.text (codes "free")) _ _ (changed-plain place.BoundStart column Freed d (λ c k. k) refl h) (bound_word-plain profile d t h)
+at_bound_named-plain Word profile d column t h = either (is_word t.text (codes "free")) _ _ (changed-plain expecting.BoundStart column Freed d (λ c k. k) refl h) (bound_word-plain profile d t h)
 at_bound_named-plain kind profile d column t h = at_bound_compared-plain kind profile d column t h
 
 with_right_bound-plain : (d : Declaration) (column : ℕ) (relation : Relation) (limit : Limit) (t : Token) → IsPlain d → IfOk (with_right_bound d column relation limit t) IsPlain
-with_right_bound-plain d column relation limit t h = either (is_possible relation limit) _ _ (changed-plain place.BoundStart column (Bounded relation limit) d (bounded-continuous relation limit) refl h) tt
+with_right_bound-plain d column relation limit t h = either (is_possible relation limit) _ _ (changed-plain expecting.BoundStart column (Bounded relation limit) d (bounded-continuous relation limit) refl h) tt
 
 at_bound_right-plain : (kind : TokenKind) (d : Declaration) (column : ℕ) (relation : Relation) (s : Sign) (t : Token) → IsPlain d → IfOk (at_bound_right kind d column relation s t) IsPlain
 at_bound_right-plain Plus d column relation s t h = moved _ d refl h
@@ -246,59 +246,59 @@ at_bound_right-plain kind d column relation s t h = tt
 
 -- ---- sections
 
-entered-plain : (may : Bool) (p : Place) (d : Declaration) (t : Token) → is_among_integers p ≡ false → IsPlain d → IfOk (entered may p d t) IsPlain
+entered-plain : (may : Bool) (p : Expecting) (d : Declaration) (t : Token) → is_among_integers p ≡ false → IsPlain d → IfOk (entered may p d t) IsPlain
 entered-plain may p d t e h = either may _ _ (moved p d e h) tt
 
-entered_integers-plain : (profile : Profile) → profile.takes_integers ≡ false → (p : Place) (d : Declaration) (t : Token) → IfOk (entered_integers profile p d t) IsPlain
-entered_integers-plain profile untaken p d t = either (not (ends_section d.place)) (misplaced t) _ tt (rw untaken tt)
+entered_integers-plain : (profile : Profile) → profile.takes_integers ≡ false → (p : Expecting) (d : Declaration) (t : Token) → IfOk (entered_integers profile p d t) IsPlain
+entered_integers-plain profile untaken p d t = either (not (ends_section d.expecting)) (misplaced t) _ tt (rw untaken tt)
 
 directed-plain : (direction : Direction) (d : Declaration) (t : Token) → IsPlain d → IfOk (directed direction d t) IsPlain
-directed-plain direction d t h = either (is_start d.place) _ _ (record { continuous = h.continuous; outside = refl }) tt
+directed-plain direction d t h = either (is_start d.expecting) _ _ (record { continuous = h.continuous; outside = refl }) tt
 
 at_section-plain : (section : Section) (profile : Profile) → profile.takes_integers ≡ false → (d : Declaration) (t : Token) → IsPlain d → IfOk (at_section section profile d t) IsPlain
 at_section-plain Minimize profile untaken d t h = directed-plain Min d t h
 at_section-plain Maximize profile untaken d t h = directed-plain Max d t h
-at_section-plain Constraints profile untaken d t h = entered-plain (ends_objective d.place) place.RowStart d t refl h
-at_section-plain Bounds profile untaken d t h = entered-plain (ends_section d.place) place.BoundStart d t refl h
-at_section-plain General profile untaken d t h = entered_integers-plain profile untaken place.Generals d t
-at_section-plain Binary profile untaken d t h = entered_integers-plain profile untaken place.Binaries d t
-at_section-plain End profile untaken d t h = entered-plain (ends_section d.place) place.Ended d t refl h
+at_section-plain Constraints profile untaken d t h = entered-plain (ends_objective d.expecting) expecting.RowStart d t refl h
+at_section-plain Bounds profile untaken d t h = entered-plain (ends_section d.expecting) expecting.BoundStart d t refl h
+at_section-plain General profile untaken d t h = entered_integers-plain profile untaken expecting.Generals d t
+at_section-plain Binary profile untaken d t h = entered_integers-plain profile untaken expecting.Binaries d t
+at_section-plain End profile untaken d t h = entered-plain (ends_section d.expecting) expecting.Ended d t refl h
 
 -- ---- tokens
 
-in_section-plain : (p : Place) (profile : Profile) (d : Declaration) (t : Token) (rest : List Token) → is_among_integers p ≡ false → IsPlain d → IfOk (in_section p profile d t rest) IsPlain
-in_section-plain place.Start profile d t rest e h = tt
-in_section-plain place.ObjectiveStart profile d t rest e h = at_objective_start-plain profile d t rest h
-in_section-plain place.ObjectiveColon profile d t rest e h = at_objective_colon-plain d t h
-in_section-plain (place.Objective p) profile d t rest e h = in_objective-plain p profile d t rest h
-in_section-plain place.RowStart profile d t rest e h = at_row_start-plain t.kind profile d t rest h
-in_section-plain place.RowColon profile d t rest e h = at_row_colon-plain d t h
-in_section-plain (place.RowFirst sign) profile d t rest e h = at_row_first-plain t.kind profile d sign t h
-in_section-plain (place.RowNumber v) profile d t rest e h = at_row_number-plain t.kind profile d v t h
-in_section-plain (place.RowTerms p) profile d t rest e h = in_row_terms-plain p profile d t h
-in_section-plain (place.RowRight relation sign) profile d t rest e h = at_row_right-plain t.kind profile d relation sign t h
-in_section-plain place.BoundStart profile d t rest e h = at_bound_start-plain t.kind profile d t h
-in_section-plain (place.BoundLeft sign) profile d t rest e h = at_bound_left-plain t.kind d sign t h
-in_section-plain (place.BoundRelation limit) profile d t rest e h = at_bound_relation-plain t.kind d limit t h
-in_section-plain (place.BoundName limit relation) profile d t rest e h = at_bound_name-plain t.kind profile d limit relation t h
-in_section-plain (place.BoundNamed column) profile d t rest e h = at_bound_named-plain t.kind profile d column t h
-in_section-plain (place.BoundCompared column) profile d t rest e h = at_bound_compared-plain t.kind profile d column t h
-in_section-plain (place.BoundRight column relation sign) profile d t rest e h = at_bound_right-plain t.kind d column relation sign t h
-in_section-plain place.Generals profile d t rest e h = cc
-in_section-plain place.Binaries profile d t rest e h = cc
-in_section-plain place.Ended profile d t rest e h = h
+in_section-plain : (p : Expecting) (profile : Profile) (d : Declaration) (t : Token) (rest : List Token) → is_among_integers p ≡ false → IsPlain d → IfOk (in_section p profile d t rest) IsPlain
+in_section-plain expecting.Start profile d t rest e h = tt
+in_section-plain expecting.ObjectiveStart profile d t rest e h = at_objective_start-plain profile d t rest h
+in_section-plain expecting.ObjectiveColon profile d t rest e h = at_objective_colon-plain d t h
+in_section-plain (expecting.Objective p) profile d t rest e h = in_objective-plain p profile d t rest h
+in_section-plain expecting.RowStart profile d t rest e h = at_row_start-plain t.kind profile d t rest h
+in_section-plain expecting.RowColon profile d t rest e h = at_row_colon-plain d t h
+in_section-plain (expecting.RowFirst sign) profile d t rest e h = at_row_first-plain t.kind profile d sign t h
+in_section-plain (expecting.RowNumber v) profile d t rest e h = at_row_number-plain t.kind profile d v t h
+in_section-plain (expecting.RowTerms p) profile d t rest e h = in_row_terms-plain p profile d t h
+in_section-plain (expecting.RowRight relation sign) profile d t rest e h = at_row_right-plain t.kind profile d relation sign t h
+in_section-plain expecting.BoundStart profile d t rest e h = at_bound_start-plain t.kind profile d t h
+in_section-plain (expecting.BoundLeft sign) profile d t rest e h = at_bound_left-plain t.kind d sign t h
+in_section-plain (expecting.BoundRelation limit) profile d t rest e h = at_bound_relation-plain t.kind d limit t h
+in_section-plain (expecting.BoundName limit relation) profile d t rest e h = at_bound_name-plain t.kind profile d limit relation t h
+in_section-plain (expecting.BoundNamed column) profile d t rest e h = at_bound_named-plain t.kind profile d column t h
+in_section-plain (expecting.BoundCompared column) profile d t rest e h = at_bound_compared-plain t.kind profile d column t h
+in_section-plain (expecting.BoundRight column relation sign) profile d t rest e h = at_bound_right-plain t.kind d column relation sign t h
+in_section-plain expecting.Generals profile d t rest e h = cc
+in_section-plain expecting.Binaries profile d t rest e h = cc
+in_section-plain expecting.Ended profile d t rest e h = h
 
 by_kind-plain : (kind : TokenKind) (profile : Profile) → profile.takes_integers ≡ false → (d : Declaration) (t : Token) (rest : List Token) → IsPlain d → IfOk (by_kind kind profile d t rest) IsPlain
 by_kind-plain (SectionWords section) profile untaken d t rest h = at_section-plain section profile untaken d t h
-by_kind-plain kind profile untaken d t rest h = in_section-plain d.place profile d t rest h.outside h
+by_kind-plain kind profile untaken d t rest h = in_section-plain d.expecting profile d t rest h.outside h
 
 with_token-plain : (profile : Profile) → profile.takes_integers ≡ false → (d : Declaration) (t : Token) (rest : List Token) → IsPlain d → IfOk (with_token profile d t rest) IsPlain
-with_token-plain profile untaken d t rest h = either (is_ended d.place) (Ok d) _ h (by_kind-plain t.kind profile untaken d t rest h)
+with_token-plain profile untaken d t rest h = either (is_ended d.expecting) (Ok d) _ h (by_kind-plain t.kind profile untaken d t rest h)
 
 -- ---- texts
 
 at_end-plain : (line : ℕ) (d : Declaration) → IsPlain d → IfOk (at_end line d) IsPlain
-at_end-plain line d h = either (is_ended d.place) (Ok d) _ h (either (ends_section d.place) (Ok d) _ h tt)
+at_end-plain line d h = either (is_ended d.expecting) (Ok d) _ h (either (ends_section d.expecting) (Ok d) _ h tt)
 
 declared_from-plain : (profile : Profile) → profile.takes_integers ≡ false → (end : ℕ) (d : Declaration) (tokens : List Token) → IsPlain d → IfOk (declared_from profile end d tokens) IsPlain
 declared_from-plain profile untaken end d [] h = at_end-plain end d h

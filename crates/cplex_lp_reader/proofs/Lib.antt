@@ -1,8 +1,6 @@
 pub mod CplexLpExamples
-pub mod Places
 pub mod Scanned
 pub mod Joined
-pub mod Keyed
 pub mod Terms
 pub mod Changed
 pub mod Kept

@@ -12,7 +12,7 @@ use Rattle.model_text.specs.Follows.{Follows}
 use Rattle.model_text.specs.Steps.{then_do}
 use Rattle.cplex_lp_reader.specs.Steps.{fitting_at}
 use Rattle.fraction.specs.Answers.{add_answer}
-use Rattle.cplex_lp_reader.specs.Declaration.{place_of, joined, added, entries_of}
+use Rattle.cplex_lp_reader.specs.Declaration.{entry_place, joined, added, entries_of}
 use Rattle.cplex_lp_reader.specs.Consistent.{are_terms_from, are_terms}
 
 above : (a b : ℕ) → nat_le a b ≡ false → b < a
@@ -116,14 +116,14 @@ first-by least count line j v e es new a b t from false h f =
 
 -- the place in a list whose first entry is earlier
 module _ (line j : ℕ) (v : Rational) (e : Entry) (es : List Entry) where
-  next-place : nat_le j e.column ≡ false → place_of j (e ∷ es) ≡ suc (place_of j es)
-  next-place h = let t : place_of j (e ∷ es) ≡ 1 + place_of j es = rw h refl in omega arith
+  next-place : nat_le j e.column ≡ false → entry_place j (e ∷ es) ≡ suc (entry_place j es)
+  next-place h = let t : entry_place j (e ∷ es) ≡ 1 + entry_place j es = rw h refl in omega arith
 
   added-next : nat_le j e.column ≡ false → added line j v (e ∷ es) ≡ consed e (added line j v es)
-  added-next h = rw (next-place h) (joined-cons line j v e (take (place_of j es) es) (drop (place_of j es) es))
+  added-next h = rw (next-place h) (joined-cons line j v e (take (entry_place j es) es) (drop (entry_place j es) es))
 
   added-first : nat_le j e.column ≡ true → added line j v (e ∷ es) ≡ joined line j v [] (e ∷ es)
-  added-first h = let t : place_of j (e ∷ es) ≡ 0 = rw h refl in rw t refl
+  added-first h = let t : entry_place j (e ∷ es) ≡ 0 = rw h refl in rw t refl
 
 added-by : (least count line j : ℕ) (v : Rational) (e : Entry) (es new : List Entry) → least ≤ j → j < count → are_terms_from least count (e ∷ es) ≡ true → ((from : ℕ) → from ≤ j → are_terms_from from count es ≡ true → (more : List Entry) → added line j v es ≡ Ok more → are_terms_from from count more ≡ true) → (b : Bool) → nat_le j e.column ≡ b → added line j v (e ∷ es) ≡ Ok new → are_terms_from least count new ≡ true
 added-by least count line j v e es new a b t more true h f = first-by least count line j v e es new a b t h (e.column == j) refl (sym (added-first line j v e es h) ∙ f)
@@ -149,10 +149,10 @@ terms-kept line j v form new (Err error) f k count h t = rw k t
 le-false : (a b : ℕ) → b < a → nat_le a b ≡ false
 le-false a b h = grind (arith, nat_tests)
 
-one-place : (j : ℕ) (a : Entry) → a.column < j → place_of j (a ∷ []) ≡ length (a ∷ [])
+one-place : (j : ℕ) (a : Entry) → a.column < j → entry_place j (a ∷ []) ≡ length (a ∷ [])
 one-place j a h = rw (le-false j a.column h) refl
 
-last-place : (least count j : ℕ) (form : List Entry) (i : ℕ) (d : Entry) → suc i ≡ length form → are_terms_from least count form ≡ true → (get_or form i d).column < j → (least ≤ (get_or form i d).column) × (place_of j form ≡ length form)
+last-place : (least count j : ℕ) (form : List Entry) (i : ℕ) (d : Entry) → suc i ≡ length form → are_terms_from least count form ≡ true → (get_or form i d).column < j → (least ≤ (get_or form i d).column) × (entry_place j form ≡ length form)
 last-place least count j [] i d e t h = absurd (omega arith)
 last-place least count j (a ∷ []) zero d e t h = (term-from least count a [] t, one-place j a h)
 last-place least count j (a ∷ b ∷ es) zero d e t h = absurd (omega arith)
@@ -160,12 +160,12 @@ last-place least count j (a ∷ es) (suc i) d e t h =
     let r = last-place (a.column + 1) count j es i d (omega arith) (terms-after least count a es t) h in
     let from : least ≤ a.column = term-from least count a es t in
     let later : a.column + 1 ≤ (get_or es i d).column = r.0 in
-    let next : place_of j (a ∷ es) ≡ suc (place_of j es) = next-place 0 j a.coefficient a es (le-false j a.column (omega arith)) in
-    let there : place_of j es ≡ length es = r.1 in
+    let next : entry_place j (a ∷ es) ≡ suc (entry_place j es) = next-place 0 j a.coefficient a es (le-false j a.column (omega arith)) in
+    let there : entry_place j es ≡ length es = r.1 in
     (omega arith, omega arith)
 
 -- where the last entry is of an earlier column, all are
-pub end-place : (count j : ℕ) (form : List Entry) (d : Entry) → IsTrue (are_terms count form) → 0 < length form → nat_lt (get_or form (length form - 1) d).column j ≡ true → place_of j form ≡ length form
+pub end-place : (count j : ℕ) (form : List Entry) (d : Entry) → IsTrue (are_terms count form) → 0 < length form → nat_lt (get_or form (length form - 1) d).column j ≡ true → entry_place j form ≡ length form
 end-place count j form d t some h =
     let less : (get_or form (length form - 1) d).column < j = ltb-true (get_or form (length form - 1) d).column j h in
     (last-place 0 count j form (length form - 1) d (omega arith) t less).1

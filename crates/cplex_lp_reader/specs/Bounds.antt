@@ -10,18 +10,18 @@ use Rattle.cplex_lp_reader.specs.declared.token.Relation.{Relation}
 use Rattle.cplex_lp_reader.specs.declared.token.Relation.TheVariants.{AtMost, AtLeast, Exactly}
 use Rattle.cplex_lp_reader.specs.declared.token.TokenKind.{TokenKind}
 use Rattle.cplex_lp_reader.specs.declared.token.TokenKind.TheVariants.{Word, Literal, Plus, Minus, Compared}
-use Rattle.cplex_lp_reader.specs.declared.declared_column.ColumnChange.{ColumnChange}
-use Rattle.cplex_lp_reader.specs.declared.declared_column.ColumnChange.TheVariants.{Kept, Bounded, Freed, MadeInteger, MadeBinary}
-use Rattle.cplex_lp_reader.specs.declared.place.Sign.{Sign}
-use Rattle.cplex_lp_reader.specs.declared.place.Sign.TheVariants as sign
-use Rattle.cplex_lp_reader.specs.declared.place.Limit.{Limit}
-use Rattle.cplex_lp_reader.specs.declared.place.Limit.TheVariants.{MinusInfinity, Finite, PlusInfinity}
-use Rattle.cplex_lp_reader.specs.declared.place.Place.{Place}
-use Rattle.cplex_lp_reader.specs.declared.place.Place.TheVariants.{BoundStart, BoundLeft, BoundRelation, BoundName, BoundNamed, BoundCompared, BoundRight, Generals, Binaries}
+use Rattle.cplex_lp_reader.specs.declared.column_change.ColumnChange.{ColumnChange}
+use Rattle.cplex_lp_reader.specs.declared.column_change.ColumnChange.TheVariants.{Kept, Bounded, Freed, MadeInteger, MadeBinary}
+use Rattle.cplex_lp_reader.specs.declared.expecting.Sign.{Sign}
+use Rattle.cplex_lp_reader.specs.declared.expecting.Sign.TheVariants as sign
+use Rattle.cplex_lp_reader.specs.declared.expecting.Limit.{Limit}
+use Rattle.cplex_lp_reader.specs.declared.expecting.Limit.TheVariants.{MinusInfinity, Finite, PlusInfinity}
+use Rattle.cplex_lp_reader.specs.declared.expecting.Expecting.{Expecting}
+use Rattle.cplex_lp_reader.specs.declared.expecting.Expecting.TheVariants.{BoundStart, BoundLeft, BoundRelation, BoundName, BoundNamed, BoundCompared, BoundRight, Generals, Binaries}
 use Rattle.cplex_lp_reader.specs.Tokens.{Token, is_word}
 use Rattle.model_text.specs.Steps.{then_do}
 use Rattle.cplex_lp_reader.specs.Steps.{misplaced, number_of}
-use Rattle.cplex_lp_reader.specs.Declaration.{Declaration, at_place, place_in, mentioned, with_column}
+use Rattle.cplex_lp_reader.specs.Declaration.{Declaration, now_expecting, column_place, mentioned, with_column}
 use Rattle.cplex_lp_reader.specs.Grammar.{after_plus, after_minus, signed}
 
 -- ---- infinite numbers, in any case of letters
@@ -79,37 +79,37 @@ changed MadeInteger c = made_integer c
 changed MadeBinary c = made_binary c
 
 -- the column of a name is there and changed, and another token comes
-abbrev pub with_mentioned : Profile → Declaration → Token → Place → ColumnChange → Result Declaration FileFault
-with_mentioned profile d t place change =
-    then_do (λ more. Ok (at_place place (with_column (place_in t.text d.columns) (changed change) more))) (mentioned profile t d)
+abbrev pub with_mentioned : Profile → Declaration → Token → Expecting → ColumnChange → Result Declaration FileFault
+with_mentioned profile d t next change =
+    then_do (λ more. Ok (now_expecting next (with_column (column_place t.text d.columns) (changed change) more))) (mentioned profile t d)
 
 -- ---- the number on the left
 
 -- `inf` begins a bound as a number
 abbrev pub bound_word : Profile → Declaration → Token → Result Declaration FileFault
 bound_word profile d t =
-    if is_infinity t.text then Ok (at_place (BoundRelation PlusInfinity) d)
-    else with_mentioned profile d t (BoundNamed (place_in t.text d.columns)) Kept
+    if is_infinity t.text then Ok (now_expecting (BoundRelation PlusInfinity) d)
+    else with_mentioned profile d t (BoundNamed (column_place t.text d.columns)) Kept
 
 abbrev pub at_bound_start : TokenKind → Profile → Declaration → Token → Result Declaration FileFault
 at_bound_start Word profile d t = bound_word profile d t
-at_bound_start Plus profile d t = Ok (at_place (BoundLeft (after_plus sign.Unsigned)) d)
-at_bound_start Minus profile d t = Ok (at_place (BoundLeft (after_minus sign.Unsigned)) d)
-at_bound_start Literal profile d t = then_do (λ v. Ok (at_place (BoundRelation (Finite v)) d)) (number_of t)
+at_bound_start Plus profile d t = Ok (now_expecting (BoundLeft (after_plus sign.Unsigned)) d)
+at_bound_start Minus profile d t = Ok (now_expecting (BoundLeft (after_minus sign.Unsigned)) d)
+at_bound_start Literal profile d t = then_do (λ v. Ok (now_expecting (BoundRelation (Finite v)) d)) (number_of t)
 at_bound_start kind profile d t = misplaced t
 
 -- where the number on the left has signs alone
 abbrev pub at_bound_left : TokenKind → Declaration → Sign → Token → Result Declaration FileFault
-at_bound_left Plus d s t = Ok (at_place (BoundLeft (after_plus s)) d)
-at_bound_left Minus d s t = Ok (at_place (BoundLeft (after_minus s)) d)
-at_bound_left Literal d s t = then_do (λ v. Ok (at_place (BoundRelation (Finite (signed s v))) d)) (number_of t)
-at_bound_left Word d s t = if is_infinity t.text then Ok (at_place (BoundRelation (infinite s)) d) else misplaced t
+at_bound_left Plus d s t = Ok (now_expecting (BoundLeft (after_plus s)) d)
+at_bound_left Minus d s t = Ok (now_expecting (BoundLeft (after_minus s)) d)
+at_bound_left Literal d s t = then_do (λ v. Ok (now_expecting (BoundRelation (Finite (signed s v))) d)) (number_of t)
+at_bound_left Word d s t = if is_infinity t.text then Ok (now_expecting (BoundRelation (infinite s)) d) else misplaced t
 at_bound_left kind d s t = misplaced t
 
 -- a relation in which the number on the left can't stand is misplaced
 abbrev pub at_bound_relation : TokenKind → Declaration → Limit → Token → Result Declaration FileFault
 at_bound_relation (Compared relation) d limit t =
-    if is_possible (turned relation) limit then Ok (at_place (BoundName limit relation) d) else misplaced t
+    if is_possible (turned relation) limit then Ok (now_expecting (BoundName limit relation) d) else misplaced t
 at_bound_relation kind d limit t = misplaced t
 
 -- ---- the name
@@ -118,30 +118,30 @@ at_bound_relation kind d limit t = misplaced t
 abbrev pub at_bound_name : TokenKind → Profile → Declaration → Limit → Relation → Token → Result Declaration FileFault
 at_bound_name Word profile d limit relation t =
     if is_infinity t.text then misplaced t
-    else with_mentioned profile d t (BoundCompared (place_in t.text d.columns)) (Bounded (turned relation) limit)
+    else with_mentioned profile d t (BoundCompared (column_place t.text d.columns)) (Bounded (turned relation) limit)
 at_bound_name kind profile d limit relation t = misplaced t
 
 -- after a name the number on its right may come; else another bound begins
 abbrev pub at_bound_compared : TokenKind → Profile → Declaration → ℕ → Token → Result Declaration FileFault
-at_bound_compared (Compared relation) profile d column t = Ok (at_place (BoundRight column relation sign.Unsigned) d)
+at_bound_compared (Compared relation) profile d column t = Ok (now_expecting (BoundRight column relation sign.Unsigned) d)
 at_bound_compared kind profile d column t = at_bound_start kind profile d t
 
 -- the same, or `free`, after a name that stands first
 abbrev pub at_bound_named : TokenKind → Profile → Declaration → ℕ → Token → Result Declaration FileFault
 at_bound_named Word profile d column t =
-    if is_word t.text (codes "free") then Ok (at_place BoundStart (with_column column (changed Freed) d)) else bound_word profile d t
+    if is_word t.text (codes "free") then Ok (now_expecting BoundStart (with_column column (changed Freed) d)) else bound_word profile d t
 at_bound_named kind profile d column t = at_bound_compared kind profile d column t
 
 -- ---- the number on the right
 
 abbrev pub with_right_bound : Declaration → ℕ → Relation → Limit → Token → Result Declaration FileFault
 with_right_bound d column relation limit t =
-    if is_possible relation limit then Ok (at_place BoundStart (with_column column (changed (Bounded relation limit)) d)) else misplaced t
+    if is_possible relation limit then Ok (now_expecting BoundStart (with_column column (changed (Bounded relation limit)) d)) else misplaced t
 
 -- where the number on the right is about to come, or has signs alone
 abbrev pub at_bound_right : TokenKind → Declaration → ℕ → Relation → Sign → Token → Result Declaration FileFault
-at_bound_right Plus d column relation s t = Ok (at_place (BoundRight column relation (after_plus s)) d)
-at_bound_right Minus d column relation s t = Ok (at_place (BoundRight column relation (after_minus s)) d)
+at_bound_right Plus d column relation s t = Ok (now_expecting (BoundRight column relation (after_plus s)) d)
+at_bound_right Minus d column relation s t = Ok (now_expecting (BoundRight column relation (after_minus s)) d)
 at_bound_right Literal d column relation s t = then_do (λ v. with_right_bound d column relation (Finite (signed s v)) t) (number_of t)
 at_bound_right Word d column relation s t = if is_infinity t.text then with_right_bound d column relation (infinite s) t else misplaced t
 at_bound_right kind d column relation s t = misplaced t

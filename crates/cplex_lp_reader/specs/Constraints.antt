@@ -14,16 +14,16 @@ use Rattle.cplex_lp_reader.specs.declared.token.Relation.{Relation}
 use Rattle.cplex_lp_reader.specs.declared.token.Relation.TheVariants.{AtMost, AtLeast, Exactly}
 use Rattle.cplex_lp_reader.specs.declared.token.TokenKind.{TokenKind}
 use Rattle.cplex_lp_reader.specs.declared.token.TokenKind.TheVariants.{Word, Literal, Plus, Minus, Compared}
-use Rattle.cplex_lp_reader.specs.declared.place.Sign.{Sign}
-use Rattle.cplex_lp_reader.specs.declared.place.Sign.TheVariants.{Unsigned}
-use Rattle.cplex_lp_reader.specs.declared.place.TermPlace.{TermPlace}
-use Rattle.cplex_lp_reader.specs.declared.place.TermPlace.TheVariants.{Begun, Factor, Done}
-use Rattle.cplex_lp_reader.specs.declared.place.Place.{Place}
-use Rattle.cplex_lp_reader.specs.declared.place.Place.TheVariants.{RowStart, RowColon, RowFirst, RowNumber, RowTerms, RowRight}
+use Rattle.cplex_lp_reader.specs.declared.expecting.Sign.{Sign}
+use Rattle.cplex_lp_reader.specs.declared.expecting.Sign.TheVariants.{Unsigned}
+use Rattle.cplex_lp_reader.specs.declared.expecting.TermPart.{TermPart}
+use Rattle.cplex_lp_reader.specs.declared.expecting.TermPart.TheVariants.{Begun, Factor, Done}
+use Rattle.cplex_lp_reader.specs.declared.expecting.Expecting.{Expecting}
+use Rattle.cplex_lp_reader.specs.declared.expecting.Expecting.TheVariants.{RowStart, RowColon, RowFirst, RowNumber, RowTerms, RowRight}
 use Rattle.cplex_lp_reader.specs.Tokens.{Token}
 use Rattle.model_text.specs.Steps.{then_do}
 use Rattle.cplex_lp_reader.specs.Steps.{fault_at, misplaced, number_of}
-use Rattle.cplex_lp_reader.specs.Declaration.{OpenRow, new_row, Declaration, at_place, added, entries_of, place_in, mentioned, with_changed}
+use Rattle.cplex_lp_reader.specs.Declaration.{OpenRow, new_row, Declaration, now_expecting, added, entries_of, column_place, mentioned, with_changed}
 use Rattle.cplex_lp_reader.specs.Grammar.{after_plus, after_minus, signed, is_colon, is_before_colon}
 
 -- ---- a row begins
@@ -51,22 +51,22 @@ abbrev pub unnamed_row : Profile → ℕ → Declaration → Result Declaration 
 unnamed_row profile line d = row_opened profile line (default_name d.rows) d
 
 -- the same, and another token comes
-abbrev pub unnamed_row_at : Place → Profile → ℕ → Declaration → Result Declaration FileFault
-unnamed_row_at place profile line d = then_do (λ opened. Ok (at_place place opened)) (unnamed_row profile line d)
+abbrev pub unnamed_row_at : Expecting → Profile → ℕ → Declaration → Result Declaration FileFault
+unnamed_row_at next profile line d = then_do (λ opened. Ok (now_expecting next opened)) (unnamed_row profile line d)
 
 -- ---- terms
 
 -- v times the column of a name
 abbrev pub row_term : Profile → Rational → Token → Declaration → Result Declaration FileFault
 row_term profile v t d =
-    then_do (λ more. then_do (λ form. Ok (record more { open_row = record more.open_row { form = form }; place = RowTerms Done })) (added t.line (place_in t.text d.columns) v more.open_row.form))
+    then_do (λ more. then_do (λ form. Ok (record more { open_row = record more.open_row { form = form }; expecting = RowTerms Done })) (added t.line (column_place t.text d.columns) v more.open_row.form))
     (mentioned profile t d)
 
 -- where a term is about to begin, or has signs alone
 abbrev pub row_begun : TokenKind → Profile → Declaration → Sign → Token → Result Declaration FileFault
-row_begun Plus profile d sign t = Ok (at_place (RowTerms (Begun (after_plus sign))) d)
-row_begun Minus profile d sign t = Ok (at_place (RowTerms (Begun (after_minus sign))) d)
-row_begun Literal profile d sign t = then_do (λ v. Ok (at_place (RowTerms (Factor (signed sign v))) d)) (number_of t)
+row_begun Plus profile d sign t = Ok (now_expecting (RowTerms (Begun (after_plus sign))) d)
+row_begun Minus profile d sign t = Ok (now_expecting (RowTerms (Begun (after_minus sign))) d)
+row_begun Literal profile d sign t = then_do (λ v. Ok (now_expecting (RowTerms (Factor (signed sign v))) d)) (number_of t)
 row_begun Word profile d sign t = row_term profile (signed sign one_ℚ) t d
 row_begun kind profile d sign t = misplaced t
 
@@ -84,12 +84,12 @@ may_follow left relation = false
 
 -- after a term another begins with a sign, or the row's right side with a relation
 abbrev pub row_done : TokenKind → Declaration → Token → Result Declaration FileFault
-row_done Plus d t = Ok (at_place (RowTerms (Begun (after_plus Unsigned))) d)
-row_done Minus d t = Ok (at_place (RowTerms (Begun (after_minus Unsigned))) d)
-row_done (Compared relation) d t = if may_follow d.open_row.left relation then Ok (at_place (RowRight relation Unsigned) d) else misplaced t
+row_done Plus d t = Ok (now_expecting (RowTerms (Begun (after_plus Unsigned))) d)
+row_done Minus d t = Ok (now_expecting (RowTerms (Begun (after_minus Unsigned))) d)
+row_done (Compared relation) d t = if may_follow d.open_row.left relation then Ok (now_expecting (RowRight relation Unsigned) d) else misplaced t
 row_done kind d t = misplaced t
 
-abbrev pub in_row_terms : TermPlace → Profile → Declaration → Token → Result Declaration FileFault
+abbrev pub in_row_terms : TermPart → Profile → Declaration → Token → Result Declaration FileFault
 in_row_terms (Begun sign) profile d t = row_begun t.kind profile d sign t
 in_row_terms (Factor v) profile d t = row_factor t.kind profile d v t
 in_row_terms Done profile d t = row_done t.kind d t
@@ -99,7 +99,7 @@ in_row_terms Done profile d t = row_done t.kind d t
 -- a name before a colon is the row's, and another is that of its first term
 abbrev pub at_row_name : Profile → Declaration → Token → List Token → Result Declaration FileFault
 at_row_name profile d t rest =
-    if is_before_colon rest then then_do (λ opened. Ok (at_place RowColon opened)) (row_opened profile t.line t.text d)
+    if is_before_colon rest then then_do (λ opened. Ok (now_expecting RowColon opened)) (row_opened profile t.line t.text d)
     else then_do (row_term profile one_ℚ t) (unnamed_row profile t.line d)
 
 abbrev pub at_row_start : TokenKind → Profile → Declaration → Token → List Token → Result Declaration FileFault
@@ -110,13 +110,13 @@ at_row_start Literal profile d t rest = then_do (λ v. unnamed_row_at (RowNumber
 at_row_start kind profile d t rest = misplaced t
 
 abbrev pub at_row_colon : Declaration → Token → Result Declaration FileFault
-at_row_colon d t = if is_colon t.kind then Ok (at_place (RowFirst Unsigned) d) else misplaced t
+at_row_colon d t = if is_colon t.kind then Ok (now_expecting (RowFirst Unsigned) d) else misplaced t
 
 -- where the first term or the number on the left is about to begin, or has signs alone
 abbrev pub at_row_first : TokenKind → Profile → Declaration → Sign → Token → Result Declaration FileFault
-at_row_first Plus profile d sign t = Ok (at_place (RowFirst (after_plus sign)) d)
-at_row_first Minus profile d sign t = Ok (at_place (RowFirst (after_minus sign)) d)
-at_row_first Literal profile d sign t = then_do (λ v. Ok (at_place (RowNumber (signed sign v)) d)) (number_of t)
+at_row_first Plus profile d sign t = Ok (now_expecting (RowFirst (after_plus sign)) d)
+at_row_first Minus profile d sign t = Ok (now_expecting (RowFirst (after_minus sign)) d)
+at_row_first Literal profile d sign t = then_do (λ v. Ok (now_expecting (RowNumber (signed sign v)) d)) (number_of t)
 at_row_first Word profile d sign t = row_term profile (signed sign one_ℚ) t d
 at_row_first kind profile d sign t = misplaced t
 
@@ -127,7 +127,7 @@ left_set AtLeast v row = record row { left = Some AtLeast; upper = Some v }
 left_set Exactly v row = row
 
 abbrev pub with_left : Declaration → Rational → Relation → Declaration
-with_left d v relation = record d { open_row = left_set relation v d.open_row; place = RowTerms (Begun Unsigned) }
+with_left d v relation = record d { open_row = left_set relation v d.open_row; expecting = RowTerms (Begun Unsigned) }
 
 -- after a row's first number a name or a relation comes, which isn't `=`
 abbrev pub at_row_number : TokenKind → Profile → Declaration → Rational → Token → Result Declaration FileFault
@@ -159,12 +159,12 @@ entry_count (r ∷ rs) = length r.entries + entry_count rs
 abbrev pub row_closed : Profile → Declaration → Result Declaration FileFault
 row_closed profile d =
     if nat_lt profile.entries (entry_count d.rows + length (entries_of d.open_row.form)) then fault_at d.open_row.line TooMany
-    else Ok (record d { rows = with_changed (length d.rows - 1) (filled d.open_row) d.rows; place = RowStart })
+    else Ok (record d { rows = with_changed (length d.rows - 1) (filled d.open_row) d.rows; expecting = RowStart })
 
 -- where the number on the right is about to come, or has signs alone
 abbrev pub at_row_right : TokenKind → Profile → Declaration → Relation → Sign → Token → Result Declaration FileFault
-at_row_right Plus profile d relation sign t = Ok (at_place (RowRight relation (after_plus sign)) d)
-at_row_right Minus profile d relation sign t = Ok (at_place (RowRight relation (after_minus sign)) d)
+at_row_right Plus profile d relation sign t = Ok (now_expecting (RowRight relation (after_plus sign)) d)
+at_row_right Minus profile d relation sign t = Ok (now_expecting (RowRight relation (after_minus sign)) d)
 at_row_right Literal profile d relation sign t =
     then_do (λ v. row_closed profile (with_right d (signed sign v) relation)) (number_of t)
 at_row_right kind profile d relation sign t = misplaced t

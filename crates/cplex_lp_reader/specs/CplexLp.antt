@@ -10,16 +10,16 @@ use Rattle.cplex_lp_reader.specs.declared.token.TokenKind.{TokenKind}
 use Rattle.cplex_lp_reader.specs.declared.token.TokenKind.TheVariants.{SectionWords}
 use Rattle.cplex_lp_reader.specs.declared.token.Section.{Section}
 use Rattle.cplex_lp_reader.specs.declared.token.Section.TheVariants.{Minimize, Maximize, Constraints, Bounds, General, Binary, End}
-use Rattle.cplex_lp_reader.specs.declared.place.Sign.TheVariants.{Unsigned}
-use Rattle.cplex_lp_reader.specs.declared.place.TermPlace.TheVariants.{Begun, Done}
-use Rattle.cplex_lp_reader.specs.declared.place.Place.{Place}
-use Rattle.cplex_lp_reader.specs.declared.place.Place.TheVariants as place
+use Rattle.cplex_lp_reader.specs.declared.expecting.Sign.TheVariants.{Unsigned}
+use Rattle.cplex_lp_reader.specs.declared.expecting.TermPart.TheVariants.{Begun, Done}
+use Rattle.cplex_lp_reader.specs.declared.expecting.Expecting.{Expecting}
+use Rattle.cplex_lp_reader.specs.declared.expecting.Expecting.TheVariants as expecting
 use Rattle.model_text.specs.Profile.{reader_profile}
 use Rattle.model_text.specs.Lines.{lines_of}
 use Rattle.cplex_lp_reader.specs.Tokens.{Token, tokens_of}
 use Rattle.model_text.specs.Steps.{then_do}
 use Rattle.cplex_lp_reader.specs.Steps.{fault_at, misplaced}
-use Rattle.cplex_lp_reader.specs.Declaration.{Declaration, nothing_declared, at_place, problem_of}
+use Rattle.cplex_lp_reader.specs.Declaration.{Declaration, nothing_declared, now_expecting, problem_of}
 use Rattle.cplex_lp_reader.specs.Objective.{in_objective, at_objective_start, at_objective_colon}
 use Rattle.cplex_lp_reader.specs.Constraints.{in_row_terms, at_row_start, at_row_colon, at_row_first, at_row_number, at_row_right}
 use Rattle.cplex_lp_reader.specs.Bounds.{at_bound_start, at_bound_left, at_bound_relation, at_bound_name, at_bound_compared, at_bound_named, at_bound_right, at_general, at_binary}
@@ -27,92 +27,92 @@ use Rattle.cplex_lp_reader.specs.Bounds.{at_bound_start, at_bound_left, at_bound
 -- ---- sections: the objective, then the constraints, then the others in any order and number
 
 -- the objective is read to its end, if no more of it comes
-abbrev pub ends_objective : Place → Bool
-ends_objective place.ObjectiveStart = true
-ends_objective (place.Objective (Begun Unsigned)) = true
-ends_objective (place.Objective Done) = true
+abbrev pub ends_objective : Expecting → Bool
+ends_objective expecting.ObjectiveStart = true
+ends_objective (expecting.Objective (Begun Unsigned)) = true
+ends_objective (expecting.Objective Done) = true
 ends_objective other = false
 
 -- a section after the objective is read to its end, if no more of it comes
-abbrev pub ends_section : Place → Bool
-ends_section place.RowStart = true
-ends_section place.BoundStart = true
-ends_section (place.BoundNamed column) = true
-ends_section (place.BoundCompared column) = true
-ends_section place.Generals = true
-ends_section place.Binaries = true
+abbrev pub ends_section : Expecting → Bool
+ends_section expecting.RowStart = true
+ends_section expecting.BoundStart = true
+ends_section (expecting.BoundNamed column) = true
+ends_section (expecting.BoundCompared column) = true
+ends_section expecting.Generals = true
+ends_section expecting.Binaries = true
 ends_section other = false
 
-abbrev pub is_start : Place → Bool
-is_start place.Start = true
+abbrev pub is_start : Expecting → Bool
+is_start expecting.Start = true
 is_start other = false
 
-abbrev pub is_ended : Place → Bool
-is_ended place.Ended = true
+abbrev pub is_ended : Expecting → Bool
+is_ended expecting.Ended = true
 is_ended other = false
 
 -- another section begins, if it may
-abbrev pub entered : Bool → Place → Declaration → Token → Result Declaration FileFault
-entered may next d t = if may then Ok (at_place next d) else misplaced t
+abbrev pub entered : Bool → Expecting → Declaration → Token → Result Declaration FileFault
+entered may next d t = if may then Ok (now_expecting next d) else misplaced t
 
 -- the same of integer columns, where they are taken
-abbrev pub entered_integers : Profile → Place → Declaration → Token → Result Declaration FileFault
+abbrev pub entered_integers : Profile → Expecting → Declaration → Token → Result Declaration FileFault
 entered_integers profile next d t =
-    if not (ends_section d.place) then misplaced t
-    else if profile.takes_integers then Ok (at_place next d)
+    if not (ends_section d.expecting) then misplaced t
+    else if profile.takes_integers then Ok (now_expecting next d)
     else fault_at t.line IntegersNotYet
 
 -- the objective comes first
 abbrev pub directed : Direction → Declaration → Token → Result Declaration FileFault
-directed direction d t = if is_start d.place then Ok (record d { direction = direction; place = place.ObjectiveStart }) else misplaced t
+directed direction d t = if is_start d.expecting then Ok (record d { direction = direction; expecting = expecting.ObjectiveStart }) else misplaced t
 
 abbrev pub at_section : Section → Profile → Declaration → Token → Result Declaration FileFault
 at_section Minimize profile d t = directed Min d t
 at_section Maximize profile d t = directed Max d t
-at_section Constraints profile d t = entered (ends_objective d.place) place.RowStart d t
-at_section Bounds profile d t = entered (ends_section d.place) place.BoundStart d t
-at_section General profile d t = entered_integers profile place.Generals d t
-at_section Binary profile d t = entered_integers profile place.Binaries d t
-at_section End profile d t = entered (ends_section d.place) place.Ended d t
+at_section Constraints profile d t = entered (ends_objective d.expecting) expecting.RowStart d t
+at_section Bounds profile d t = entered (ends_section d.expecting) expecting.BoundStart d t
+at_section General profile d t = entered_integers profile expecting.Generals d t
+at_section Binary profile d t = entered_integers profile expecting.Binaries d t
+at_section End profile d t = entered (ends_section d.expecting) expecting.Ended d t
 
 -- ---- tokens
 
 -- a token inside a section, by where it stands, and those that follow it
-abbrev pub in_section : Place → Profile → Declaration → Token → List Token → Result Declaration FileFault
-in_section place.Start profile d t rest = misplaced t
-in_section place.ObjectiveStart profile d t rest = at_objective_start profile d t rest
-in_section place.ObjectiveColon profile d t rest = at_objective_colon d t
-in_section (place.Objective p) profile d t rest = in_objective p profile d t rest
-in_section place.RowStart profile d t rest = at_row_start t.kind profile d t rest
-in_section place.RowColon profile d t rest = at_row_colon d t
-in_section (place.RowFirst sign) profile d t rest = at_row_first t.kind profile d sign t
-in_section (place.RowNumber v) profile d t rest = at_row_number t.kind profile d v t
-in_section (place.RowTerms p) profile d t rest = in_row_terms p profile d t
-in_section (place.RowRight relation sign) profile d t rest = at_row_right t.kind profile d relation sign t
-in_section place.BoundStart profile d t rest = at_bound_start t.kind profile d t
-in_section (place.BoundLeft sign) profile d t rest = at_bound_left t.kind d sign t
-in_section (place.BoundRelation limit) profile d t rest = at_bound_relation t.kind d limit t
-in_section (place.BoundName limit relation) profile d t rest = at_bound_name t.kind profile d limit relation t
-in_section (place.BoundNamed column) profile d t rest = at_bound_named t.kind profile d column t
-in_section (place.BoundCompared column) profile d t rest = at_bound_compared t.kind profile d column t
-in_section (place.BoundRight column relation sign) profile d t rest = at_bound_right t.kind d column relation sign t
-in_section place.Generals profile d t rest = at_general t.kind profile d t
-in_section place.Binaries profile d t rest = at_binary t.kind profile d t
-in_section place.Ended profile d t rest = Ok d
+abbrev pub in_section : Expecting → Profile → Declaration → Token → List Token → Result Declaration FileFault
+in_section expecting.Start profile d t rest = misplaced t
+in_section expecting.ObjectiveStart profile d t rest = at_objective_start profile d t rest
+in_section expecting.ObjectiveColon profile d t rest = at_objective_colon d t
+in_section (expecting.Objective p) profile d t rest = in_objective p profile d t rest
+in_section expecting.RowStart profile d t rest = at_row_start t.kind profile d t rest
+in_section expecting.RowColon profile d t rest = at_row_colon d t
+in_section (expecting.RowFirst sign) profile d t rest = at_row_first t.kind profile d sign t
+in_section (expecting.RowNumber v) profile d t rest = at_row_number t.kind profile d v t
+in_section (expecting.RowTerms p) profile d t rest = in_row_terms p profile d t
+in_section (expecting.RowRight relation sign) profile d t rest = at_row_right t.kind profile d relation sign t
+in_section expecting.BoundStart profile d t rest = at_bound_start t.kind profile d t
+in_section (expecting.BoundLeft sign) profile d t rest = at_bound_left t.kind d sign t
+in_section (expecting.BoundRelation limit) profile d t rest = at_bound_relation t.kind d limit t
+in_section (expecting.BoundName limit relation) profile d t rest = at_bound_name t.kind profile d limit relation t
+in_section (expecting.BoundNamed column) profile d t rest = at_bound_named t.kind profile d column t
+in_section (expecting.BoundCompared column) profile d t rest = at_bound_compared t.kind profile d column t
+in_section (expecting.BoundRight column relation sign) profile d t rest = at_bound_right t.kind d column relation sign t
+in_section expecting.Generals profile d t rest = at_general t.kind profile d t
+in_section expecting.Binaries profile d t rest = at_binary t.kind profile d t
+in_section expecting.Ended profile d t rest = Ok d
 
 abbrev pub by_kind : TokenKind → Profile → Declaration → Token → List Token → Result Declaration FileFault
 by_kind (SectionWords section) profile d t rest = at_section section profile d t
-by_kind kind profile d t rest = in_section d.place profile d t rest
+by_kind kind profile d t rest = in_section d.expecting profile d t rest
 
 -- nothing after the end is read
 abbrev pub with_token : Profile → Declaration → Token → List Token → Result Declaration FileFault
-with_token profile d t rest = if is_ended d.place then Ok d else by_kind t.kind profile d t rest
+with_token profile d t rest = if is_ended d.expecting then Ok d else by_kind t.kind profile d t rest
 
 -- ---- texts
 
 -- a missing `end` is accepted; another fault at the text's end is at the line after the last
 abbrev pub at_end : ℕ → Declaration → Result Declaration FileFault
-at_end line d = if is_ended d.place then Ok d else if ends_section d.place then Ok d else fault_at line BadLine
+at_end line d = if is_ended d.expecting then Ok d else if ends_section d.expecting then Ok d else fault_at line BadLine
 
 -- the declaration after these tokens of a text whose end is at this line
 abbrev pub declared_from : Profile → ℕ → Declaration → List Token → Result Declaration FileFault

@@ -2,7 +2,6 @@
 use Rattle.std.specs.Prelude.{ℕ, ◌==◌, nat_lt, nat_le, Bool, false, zero, suc, List, [], ◌∷◌, ◌++◌, length, not, filter, codes, Some, None, Result, Ok, if◌then◌else◌, take, drop}
 use Rattle.std.specs.declared.option.Option.{Option}
 use Rattle.std.specs.List.{position_or_len}
-use Rattle.std.specs.Str.{bytes_eq}
 use Rattle.rational.specs.Rational.{Rational, zero_ℚ}
 use Rattle.fraction.specs.Answers.{add_answer}
 use Rattle.rational.specs.Compare.{is_zero}
@@ -14,9 +13,10 @@ use Rattle.model_text.specs.declared.fault.FaultKind.TheVariants.{TooMany}
 use Rattle.model_text.specs.declared.fault.FileFault.{FileFault}
 use Rattle.model_text.specs.declared.profile.Profile.{Profile}
 use Rattle.cplex_lp_reader.specs.declared.token.Relation.{Relation}
-use Rattle.cplex_lp_reader.specs.declared.place.Place.{Place}
-use Rattle.cplex_lp_reader.specs.declared.place.Place.TheVariants.{Start}
+use Rattle.cplex_lp_reader.specs.declared.expecting.Expecting.{Expecting}
+use Rattle.cplex_lp_reader.specs.declared.expecting.Expecting.TheVariants.{Start}
 use Rattle.cplex_lp_reader.specs.Tokens.{Token}
+use Rattle.model_text.specs.Columns.{is_column_named, new_column}
 use Rattle.model_text.specs.Steps.{then_do}
 use Rattle.cplex_lp_reader.specs.Steps.{fault_at, fitting_at}
 
@@ -37,7 +37,7 @@ abbrev pub new_row : ℕ → OpenRow
 new_row line = record { line = line; left = None; lower = None; upper = None; form = [] }
 
 pub record Declaration : Type 0 where
-  pub place : Place
+  pub expecting : Expecting
   pub direction : Direction
   pub objective_name : List ℕ
   -- the sum of the terms of each name, zeros too, in order of column
@@ -52,7 +52,7 @@ pub record Declaration : Type 0 where
 -- without a name the objective is `obj`
 abbrev pub nothing_declared : Declaration
 nothing_declared = record {
-  place = Start;
+  expecting = Start;
   direction = Min;
   objective_name = codes "obj";
   objective = [];
@@ -63,8 +63,8 @@ nothing_declared = record {
 }
 
 -- another token comes next
-abbrev pub at_place : Place → Declaration → Declaration
-at_place place d = record d { place = place }
+abbrev pub now_expecting : Expecting → Declaration → Declaration
+now_expecting next d = record d { expecting = next }
 
 -- ---- forms
 
@@ -72,8 +72,8 @@ abbrev pub is_from : ℕ → Entry → Bool
 is_from j e = nat_le j e.column
 
 -- where the entry of column j stands, or would stand
-abbrev pub place_of : ℕ → List Entry → ℕ
-place_of j form = position_or_len (is_from j) form
+abbrev pub entry_place : ℕ → List Entry → ℕ
+entry_place j form = position_or_len (is_from j) form
 
 abbrev pub no_entry : Entry
 no_entry = record { column = 0; coefficient = zero_ℚ }
@@ -91,7 +91,7 @@ joined line j v before (e ∷ after) =
 
 -- a term added to those of the same column, from the left; the fault is at its line
 abbrev pub added : ℕ → ℕ → Rational → List Entry → Result (List Entry) FileFault
-added line j v form = joined line j v (take (place_of j form) form) (drop (place_of j form) form)
+added line j v form = joined line j v (take (entry_place j form) form) (drop (entry_place j form) form)
 
 abbrev pub is_entry : Entry → Bool
 is_entry e = not (is_zero e.coefficient)
@@ -102,23 +102,16 @@ entries_of form = filter is_entry form
 
 -- ---- columns, in order of first mention
 
-abbrev pub is_column_named : List ℕ → Column → Bool
-is_column_named name c = bytes_eq c.name name
-
 -- the place of the column of a name; where there is none, the place that it would take
-abbrev pub place_in : List ℕ → List Column → ℕ
-place_in name columns = position_or_len (is_column_named name) columns
-
--- a column begins at 0 without an upper bound
-abbrev pub new_column : List ℕ → Column
-new_column name = record { name = name; lower = Some zero_ℚ; upper = None; integer = false }
+abbrev pub column_place : List ℕ → List Column → ℕ
+column_place name columns = position_or_len (is_column_named name) columns
 
 -- a column is there, since its name is mentioned
 abbrev pub mentioned : Profile → Token → Declaration → Result Declaration FileFault
 mentioned profile t d =
-    if nat_lt (place_in t.text d.columns) (length d.columns) then Ok d
+    if nat_lt (column_place t.text d.columns) (length d.columns) then Ok d
     else if nat_le profile.columns (length d.columns) then fault_at t.line TooMany
-    else Ok (record d { columns = d.columns ++ new_column t.text ∷ [] })
+    else Ok (record d { columns = d.columns ++ new_column t.text false ∷ [] })
 
 -- the element at a place changed by f
 abbrev pub with_changed : {X : Type 0} → ℕ → (X → X) → List X → List X

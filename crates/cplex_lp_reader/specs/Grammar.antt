@@ -3,8 +3,8 @@ use Rattle.std.specs.Prelude.{Bool, true, false, List, [], ◌∷◌}
 use Rattle.rational.specs.Rational.{Rational, neg_ℚ}
 use Rattle.cplex_lp_reader.specs.declared.token.TokenKind.{TokenKind}
 use Rattle.cplex_lp_reader.specs.declared.token.TokenKind.TheVariants.{Colon}
-use Rattle.cplex_lp_reader.specs.declared.place.Sign.{Sign}
-use Rattle.cplex_lp_reader.specs.declared.place.Sign.TheVariants as sign
+use Rattle.cplex_lp_reader.specs.declared.expecting.Sign.{Sign}
+use Rattle.cplex_lp_reader.specs.declared.expecting.Sign.TheVariants as sign
 use Rattle.cplex_lp_reader.specs.Tokens.{Token, is_name}
 
 -- ---- signs: of several, each minus turns the sign

@@ -1,7 +1,8 @@
 -- The words and marks of a CPLEX LP text (GLPK Reference Manual, appendix on the CPLEX LP format: names, numbers, relations).
-use Rattle.std.specs.Prelude.{ℕ, ◌+◌, ◌==◌, nat_lt, ◌&&◌, ◌||◌, not, Bool, false, List, [], ◌∷◌, drop, Some, None, if◌then◌else◌, true}
+use Rattle.std.specs.Prelude.{ℕ, ◌+◌, ◌==◌, ◌&&◌, ◌||◌, not, Bool, false, List, [], ◌∷◌, codes, drop, Some, None, if◌then◌else◌, true}
 use Rattle.std.specs.List.{position_or_len}
 use Rattle.std.specs.Char.{is_ascii_digit, is_ascii_alphanumeric}
+use Rattle.model_text.specs.Bytes.{is_one_of}
 use Rattle.cplex_lp_reader.specs.declared.lexeme.Lexeme.{Lexeme}
 use Rattle.cplex_lp_reader.specs.declared.token.TokenKind.{TokenKind}
 use Rattle.cplex_lp_reader.specs.declared.token.TokenKind.TheVariants.{Word, Literal, Plus, Minus, Colon, Compared, Stray}
@@ -11,23 +12,19 @@ use Rattle.cplex_lp_reader.specs.declared.token.Relation.TheVariants.{AtMost, At
 -- ---- bytes
 
 abbrev pub is_blank : ℕ → Bool
-is_blank b = (b == 32) || (b == 9)
+is_blank b = is_one_of (codes " \t") b
 
--- ! " # $ % & ' ( ) , . /
-abbrev pub is_low_mark : ℕ → Bool
-is_low_mark b = (nat_lt 32 b && nat_lt b 42) || ((b == 44) || ((b == 46) || (b == 47)))
+-- the marks of names
+abbrev pub is_name_mark : ℕ → Bool
+is_name_mark b = is_one_of (codes "!\"#$%&/(),.;?@_`'{}|~") b
 
--- ; ? @ _ ` { | } ~
-abbrev pub is_high_mark : ℕ → Bool
-is_high_mark b = (b == 59) || ((b == 63) || ((b == 64) || ((b == 95) || ((b == 96) || (nat_lt 122 b && nat_lt b 127)))))
-
--- letters, digits and !"#$%&/(),.;?@_`'{}|~
+-- letters, digits and marks
 abbrev pub is_name_byte : ℕ → Bool
-is_name_byte b = is_ascii_alphanumeric b || (is_low_mark b || is_high_mark b)
+is_name_byte b = is_ascii_alphanumeric b || is_name_mark b
 
 -- a name begins with neither a digit nor a point
 abbrev pub begins_name : ℕ → Bool
-begins_name b = is_name_byte b && not (is_ascii_digit b || (b == 46))
+begins_name b = is_name_byte b && not (is_ascii_digit b || is_one_of (codes ".") b)
 
 -- ---- lengths
 
@@ -50,10 +47,10 @@ abbrev pub raised : ℕ → ℕ → ℕ
 raised before count = if count == 0 then 0 else before + count
 
 abbrev pub is_sign : ℕ → Bool
-is_sign b = (b == 43) || (b == 45)
+is_sign b = is_one_of (codes "+-") b
 
 abbrev pub is_exponent_mark : ℕ → Bool
-is_exponent_mark b = (b == 101) || (b == 69)
+is_exponent_mark b = is_one_of (codes "eE") b
 
 abbrev pub after_mark : List ℕ → ℕ
 after_mark [] = 0
@@ -71,7 +68,7 @@ point_length whole places = if (whole == 0) && (places == 0) then 0 else 1 + pla
 abbrev pub places_length : ℕ → List ℕ → ℕ
 places_length whole [] = 0
 places_length whole (b ∷ bs) =
-    if b == 46 then point_length whole (digits bs) else 0
+    if is_one_of (codes ".") b then point_length whole (digits bs) else 0
 
 -- the length of the digits and point at the start: digits with a point or none, or a point and digits
 abbrev pub mantissa_length : List ℕ → ℕ
@@ -84,9 +81,9 @@ literal_length text =
 
 -- ---- what stands at the start of a text
 
-abbrev pub next_is : ℕ → List ℕ → Bool
+abbrev pub next_is : List ℕ → List ℕ → Bool
 next_is wanted [] = false
-next_is wanted (b ∷ bs) = b == wanted
+next_is wanted (b ∷ bs) = is_one_of wanted b
 
 abbrev pub mark : ℕ → TokenKind → Lexeme
 mark size kind = record { size = size; kind = Some kind }
@@ -98,23 +95,23 @@ compared relation two = mark (if two then 2 else 1) (Compared relation)
 -- = and =< and =>
 abbrev pub equality_at : List ℕ → Lexeme
 equality_at bs =
-    if next_is 60 bs then compared AtMost true
-    else if next_is 62 bs then compared AtLeast true
+    if next_is (codes "<") bs then compared AtMost true
+    else if next_is (codes ">") bs then compared AtLeast true
     else compared Exactly false
 
 -- < and <=, > and >=, those of =, and a byte that begins nothing
 abbrev pub relation_at : ℕ → List ℕ → Lexeme
 relation_at b bs =
-    if b == 60 then compared AtMost (next_is 61 bs)
-    else if b == 62 then compared AtLeast (next_is 61 bs)
-    else if b == 61 then equality_at bs
+    if is_one_of (codes "<") b then compared AtMost (next_is (codes "=") bs)
+    else if is_one_of (codes ">") b then compared AtLeast (next_is (codes "=") bs)
+    else if is_one_of (codes "=") b then equality_at bs
     else mark 1 Stray
 
 abbrev pub mark_at : ℕ → List ℕ → Lexeme
 mark_at b bs =
-    if b == 43 then mark 1 Plus
-    else if b == 45 then mark 1 Minus
-    else if b == 58 then mark 1 Colon
+    if is_one_of (codes "+") b then mark 1 Plus
+    else if is_one_of (codes "-") b then mark 1 Minus
+    else if is_one_of (codes ":") b then mark 1 Colon
     else relation_at b bs
 
 abbrev pub literal_or_mark : List ℕ → ℕ → List ℕ → Lexeme

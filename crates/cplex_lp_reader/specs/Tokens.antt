@@ -4,6 +4,7 @@ use Rattle.std.specs.declared.option.Option.{Option}
 use Rattle.std.specs.List.{position_or_len}
 use Rattle.std.specs.Str.{str_eq_ignore_ascii_case, is_utf8}
 use Rattle.model_text.specs.Lines.{lines_of}
+use Rattle.model_text.specs.Bytes.{is_one_of}
 use Rattle.cplex_lp_reader.specs.declared.token.TokenKind.{TokenKind}
 use Rattle.cplex_lp_reader.specs.declared.token.TokenKind.TheVariants.{SectionWords, Word}
 use Rattle.cplex_lp_reader.specs.declared.token.Section.{Section}
@@ -17,7 +18,7 @@ pub record Token : Type 0 where
   pub text : List ℕ
 
 abbrev pub is_comment_mark : ℕ → Bool
-is_comment_mark b = b == 92
+is_comment_mark b = is_one_of (codes "\\") b
 
 -- a comment begins with `\` and goes on to the line's end
 abbrev pub without_comment : List ℕ → List ℕ

@@ -5,16 +5,16 @@ ghost use Rattle.model_text.specs.Follows.{Follows};
 ghost use Rattle.model_text.specs.Steps.{then_do};
 ghost use Rattle.cplex_lp_reader.specs.Steps.{number_of};
 ghost use Rattle.cplex_lp_reader.specs.Grammar.{signed};
-ghost use Rattle.cplex_lp_reader.specs.declared.place.Place.TheVariants as place;
-ghost use Rattle.cplex_lp_reader.specs.declared.place.Limit.TheVariants.{Finite};
-ghost use Rattle.cplex_lp_reader.specs.Declaration.{at_place};
+ghost use Rattle.cplex_lp_reader.specs.declared.expecting.Expecting.TheVariants as expecting;
+ghost use Rattle.cplex_lp_reader.specs.declared.expecting.Limit.TheVariants.{Finite};
+ghost use Rattle.cplex_lp_reader.specs.Declaration.{now_expecting};
 ghost use Rattle.cplex_lp_reader.specs.Bounds.{is_infinity, infinite, is_possible, turned, bound_word, with_right_bound, at_bound_start, at_bound_left, at_bound_relation, at_bound_name, at_bound_compared, at_bound_named, at_bound_right, at_general, at_binary};
 
+use crate::column_change::ColumnChange;
 use crate::columns::mention_changed;
-use crate::declared_column::ColumnChange;
 use crate::draft::Draft;
+use crate::expecting::{Expecting, Limit, Sign};
 use crate::faults::{misplaced, number_of_token};
-use crate::place::{Limit, Place, Sign};
 use crate::section_words::is_word;
 use crate::token::{Relation, Token, TokenKind};
 use model_text::{FileFault, Profile, ReadError};
@@ -78,19 +78,19 @@ fn bound_word<'a>(
     ensures { Follows result draft.new (bound_word profile.now draft.old token.now) }
 {
     if is_infinity(token.text()) {
-        draft.set_place(Place::BoundRelation(Limit::PlusInfinity));
+        draft.set_expecting(Expecting::BoundRelation(Limit::PlusInfinity));
         Ok(())
     } else {
-        let place = Place::BoundNamed(draft.place_of(token.text()));
-        mention_changed(profile, draft, token, place, ColumnChange::Kept)
+        let next = Expecting::BoundNamed(draft.column_place(token.text()));
+        mention_changed(profile, draft, token, next, ColumnChange::Kept)
     }
 }
 
 fn left_literal(draft: &mut Draft, sign: Sign, token: &Token) -> Result<(), ReadError<FileFault>>
-    ensures { Follows result draft.new (then_do (λ v. Ok (at_place (place.BoundRelation (Finite (signed sign v))) draft.old)) (number_of token.now)) }
+    ensures { Follows result draft.new (then_do (λ v. Ok (now_expecting (expecting.BoundRelation (Finite (signed sign v))) draft.old)) (number_of token.now)) }
 {
     let value = number_of_token(token)?;
-    draft.set_place(Place::BoundRelation(Limit::Finite(sign.signed(value))));
+    draft.set_expecting(Expecting::BoundRelation(Limit::Finite(sign.signed(value))));
     Ok(())
 }
 
@@ -105,11 +105,11 @@ pub(crate) fn at_bound_start<'a>(
     match token.kind() {
         TokenKind::Word => bound_word(profile, draft, token),
         TokenKind::Plus => {
-            draft.set_place(Place::BoundLeft(Sign::Plus));
+            draft.set_expecting(Expecting::BoundLeft(Sign::Plus));
             Ok(())
         }
         TokenKind::Minus => {
-            draft.set_place(Place::BoundLeft(Sign::Minus));
+            draft.set_expecting(Expecting::BoundLeft(Sign::Minus));
             Ok(())
         }
         TokenKind::Literal => left_literal(draft, Sign::Unsigned, token),
@@ -122,7 +122,7 @@ fn left_infinity(draft: &mut Draft, sign: Sign, token: &Token) -> Result<(), Rea
     ensures { Follows result draft.new (at_bound_left TokenKind.Word draft.old sign token.now) }
 {
     if is_infinity(token.text()) {
-        draft.set_place(Place::BoundRelation(infinite(sign)));
+        draft.set_expecting(Expecting::BoundRelation(infinite(sign)));
         Ok(())
     } else {
         Err(misplaced(token))
@@ -139,11 +139,11 @@ pub(crate) fn at_bound_left(
 {
     match token.kind() {
         TokenKind::Plus => {
-            draft.set_place(Place::BoundLeft(sign.after_plus()));
+            draft.set_expecting(Expecting::BoundLeft(sign.after_plus()));
             Ok(())
         }
         TokenKind::Minus => {
-            draft.set_place(Place::BoundLeft(sign.after_minus()));
+            draft.set_expecting(Expecting::BoundLeft(sign.after_minus()));
             Ok(())
         }
         TokenKind::Literal => left_literal(draft, sign, token),
@@ -162,7 +162,7 @@ fn left_relation(
     ensures { Follows result draft.new (at_bound_relation (TokenKind.Compared relation) draft.old limit token.now) }
 {
     if is_possible(turned(relation), &limit) {
-        draft.set_place(Place::BoundName(limit, relation));
+        draft.set_expecting(Expecting::BoundName(limit, relation));
         Ok(())
     } else {
         Err(misplaced(token))
@@ -198,9 +198,9 @@ fn name_word<'a>(
     if is_infinity(token.text()) {
         Err(misplaced(token))
     } else {
-        let place = Place::BoundCompared(draft.place_of(token.text()));
+        let next = Expecting::BoundCompared(draft.column_place(token.text()));
         let change = ColumnChange::Bounded(turned(relation), limit);
-        mention_changed(profile, draft, token, place, change)
+        mention_changed(profile, draft, token, next, change)
     }
 }
 
@@ -232,7 +232,7 @@ pub(crate) fn at_bound_compared<'a>(
 {
     match token.kind() {
         TokenKind::Compared(relation) => {
-            draft.set_place(Place::BoundRight(column, relation, Sign::Unsigned));
+            draft.set_expecting(Expecting::BoundRight(column, relation, Sign::Unsigned));
             Ok(())
         }
         _ => at_bound_start(profile, draft, token),
@@ -251,7 +251,7 @@ fn named_word<'a>(
 {
     if is_word(token.text(), "free") {
         draft.change_column(column, ColumnChange::Freed);
-        draft.set_place(Place::BoundStart);
+        draft.set_expecting(Expecting::BoundStart);
         Ok(())
     } else {
         bound_word(profile, draft, token)
@@ -287,7 +287,7 @@ fn with_right_bound(
 {
     if is_possible(relation, &limit) {
         draft.change_column(column, ColumnChange::Bounded(relation, limit));
-        draft.set_place(Place::BoundStart);
+        draft.set_expecting(Expecting::BoundStart);
         Ok(())
     } else {
         Err(misplaced(token))
@@ -337,11 +337,11 @@ pub(crate) fn at_bound_right(
 {
     match token.kind() {
         TokenKind::Plus => {
-            draft.set_place(Place::BoundRight(column, relation, sign.after_plus()));
+            draft.set_expecting(Expecting::BoundRight(column, relation, sign.after_plus()));
             Ok(())
         }
         TokenKind::Minus => {
-            draft.set_place(Place::BoundRight(column, relation, sign.after_minus()));
+            draft.set_expecting(Expecting::BoundRight(column, relation, sign.after_minus()));
             Ok(())
         }
         TokenKind::Literal => right_literal(draft, column, relation, sign, token),
@@ -365,7 +365,7 @@ pub(crate) fn at_general<'a>(
             profile,
             draft,
             token,
-            Place::Generals,
+            Expecting::Generals,
             ColumnChange::MadeInteger,
         ),
         _ => Err(misplaced(token)),
@@ -385,7 +385,7 @@ pub(crate) fn at_binary<'a>(
             profile,
             draft,
             token,
-            Place::Binaries,
+            Expecting::Binaries,
             ColumnChange::MadeBinary,
         ),
         _ => Err(misplaced(token)),

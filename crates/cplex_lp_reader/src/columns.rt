@@ -2,13 +2,13 @@
 ghost use Rattle.std.specs.Prelude.{◌≡◌, ◌<◌, length, OnOk};
 ghost use Rattle.model_text.specs.Profile.{IsWithinInstance};
 ghost use Rattle.model_text.specs.Follows.{Follows};
-ghost use Rattle.cplex_lp_reader.specs.Declaration.{mentioned, place_in};
+ghost use Rattle.cplex_lp_reader.specs.Declaration.{mentioned, column_place};
 ghost use Rattle.cplex_lp_reader.specs.Bounds.{with_mentioned};
 
-use crate::declared_column::ColumnChange;
+use crate::column_change::ColumnChange;
 use crate::draft::Draft;
+use crate::expecting::Expecting;
 use crate::faults::fault_at;
-use crate::place::Place;
 use crate::token::Token;
 use model_text::{FaultKind, FileFault, Profile, ReadError};
 
@@ -20,9 +20,9 @@ pub(crate) fn mention<'a>(
 ) -> Result<(), ReadError<FileFault>>
     requires { IsWithinInstance profile.now }
     ensures follows { Follows result draft.new (mentioned profile.now token.now draft.old) }
-    ensures there { OnOk result (place_in token.now.text draft.old.columns < length draft.new.columns) }
+    ensures there { OnOk result (column_place token.now.text draft.old.columns < length draft.new.columns) }
 {
-    if (draft.place_of(token.text()) as usize) < draft.column_count() {
+    if (draft.column_place(token.text()) as usize) < draft.column_count() {
         return Ok(());
     }
     if draft.column_count() >= profile.columns {
@@ -37,15 +37,15 @@ pub(crate) fn mention_changed<'a>(
     profile: &Profile,
     draft: &mut Draft<'a>,
     token: &Token<'a>,
-    place: Place,
+    next: Expecting,
     change: ColumnChange,
 ) -> Result<(), ReadError<FileFault>>
     requires { IsWithinInstance profile.now }
-    ensures { Follows result draft.new (with_mentioned profile.now draft.old token.now place change) }
+    ensures { Follows result draft.new (with_mentioned profile.now draft.old token.now next change) }
 {
-    let column = draft.place_of(token.text());
+    let column = draft.column_place(token.text());
     mention(profile, draft, token)?;
     draft.change_column(column, change);
-    draft.set_place(place);
+    draft.set_expecting(next);
     Ok(())
 }

@@ -7,15 +7,15 @@ ghost use Rattle.model_text.specs.Follows.{Follows};
 ghost use Rattle.model_text.specs.Steps.{then_do};
 ghost use Rattle.cplex_lp_reader.specs.Steps.{number_of};
 ghost use Rattle.cplex_lp_reader.specs.Grammar.{signed};
-ghost use Rattle.cplex_lp_reader.specs.declared.place.Place.TheVariants as place;
-ghost use Rattle.cplex_lp_reader.specs.declared.place.TermPlace.TheVariants.{Factor};
-ghost use Rattle.cplex_lp_reader.specs.Declaration.{at_place};
+ghost use Rattle.cplex_lp_reader.specs.declared.expecting.Expecting.TheVariants as expecting;
+ghost use Rattle.cplex_lp_reader.specs.declared.expecting.TermPart.TheVariants.{Factor};
+ghost use Rattle.cplex_lp_reader.specs.Declaration.{now_expecting};
 ghost use Rattle.cplex_lp_reader.specs.Constraints.{row_opened, unnamed_row, unnamed_row_at, row_term, row_begun, row_factor, row_done, in_row_terms, may_follow, at_row_name, at_row_start, at_row_colon, at_row_first, at_row_number, at_row_right, row_closed, with_right};
 
 use crate::columns::mention;
 use crate::draft::Draft;
+use crate::expecting::{Expecting, Sign, TermPart};
 use crate::faults::{fault_at, misplaced, number_of_token};
-use crate::place::{Place, Sign, TermPlace};
 use crate::token::{Relation, Token, TokenKind, is_before_colon};
 use fraction::Frac;
 use model_text::{FaultKind, FileFault, Profile, ReadError};
@@ -85,14 +85,14 @@ fn unnamed_row_at(
     alloc: Global,
     profile: &Profile,
     draft: &mut Draft,
-    place: Place,
+    next: Expecting,
     line: usize,
 ) -> Result<(), ReadError<FileFault>>
     requires { IsWithinInstance profile.now }
-    ensures { Follows result draft.new (unnamed_row_at place profile.now line draft.old) }
+    ensures { Follows result draft.new (unnamed_row_at next profile.now line draft.old) }
 {
     unnamed_row(alloc, profile, draft, line)?;
-    draft.set_place(place);
+    draft.set_expecting(next);
     Ok(())
 }
 
@@ -108,16 +108,16 @@ fn row_term<'a>(
     requires { IsWithinInstance profile.now }
     ensures { Follows result draft.new (row_term profile.now value token.now draft.old) }
 {
-    let column = draft.place_of(token.text());
+    let column = draft.column_place(token.text());
     mention(profile, draft, token)?;
     draft.add_to_row(token.line(), column, value)
 }
 
 fn row_literal(draft: &mut Draft, sign: Sign, token: &Token) -> Result<(), ReadError<FileFault>>
-    ensures { Follows result draft.new (then_do (λ v. Ok (at_place (place.RowTerms (Factor (signed sign v))) draft.old)) (number_of token.now)) }
+    ensures { Follows result draft.new (then_do (λ v. Ok (now_expecting (expecting.RowTerms (Factor (signed sign v))) draft.old)) (number_of token.now)) }
 {
     let value = number_of_token(token)?;
-    draft.set_place(Place::RowTerms(TermPlace::Factor(sign.signed(value))));
+    draft.set_expecting(Expecting::RowTerms(TermPart::Factor(sign.signed(value))));
     Ok(())
 }
 
@@ -133,15 +133,15 @@ fn row_begun<'a>(
 {
     match token.kind() {
         TokenKind::Plus => {
-            draft.set_place(Place::RowTerms(TermPlace::Begun(sign.after_plus())));
+            draft.set_expecting(Expecting::RowTerms(TermPart::Begun(sign.after_plus())));
             Ok(())
         }
         TokenKind::Minus => {
-            draft.set_place(Place::RowTerms(TermPlace::Begun(sign.after_minus())));
+            draft.set_expecting(Expecting::RowTerms(TermPart::Begun(sign.after_minus())));
             Ok(())
         }
         TokenKind::Literal => row_literal(draft, sign, token),
-        TokenKind::Word => row_term(profile, draft, sign.signed(Frac::whole(1)), token),
+        TokenKind::Word => row_term(profile, draft, sign.signed(Frac::one()), token),
         _ => Err(misplaced(token)),
     }
 }
@@ -189,7 +189,7 @@ fn row_relation(
     ensures { Follows result draft.new (row_done (TokenKind.Compared relation) draft.old token.now) }
 {
     if may_follow(draft.row_left(), relation) {
-        draft.set_place(Place::RowRight(relation, Sign::Unsigned));
+        draft.set_expecting(Expecting::RowRight(relation, Sign::Unsigned));
         Ok(())
     } else {
         Err(misplaced(token))
@@ -202,11 +202,11 @@ fn row_done(draft: &mut Draft, token: &Token) -> Result<(), ReadError<FileFault>
 {
     match token.kind() {
         TokenKind::Plus => {
-            draft.set_place(Place::RowTerms(TermPlace::Begun(Sign::Plus)));
+            draft.set_expecting(Expecting::RowTerms(TermPart::Begun(Sign::Plus)));
             Ok(())
         }
         TokenKind::Minus => {
-            draft.set_place(Place::RowTerms(TermPlace::Begun(Sign::Minus)));
+            draft.set_expecting(Expecting::RowTerms(TermPart::Begun(Sign::Minus)));
             Ok(())
         }
         TokenKind::Compared(relation) => row_relation(draft, relation, token),
@@ -217,16 +217,16 @@ fn row_done(draft: &mut Draft, token: &Token) -> Result<(), ReadError<FileFault>
 pub(crate) fn in_row_terms<'a>(
     profile: &Profile,
     draft: &mut Draft<'a>,
-    place: TermPlace,
+    part: TermPart,
     token: &Token<'a>,
 ) -> Result<(), ReadError<FileFault>>
     requires { IsWithinInstance profile.now }
-    ensures { Follows result draft.new (in_row_terms place profile.now draft.old token.now) }
+    ensures { Follows result draft.new (in_row_terms part profile.now draft.old token.now) }
 {
-    match place {
-        TermPlace::Begun(sign) => row_begun(profile, draft, sign, token),
-        TermPlace::Factor(value) => row_factor(profile, draft, value, token),
-        TermPlace::Done => row_done(draft, token),
+    match part {
+        TermPart::Begun(sign) => row_begun(profile, draft, sign, token),
+        TermPart::Factor(value) => row_factor(profile, draft, value, token),
+        TermPart::Done => row_done(draft, token),
     }
 }
 
@@ -240,10 +240,10 @@ fn row_name(
     token: &Token,
 ) -> Result<(), ReadError<FileFault>>
     requires { IsWithinInstance profile.now }
-    ensures { Follows result draft.new (then_do (λ opened. Ok (at_place place.RowColon opened)) (row_opened profile.now token.now.line token.now.text draft.old)) }
+    ensures { Follows result draft.new (then_do (λ opened. Ok (now_expecting expecting.RowColon opened)) (row_opened profile.now token.now.line token.now.text draft.old)) }
 {
     named_row(alloc, profile, draft, token)?;
-    draft.set_place(Place::RowColon);
+    draft.set_expecting(Expecting::RowColon);
     Ok(())
 }
 
@@ -258,7 +258,7 @@ fn unnamed_term<'a>(
     ensures { Follows result draft.new (then_do (row_term profile.now one_ℚ token.now) (unnamed_row profile.now token.now.line draft.old)) }
 {
     unnamed_row(alloc, profile, draft, token.line())?;
-    row_term(profile, draft, Frac::whole(1), token)
+    row_term(profile, draft, Frac::one(), token)
 }
 
 // A name before a colon is the row's, and another is that of its first term.
@@ -287,10 +287,16 @@ fn unnamed_literal(
     token: &Token,
 ) -> Result<(), ReadError<FileFault>>
     requires { IsWithinInstance profile.now }
-    ensures { Follows result draft.new (then_do (λ v. unnamed_row_at (place.RowNumber v) profile.now token.now.line draft.old) (number_of token.now)) }
+    ensures { Follows result draft.new (then_do (λ v. unnamed_row_at (expecting.RowNumber v) profile.now token.now.line draft.old) (number_of token.now)) }
 {
     let value = number_of_token(token)?;
-    unnamed_row_at(alloc, profile, draft, Place::RowNumber(value), token.line())
+    unnamed_row_at(
+        alloc,
+        profile,
+        draft,
+        Expecting::RowNumber(value),
+        token.line(),
+    )
 }
 
 pub(crate) fn at_row_start<'a>(
@@ -306,12 +312,12 @@ pub(crate) fn at_row_start<'a>(
     match token.kind() {
         TokenKind::Word => at_row_name(alloc, profile, draft, token, rest),
         TokenKind::Plus => {
-            let place = Place::RowFirst(Sign::Plus);
-            unnamed_row_at(alloc, profile, draft, place, token.line())
+            let next = Expecting::RowFirst(Sign::Plus);
+            unnamed_row_at(alloc, profile, draft, next, token.line())
         }
         TokenKind::Minus => {
-            let place = Place::RowFirst(Sign::Minus);
-            unnamed_row_at(alloc, profile, draft, place, token.line())
+            let next = Expecting::RowFirst(Sign::Minus);
+            unnamed_row_at(alloc, profile, draft, next, token.line())
         }
         TokenKind::Literal => unnamed_literal(alloc, profile, draft, token),
         _ => Err(misplaced(token)),
@@ -322,7 +328,7 @@ pub(crate) fn at_row_colon(draft: &mut Draft, token: &Token) -> Result<(), ReadE
     ensures { Follows result draft.new (at_row_colon draft.old token.now) }
 {
     if token.kind().is_colon() {
-        draft.set_place(Place::RowFirst(Sign::Unsigned));
+        draft.set_expecting(Expecting::RowFirst(Sign::Unsigned));
         Ok(())
     } else {
         Err(misplaced(token))
@@ -330,10 +336,10 @@ pub(crate) fn at_row_colon(draft: &mut Draft, token: &Token) -> Result<(), ReadE
 }
 
 fn first_literal(draft: &mut Draft, sign: Sign, token: &Token) -> Result<(), ReadError<FileFault>>
-    ensures { Follows result draft.new (then_do (λ v. Ok (at_place (place.RowNumber (signed sign v)) draft.old)) (number_of token.now)) }
+    ensures { Follows result draft.new (then_do (λ v. Ok (now_expecting (expecting.RowNumber (signed sign v)) draft.old)) (number_of token.now)) }
 {
     let value = number_of_token(token)?;
-    draft.set_place(Place::RowNumber(sign.signed(value)));
+    draft.set_expecting(Expecting::RowNumber(sign.signed(value)));
     Ok(())
 }
 
@@ -349,15 +355,15 @@ pub(crate) fn at_row_first<'a>(
 {
     match token.kind() {
         TokenKind::Plus => {
-            draft.set_place(Place::RowFirst(sign.after_plus()));
+            draft.set_expecting(Expecting::RowFirst(sign.after_plus()));
             Ok(())
         }
         TokenKind::Minus => {
-            draft.set_place(Place::RowFirst(sign.after_minus()));
+            draft.set_expecting(Expecting::RowFirst(sign.after_minus()));
             Ok(())
         }
         TokenKind::Literal => first_literal(draft, sign, token),
-        TokenKind::Word => row_term(profile, draft, sign.signed(Frac::whole(1)), token),
+        TokenKind::Word => row_term(profile, draft, sign.signed(Frac::one()), token),
         _ => Err(misplaced(token)),
     }
 }
@@ -448,11 +454,11 @@ pub(crate) fn at_row_right(
 {
     match token.kind() {
         TokenKind::Plus => {
-            draft.set_place(Place::RowRight(relation, sign.after_plus()));
+            draft.set_expecting(Expecting::RowRight(relation, sign.after_plus()));
             Ok(())
         }
         TokenKind::Minus => {
-            draft.set_place(Place::RowRight(relation, sign.after_minus()));
+            draft.set_expecting(Expecting::RowRight(relation, sign.after_minus()));
             Ok(())
         }
         TokenKind::Literal => right_literal(alloc, profile, draft, relation, sign, token),

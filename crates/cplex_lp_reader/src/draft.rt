@@ -6,31 +6,31 @@ ghost use Rattle.model_text.specs.Names.{AreNew};
 ghost use Rattle.model_text.specs.Follows.{Follows};
 ghost use Rattle.model_text.specs.Steps.{then_do};
 ghost use Rattle.cplex_lp_reader.specs.Consistent.{HasForm, are_terms};
-ghost use Rattle.cplex_lp_reader.specs.declared.place.Place.TheVariants as place;
-ghost use Rattle.cplex_lp_reader.specs.declared.place.TermPlace.TheVariants.{Done};
-ghost use Rattle.cplex_lp_reader.specs.Declaration.{nothing_declared, at_place, added, entries_of, place_in, new_row, new_column, with_column, with_changed};
+ghost use Rattle.cplex_lp_reader.specs.declared.expecting.Expecting.TheVariants as expecting;
+ghost use Rattle.cplex_lp_reader.specs.declared.expecting.TermPart.TheVariants.{Done};
+ghost use Rattle.model_text.specs.Columns.{new_column};
+ghost use Rattle.cplex_lp_reader.specs.Declaration.{nothing_declared, now_expecting, added, entries_of, column_place, new_row, with_column, with_changed};
 ghost use Rattle.cplex_lp_reader.specs.Constraints.{is_row, blank_row, entry_count, with_left, with_right, filled};
 ghost use Rattle.cplex_lp_reader.specs.Bounds.{changed};
 
-use crate::column_table::ColumnTable;
-use crate::declared_column::{ColumnChange, DeclaredColumn};
+use crate::column_change::{ColumnChange, change_at};
+use crate::expecting::{Expecting, Sign, TermPart};
 use crate::form::Form;
 use crate::open_row::OpenRow;
-use crate::place::{Place, Sign, TermPlace};
 use crate::row::DeclaredRow;
 use crate::row_table::RowTable;
 use crate::token::Relation;
 use fraction::Frac;
 use instance::Entry;
 use milp::Direction;
-use model_text::{FileFault, ReadError};
+use model_text::{ColumnTable, DeclaredColumn, FileFault, ReadError};
 use std::alloc::{AllocError, Global};
 use std::marker::Model;
 
 // What the text has declared so far.
 #[derive(Drop)]
 pub(crate) struct Draft<'a> {
-    place: Place,
+    expecting: Expecting,
     direction: Direction,
     objective_name: &'a str,
     objective: Form,
@@ -47,7 +47,7 @@ impl<'a> Model for Draft<'a> {
 
     ghost Value = { Declaration };
 
-    ghost view = { λ d. record { place = d.place; direction = d.direction; objective_name = d.objective_name.now; objective = d.objective; constant = d.constant; rows = d.rows; open_row = d.open_row; columns = d.columns } };
+    ghost view = { λ d. record { expecting = d.expecting; direction = d.direction; objective_name = d.objective_name.now; objective = d.objective; constant = d.constant; rows = d.rows; open_row = d.open_row; columns = d.columns } };
 
     ghost invariant = { λ d. IsConsistent d.objective d.open_row.form d.rows d.columns };
 }
@@ -57,28 +57,28 @@ impl<'a> Draft<'a> {
         ensures { result ≡ nothing_declared }
     {
         Draft {
-            place: Place::Start,
+            expecting: Expecting::Start,
             direction: Direction::Min,
             objective_name: "obj",
             objective: Form::new(alloc),
-            constant: Frac::whole(0),
+            constant: Frac::zero(),
             rows: RowTable::new(alloc),
             open_row: OpenRow::new(alloc, 0),
             columns: ColumnTable::new(alloc),
         }
     }
 
-    pub(crate) fn place(&self) -> Place
-        ensures { result ≡ self.now.place }
+    pub(crate) fn expecting(&self) -> Expecting
+        ensures { result ≡ self.now.expecting }
     {
-        self.place
+        self.expecting
     }
 
     // Another token comes.
-    pub(crate) fn set_place(&mut self, place: Place)
-        ensures { self.new ≡ at_place place self.old }
+    pub(crate) fn set_expecting(&mut self, next: Expecting)
+        ensures { self.new ≡ now_expecting next self.old }
     {
-        self.place = place;
+        self.expecting = next;
     }
 
     // ---- the objective
@@ -110,17 +110,17 @@ impl<'a> Draft<'a> {
     }
 
     pub(crate) fn begin_objective(&mut self, direction: Direction)
-        ensures { self.new ≡ record self.old { direction = direction; place = place.ObjectiveStart } }
+        ensures { self.new ≡ record self.old { direction = direction; expecting = expecting.ObjectiveStart } }
     {
         self.direction = direction;
-        self.place = Place::ObjectiveStart;
+        self.expecting = Expecting::ObjectiveStart;
     }
 
     pub(crate) fn name_objective(&mut self, name: &'a str)
-        ensures { self.new ≡ record self.old { objective_name = name.now; place = place.ObjectiveColon } }
+        ensures { self.new ≡ record self.old { objective_name = name.now; expecting = expecting.ObjectiveColon } }
     {
         self.objective_name = name;
-        self.place = Place::ObjectiveColon;
+        self.expecting = Expecting::ObjectiveColon;
     }
 
     // A term more; the fault is at its line.
@@ -131,18 +131,18 @@ impl<'a> Draft<'a> {
         value: Frac,
     ) -> Result<(), ReadError<FileFault>>
         requires { column < length self.old.columns }
-        ensures { Follows result self.new (then_do (λ form. Ok (record self.old { objective = form; place = place.Objective Done })) (added line column value self.old.objective)) }
+        ensures { Follows result self.new (then_do (λ form. Ok (record self.old { objective = form; expecting = expecting.Objective Done })) (added line column value self.old.objective)) }
     {
         self.objective.add(line, column, value)?;
-        self.place = Place::Objective(TermPlace::Done);
+        self.expecting = Expecting::Objective(TermPart::Done);
         Ok(())
     }
 
     pub(crate) fn set_constant(&mut self, constant: Frac)
-        ensures { self.new ≡ record self.old { constant = constant; place = place.Objective Done } }
+        ensures { self.new ≡ record self.old { constant = constant; expecting = expecting.Objective Done } }
     {
         self.constant = constant;
-        self.place = Place::Objective(TermPlace::Done);
+        self.expecting = Expecting::Objective(TermPart::Done);
     }
 
     // ---- rows
@@ -222,10 +222,10 @@ impl<'a> Draft<'a> {
         value: Frac,
     ) -> Result<(), ReadError<FileFault>>
         requires { column < length self.old.columns }
-        ensures { Follows result self.new (then_do (λ form. Ok (record self.old { open_row = record self.old.open_row { form = form }; place = place.RowTerms Done })) (added line column value self.old.open_row.form)) }
+        ensures { Follows result self.new (then_do (λ form. Ok (record self.old { open_row = record self.old.open_row { form = form }; expecting = expecting.RowTerms Done })) (added line column value self.old.open_row.form)) }
     {
         self.open_row.add(line, column, value)?;
-        self.place = Place::RowTerms(TermPlace::Done);
+        self.expecting = Expecting::RowTerms(TermPart::Done);
         Ok(())
     }
 
@@ -234,7 +234,7 @@ impl<'a> Draft<'a> {
         ensures { self.new ≡ with_left self.old value relation }
     {
         self.open_row.set_left(relation, value);
-        self.place = Place::RowTerms(TermPlace::Begun(Sign::Unsigned));
+        self.expecting = Expecting::RowTerms(TermPart::Begun(Sign::Unsigned));
     }
 
     // A number is on its right, after a relation.
@@ -248,11 +248,11 @@ impl<'a> Draft<'a> {
     pub(crate) fn close_row(&mut self, entries: Vec<Entry>)
         requires entries { entries.items ≡ entries_of self.old.open_row.form }
         requires room { entry_count self.old.rows + length entries.items ≤ 2_000_000 }
-        ensures { self.new ≡ record self.old { rows = with_changed (length self.old.rows - 1) (filled self.old.open_row) self.old.rows; place = place.RowStart } }
+        ensures { self.new ≡ record self.old { rows = with_changed (length self.old.rows - 1) (filled self.old.open_row) self.old.rows; expecting = expecting.RowStart } }
     {
         self.rows
             .fill_last(self.open_row.lower(), self.open_row.upper(), entries);
-        self.place = Place::RowStart;
+        self.expecting = Expecting::RowStart;
     }
 
     // ---- columns
@@ -272,21 +272,24 @@ impl<'a> Draft<'a> {
     }
 
     // The place of the column of a name, or the one that it would take.
-    pub(crate) fn place_of(&self, name: &str) -> u32
-        ensures value { result ≡ place_in name.now self.now.columns }
+    pub(crate) fn column_place(&self, name: &str) -> u32
+        ensures value { result ≡ column_place name.now self.now.columns }
         ensures within { result ≤ length self.now.columns }
     {
-        self.columns.place(name) as u32
+        match self.columns.place(name) {
+            Some(place) => place as u32,
+            None => self.columns.len() as u32,
+        }
     }
 
     // A column of this name.
     pub(crate) fn push_column(&mut self, name: &'a str) -> Result<(), AllocError>
-        requires new { length self.old.columns ≤ place_in name.now self.old.columns }
+        requires new { length self.old.columns ≤ column_place name.now self.old.columns }
         requires room { length self.old.columns < 100_000 }
-        ensures added { OnOk result (self.new ≡ record self.old { columns = self.old.columns ++ new_column name.now ∷ [] }) }
+        ensures added { OnOk result (self.new ≡ record self.old { columns = self.old.columns ++ new_column name.now false ∷ [] }) }
         ensures more { OnOk result (length self.new.columns ≡ length self.old.columns + 1) }
     {
-        self.columns.push(DeclaredColumn::new(name))?;
+        self.columns.push(DeclaredColumn::new(name, false))?;
         Ok(())
     }
 
@@ -294,6 +297,6 @@ impl<'a> Draft<'a> {
     pub(crate) fn change_column(&mut self, column: u32, change: ColumnChange)
         ensures { self.new ≡ with_column column (changed change) self.old }
     {
-        self.columns.change(column as usize, change);
+        change_at(&mut self.columns, column as usize, change);
     }
 }

@@ -1,20 +1,17 @@
 // The problem of a finished declaration.
-ghost use Rattle.std.specs.Prelude.{◌≡◌, ◌≢◌, ◌+◌, ◌<◌, ◌≤◌, ◌++◌, [], ◌∷◌, false, length, map, IsTrue, IfOk};
+ghost use Rattle.std.specs.Prelude.{◌≡◌, ◌+◌, ◌<◌, ◌≤◌, ◌++◌, [], ◌∷◌, false, length, map, IfOk};
 ghost use Rattle.std.specs.List.{All};
-ghost use Rattle.milp.specs.Problem.{Column as ColumnOf, Row as RowOf};
-ghost use Rattle.instance.specs.WellFormed.{are_entries, has_column, has_row, entry_count as entries_of_rows};
+ghost use Rattle.milp.specs.Problem.{Row as RowOf};
+ghost use Rattle.instance.specs.WellFormed.{has_row, entry_count as entries_of_rows};
 ghost use Rattle.model_text.specs.Names.{AreNew};
 ghost use Rattle.cplex_lp_reader.specs.Consistent.{HasForm};
 ghost use Rattle.cplex_lp_reader.specs.Constraints.{entry_count};
 ghost use Rattle.cplex_lp_reader.specs.Declaration.{entries_of, problem_of};
 
-use crate::declared_column::DeclaredColumn;
 use crate::draft::Draft;
 use crate::row::DeclaredRow;
-use instance::{
-    BuildFault, Builder, Column, Entries, Entry, Instance, MAX_COLUMNS, MAX_ENTRIES, MAX_ROWS,
-    Name, Row,
-};
+use instance::{Builder, Entries, Instance, MAX_ENTRIES, MAX_ROWS, Name};
+use model_text::{add_columns, add_row};
 use std::alloc::{AllocError, Global};
 
 pub(crate) fn finish(alloc: Global, draft: &Draft) -> Result<Instance, AllocError>
@@ -25,54 +22,6 @@ pub(crate) fn finish(alloc: Global, draft: &Draft) -> Result<Instance, AllocErro
     add_rows(alloc, &mut builder, draft.rows())?;
     set_objective(alloc, &mut builder, draft)?;
     Ok(builder.done())
-}
-
-// ---- columns
-
-fn add_columns(
-    alloc: Global,
-    builder: &mut Builder,
-    columns: &[DeclaredColumn],
-) -> Result<(), AllocError>
-    requires empty { builder.old.columns ≡ [] }
-    requires new { AreNew (map (λ (c : ColumnOf). c.name) columns.now) }
-    requires few { length columns.now ≤ 100_000 }
-    ensures { IfOk result (λ _. builder.new ≡ record builder.old { columns = columns.now }) }
-{
-    for column in columns {
-        add_column(alloc, builder, column)?;
-    }
-    Ok(())
-}
-
-fn add_column(
-    alloc: Global,
-    builder: &mut Builder,
-    column: &DeclaredColumn,
-) -> Result<(), AllocError>
-    requires new { has_column column.now.name builder.old.columns ≡ false }
-    requires room { length builder.old.columns < MAX_COLUMNS }
-    ensures { IfOk result (λ _. builder.new ≡ record builder.old { columns = builder.old.columns ++ column.now ∷ [] }) }
-{
-    let finished = finished_column(alloc, column)?;
-    match builder.column(finished) {
-        Ok(_) => Ok(()),
-        Err((_, fault)) => Err(no_memory(fault)),
-    }
-}
-
-fn finished_column(alloc: Global, column: &DeclaredColumn) -> Result<Column, AllocError>
-    ensures { IfOk result (λ finished. finished ≡ column.now) }
-{
-    let name = Name::new(alloc, column.name())?;
-    Ok(Column::new(name, column.lower(), column.upper(), column.integer()))
-}
-
-// There is room for one more.
-fn no_memory(_fault: BuildFault) -> AllocError
-    requires { _fault ≢ BuildFault.TooMany }
-{
-    AllocError
 }
 
 // ---- rows
@@ -86,32 +35,30 @@ fn add_rows(alloc: Global, builder: &mut Builder, rows: &[DeclaredRow]) -> Resul
     ensures { IfOk result (λ _. builder.new ≡ record builder.old { rows = rows.now }) }
 {
     for row in rows {
-        add_row(alloc, builder, row)?;
+        add_declared_row(alloc, builder, row)?;
     }
     Ok(())
 }
 
-fn add_row(alloc: Global, builder: &mut Builder, row: &DeclaredRow) -> Result<(), AllocError>
+fn add_declared_row(
+    alloc: Global,
+    builder: &mut Builder,
+    row: &DeclaredRow,
+) -> Result<(), AllocError>
     requires new { has_row row.now.name builder.old.rows ≡ false }
     requires form { HasForm (length builder.old.columns) row.now }
     requires room { length builder.old.rows < MAX_ROWS }
     requires entry_room { entries_of_rows builder.old.rows + length row.now.entries ≤ MAX_ENTRIES }
     ensures { IfOk result (λ _. builder.new ≡ record builder.old { rows = builder.old.rows ++ row.now ∷ [] }) }
 {
-    let name = Name::new(alloc, row.name())?;
-    let entries = form(alloc, row.entries())?;
-    match builder.row(Row::new(name, row.lower(), row.upper(), entries)) {
-        Ok(_) => Ok(()),
-        Err((_, fault)) => Err(no_memory(fault)),
-    }
-}
-
-fn form(alloc: Global, entries: &[Entry]) -> Result<Entries, AllocError>
-    ensures { IfOk result (λ form. form ≡ entries.now) }
-{
-    let mut copied = Vec::new(alloc);
-    copied.extend_from_slice(entries)?;
-    Ok(Entries::from_vec(copied))
+    add_row(
+        alloc,
+        builder,
+        row.name(),
+        row.lower(),
+        row.upper(),
+        row.entries(),
+    )
 }
 
 // ---- the objective

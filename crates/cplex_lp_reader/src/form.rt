@@ -4,7 +4,7 @@ ghost use Rattle.std.specs.List.{position};
 ghost use Rattle.fraction.specs.Answers.{add_answer};
 ghost use Rattle.model_text.specs.Follows.{Follows, as_read};
 ghost use Rattle.cplex_lp_reader.specs.Steps.{fitting_at};
-ghost use Rattle.cplex_lp_reader.specs.Declaration.{no_entry, is_from, place_of, begins_with, joined, added, is_entry, entries_of};
+ghost use Rattle.cplex_lp_reader.specs.Declaration.{no_entry, is_from, entry_place, begins_with, joined, added, is_entry, entries_of};
 ghost use Rattle.cplex_lp_reader.specs.Consistent.{are_terms};
 
 use fraction::Frac;
@@ -66,7 +66,7 @@ impl Form {
     // All entries are of earlier columns, as where terms come in order of column.
     fn ends_before(&self, column: u32) -> bool
         requires { (count : ℕ) × IsTrue (are_terms count self.now) }
-        ensures { IsTrue result → place_of column self.now ≡ length self.now }
+        ensures { IsTrue result → entry_place column self.now ≡ length self.now }
     {
         let count = self.entries.len();
         if count == 0 {
@@ -85,7 +85,7 @@ impl Form {
     // Where the entry of a column stands, or would stand.
     fn place(&self, column: u32) -> usize
         requires { (count : ℕ) × IsTrue (are_terms count self.now) }
-        ensures value { result ≡ place_of column self.now }
+        ensures value { result ≡ entry_place column self.now }
         ensures within { result ≤ length self.now }
     {
         if self.ends_before(column) {

@@ -1,7 +1,7 @@
 // The words and marks of a line.
-ghost use Rattle.std.specs.Prelude.{◌≡◌, ℕ, IsTrue, ◌+◌, ◌^◌, ◌<◌, ◌≤◌, ◌∷◌, length, drop};
+ghost use Rattle.std.specs.Prelude.{◌≡◌, ℕ, IsTrue, ◌+◌, ◌^◌, ◌<◌, ◌≤◌, [], ◌∷◌, length, drop};
 ghost use Rattle.std.specs.List.{position};
-ghost use Rattle.cplex_lp_reader.specs.Lexemes.{is_blank, is_low_mark, is_high_mark, is_name_byte, begins_name, is_no_digit, is_no_name_byte, digits, name_bytes, raised, point_length, is_sign, is_exponent_mark, after_mark, exponent_length, places_length, mantissa_length, literal_length, relation_at, mark_at, lexeme_at, next_is, mark, compared, equality_at, literal_or_mark};
+ghost use Rattle.cplex_lp_reader.specs.Lexemes.{is_blank, is_name_mark, is_name_byte, begins_name, is_no_digit, is_no_name_byte, digits, name_bytes, raised, point_length, is_sign, is_exponent_mark, after_mark, exponent_length, places_length, mantissa_length, literal_length, relation_at, mark_at, lexeme_at, next_is, mark, compared, equality_at, literal_or_mark};
 
 use crate::token::{Relation, TokenKind};
 
@@ -20,24 +20,17 @@ fn is_blank(b: u8) -> bool
     b == b' ' || b == b'\t'
 }
 
-// ! " # $ % & ' ( ) , . /
-fn is_low_mark(b: u8) -> bool
-    ensures { result ≡ is_low_mark b }
+// The marks of names.
+fn is_name_mark(b: u8) -> bool
+    ensures { result ≡ is_name_mark b }
 {
-    (b' ' < b && b < b'*') || (b == b',' || (b == b'.' || b == b'/'))
-}
-
-// ; ? @ _ ` { | } ~
-fn is_high_mark(b: u8) -> bool
-    ensures { result ≡ is_high_mark b }
-{
-    b == b';' || (b == b'?' || (b == b'@' || (b == b'_' || (b == b'`' || (b'z' < b && b < 127)))))
+    b"!\"#$%&/(),.;?@_`'{}|~".as_slice().contains(&b)
 }
 
 fn is_name_byte(b: u8) -> bool
     ensures { result ≡ is_name_byte b }
 {
-    b.is_ascii_alphanumeric() || (is_low_mark(b) || is_high_mark(b))
+    b.is_ascii_alphanumeric() || is_name_mark(b)
 }
 
 fn begins_name(b: u8) -> bool
@@ -206,7 +199,7 @@ fn mark(size: usize, kind: TokenKind) -> Lexeme
 }
 
 fn next_is(wanted: u8, text: &[u8]) -> bool
-    ensures value { result ≡ next_is wanted text.now }
+    ensures value { result ≡ next_is (wanted ∷ []) text.now }
     ensures more { IsTrue result → 1 ≤ length text.now }
 {
     match text {

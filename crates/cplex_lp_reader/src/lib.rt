@@ -2,11 +2,11 @@
 #![tactic(auto)]
 
 mod bounds;
-mod column_table;
+mod column_change;
 mod columns;
 mod constraints;
-mod declared_column;
 mod draft;
+mod expecting;
 mod faults;
 mod finish;
 mod form;
@@ -15,10 +15,8 @@ mod lexeme;
 mod lines;
 mod objective;
 mod open_row;
-mod place;
 mod read;
 mod row;
-mod row_names;
 mod row_table;
 mod scan;
 mod section_words;

@@ -10,9 +10,9 @@ ghost use Rattle.cplex_lp_reader.specs.Objective.{objective_term, with_constant,
 
 use crate::columns::mention;
 use crate::draft::Draft;
+use crate::expecting::{Expecting, Sign, TermPart};
 use crate::faults::{misplaced, number_of_token};
 use crate::form::sum_at;
-use crate::place::{Place, Sign, TermPlace};
 use crate::token::{Token, TokenKind, is_before_colon, is_before_name};
 use fraction::Frac;
 use model_text::{FileFault, Profile, ReadError};
@@ -29,7 +29,7 @@ fn objective_term<'a>(
     requires { IsWithinInstance profile.now }
     ensures { Follows result draft.new (objective_term profile.now draft.old value token.now) }
 {
-    let column = draft.place_of(token.text());
+    let column = draft.column_place(token.text());
     mention(profile, draft, token)?;
     draft.add_to_objective(token.line(), column, value)
 }
@@ -52,7 +52,7 @@ fn objective_number(
     ensures { Follows result draft.new (objective_number draft.old token.now rest.now value) }
 {
     if is_before_name(rest) {
-        draft.set_place(Place::Objective(TermPlace::Factor(value)));
+        draft.set_expecting(Expecting::Objective(TermPart::Factor(value)));
         Ok(())
     } else {
         with_constant(draft, value, token)
@@ -84,15 +84,15 @@ fn objective_begun<'a>(
 {
     match token.kind() {
         TokenKind::Plus => {
-            draft.set_place(Place::Objective(TermPlace::Begun(sign.after_plus())));
+            draft.set_expecting(Expecting::Objective(TermPart::Begun(sign.after_plus())));
             Ok(())
         }
         TokenKind::Minus => {
-            draft.set_place(Place::Objective(TermPlace::Begun(sign.after_minus())));
+            draft.set_expecting(Expecting::Objective(TermPart::Begun(sign.after_minus())));
             Ok(())
         }
         TokenKind::Literal => objective_literal(draft, sign, token, rest),
-        TokenKind::Word => objective_term(profile, draft, sign.signed(Frac::whole(1)), token),
+        TokenKind::Word => objective_term(profile, draft, sign.signed(Frac::one()), token),
         _ => Err(misplaced(token)),
     }
 }
@@ -119,11 +119,11 @@ fn objective_done(draft: &mut Draft, token: &Token) -> Result<(), ReadError<File
 {
     match token.kind() {
         TokenKind::Plus => {
-            draft.set_place(Place::Objective(TermPlace::Begun(Sign::Plus)));
+            draft.set_expecting(Expecting::Objective(TermPart::Begun(Sign::Plus)));
             Ok(())
         }
         TokenKind::Minus => {
-            draft.set_place(Place::Objective(TermPlace::Begun(Sign::Minus)));
+            draft.set_expecting(Expecting::Objective(TermPart::Begun(Sign::Minus)));
             Ok(())
         }
         _ => Err(misplaced(token)),
@@ -133,17 +133,17 @@ fn objective_done(draft: &mut Draft, token: &Token) -> Result<(), ReadError<File
 pub(crate) fn in_objective<'a>(
     profile: &Profile,
     draft: &mut Draft<'a>,
-    place: TermPlace,
+    part: TermPart,
     token: &Token<'a>,
     rest: &[Token],
 ) -> Result<(), ReadError<FileFault>>
     requires { IsWithinInstance profile.now }
-    ensures { Follows result draft.new (in_objective place profile.now draft.old token.now rest.now) }
+    ensures { Follows result draft.new (in_objective part profile.now draft.old token.now rest.now) }
 {
-    match place {
-        TermPlace::Begun(sign) => objective_begun(profile, draft, sign, token, rest),
-        TermPlace::Factor(value) => objective_factor(profile, draft, value, token),
-        TermPlace::Done => objective_done(draft, token),
+    match part {
+        TermPart::Begun(sign) => objective_begun(profile, draft, sign, token, rest),
+        TermPart::Factor(value) => objective_factor(profile, draft, value, token),
+        TermPart::Done => objective_done(draft, token),
     }
 }
 
@@ -174,7 +174,7 @@ pub(crate) fn at_objective_colon(
     ensures { Follows result draft.new (at_objective_colon draft.old token.now) }
 {
     if token.kind().is_colon() {
-        draft.set_place(Place::Objective(TermPlace::Begun(Sign::Unsigned)));
+        draft.set_expecting(Expecting::Objective(TermPart::Begun(Sign::Unsigned)));
         Ok(())
     } else {
         Err(misplaced(token))

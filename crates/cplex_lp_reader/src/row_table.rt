@@ -6,16 +6,16 @@ ghost use Rattle.cplex_lp_reader.specs.Declaration.{with_changed};
 ghost use Rattle.cplex_lp_reader.specs.Constraints.{is_row, blank_row, entry_count};
 
 use crate::row::DeclaredRow;
-use crate::row_names::RowNames;
 use fraction::Frac;
 use instance::Entry;
+use model_text::OwnedNames;
 use std::alloc::{AllocError, Global};
 use std::marker::Model;
 
 // Rows of different names.
 #[derive(Drop)]
 pub(crate) struct RowTable {
-    names: RowNames,
+    names: OwnedNames,
     rows: Vec<DeclaredRow>,
     // the entries of all rows
     count: usize,
@@ -39,7 +39,7 @@ impl RowTable {
         ensures { result ≡ [] }
     {
         RowTable {
-            names: RowNames::new(alloc),
+            names: OwnedNames::new(alloc),
             rows: Vec::new(alloc),
             count: 0,
         }

@@ -12,9 +12,9 @@ use crate::constraints::{
     at_row_colon, at_row_first, at_row_number, at_row_right, at_row_start, in_row_terms,
 };
 use crate::draft::Draft;
+use crate::expecting::Expecting;
 use crate::faults::{fault_at, misplaced};
 use crate::objective::{at_objective_colon, at_objective_start, in_objective};
-use crate::place::Place;
 use crate::token::{Section, Token, TokenKind};
 use milp::Direction;
 use model_text::{FaultKind, FileFault, Profile, ReadError};
@@ -26,13 +26,13 @@ use std::alloc::Global;
 fn enter(
     draft: &mut Draft,
     may: bool,
-    next: Place,
+    next: Expecting,
     token: &Token,
 ) -> Result<(), ReadError<FileFault>>
     ensures { Follows result draft.new (entered may next draft.old token.now) }
 {
     if may {
-        draft.set_place(next);
+        draft.set_expecting(next);
         Ok(())
     } else {
         Err(misplaced(token))
@@ -43,18 +43,18 @@ fn enter(
 fn enter_integers(
     profile: &Profile,
     draft: &mut Draft,
-    next: Place,
+    next: Expecting,
     token: &Token,
 ) -> Result<(), ReadError<FileFault>>
     ensures { Follows result draft.new (entered_integers profile.now next draft.old token.now) }
 {
-    if !draft.place().ends_section() {
+    if !draft.expecting().ends_section() {
         return Err(misplaced(token));
     }
     if !profile.takes_integers {
         return Err(fault_at(token.line(), FaultKind::IntegersNotYet));
     }
-    draft.set_place(next);
+    draft.set_expecting(next);
     Ok(())
 }
 
@@ -66,7 +66,7 @@ fn direct(
 ) -> Result<(), ReadError<FileFault>>
     ensures { Follows result draft.new (directed direction draft.old token.now) }
 {
-    if draft.place().is_start() {
+    if draft.expecting().is_start() {
         draft.begin_objective(direction);
         Ok(())
     } else {
@@ -86,18 +86,18 @@ fn at_section(
         Section::Minimize => direct(draft, Direction::Min, token),
         Section::Maximize => direct(draft, Direction::Max, token),
         Section::Constraints => {
-            let may = draft.place().ends_objective();
-            enter(draft, may, Place::RowStart, token)
+            let may = draft.expecting().ends_objective();
+            enter(draft, may, Expecting::RowStart, token)
         }
         Section::Bounds => {
-            let may = draft.place().ends_section();
-            enter(draft, may, Place::BoundStart, token)
+            let may = draft.expecting().ends_section();
+            enter(draft, may, Expecting::BoundStart, token)
         }
-        Section::General => enter_integers(profile, draft, Place::Generals, token),
-        Section::Binary => enter_integers(profile, draft, Place::Binaries, token),
+        Section::General => enter_integers(profile, draft, Expecting::Generals, token),
+        Section::Binary => enter_integers(profile, draft, Expecting::Binaries, token),
         Section::End => {
-            let may = draft.place().ends_section();
-            enter(draft, may, Place::Ended, token)
+            let may = draft.expecting().ends_section();
+            enter(draft, may, Expecting::Ended, token)
         }
     }
 }
@@ -113,35 +113,35 @@ fn in_section<'a>(
     rest: &[Token],
 ) -> Result<(), ReadError<FileFault>>
     requires { IsWithinInstance profile.now }
-    ensures { Follows result draft.new (in_section draft.old.place profile.now draft.old token.now rest.now) }
+    ensures { Follows result draft.new (in_section draft.old.expecting profile.now draft.old token.now rest.now) }
 {
-    match draft.place() {
-        Place::Start => Err(misplaced(token)),
-        Place::ObjectiveStart => at_objective_start(profile, draft, token, rest),
-        Place::ObjectiveColon => at_objective_colon(draft, token),
-        Place::Objective(place) => in_objective(profile, draft, place, token, rest),
-        Place::RowStart => at_row_start(alloc, profile, draft, token, rest),
-        Place::RowColon => at_row_colon(draft, token),
-        Place::RowFirst(sign) => at_row_first(profile, draft, sign, token),
-        Place::RowNumber(value) => at_row_number(profile, draft, value, token),
-        Place::RowTerms(place) => in_row_terms(profile, draft, place, token),
-        Place::RowRight(relation, sign) => {
+    match draft.expecting() {
+        Expecting::Start => Err(misplaced(token)),
+        Expecting::ObjectiveStart => at_objective_start(profile, draft, token, rest),
+        Expecting::ObjectiveColon => at_objective_colon(draft, token),
+        Expecting::Objective(part) => in_objective(profile, draft, part, token, rest),
+        Expecting::RowStart => at_row_start(alloc, profile, draft, token, rest),
+        Expecting::RowColon => at_row_colon(draft, token),
+        Expecting::RowFirst(sign) => at_row_first(profile, draft, sign, token),
+        Expecting::RowNumber(value) => at_row_number(profile, draft, value, token),
+        Expecting::RowTerms(part) => in_row_terms(profile, draft, part, token),
+        Expecting::RowRight(relation, sign) => {
             at_row_right(alloc, profile, draft, relation, sign, token)
         }
-        Place::BoundStart => at_bound_start(profile, draft, token),
-        Place::BoundLeft(sign) => at_bound_left(draft, sign, token),
-        Place::BoundRelation(limit) => at_bound_relation(draft, limit, token),
-        Place::BoundName(limit, relation) => {
+        Expecting::BoundStart => at_bound_start(profile, draft, token),
+        Expecting::BoundLeft(sign) => at_bound_left(draft, sign, token),
+        Expecting::BoundRelation(limit) => at_bound_relation(draft, limit, token),
+        Expecting::BoundName(limit, relation) => {
             at_bound_name(profile, draft, limit, relation, token)
         }
-        Place::BoundNamed(column) => at_bound_named(profile, draft, column, token),
-        Place::BoundCompared(column) => at_bound_compared(profile, draft, column, token),
-        Place::BoundRight(column, relation, sign) => {
+        Expecting::BoundNamed(column) => at_bound_named(profile, draft, column, token),
+        Expecting::BoundCompared(column) => at_bound_compared(profile, draft, column, token),
+        Expecting::BoundRight(column, relation, sign) => {
             at_bound_right(draft, column, relation, sign, token)
         }
-        Place::Generals => at_general(profile, draft, token),
-        Place::Binaries => at_binary(profile, draft, token),
-        Place::Ended => Ok(()),
+        Expecting::Generals => at_general(profile, draft, token),
+        Expecting::Binaries => at_binary(profile, draft, token),
+        Expecting::Ended => Ok(()),
     }
 }
 
@@ -172,7 +172,7 @@ pub(crate) fn read_token<'a>(
     requires { IsWithinInstance profile.now }
     ensures { Follows result draft.new (with_token profile.now draft.old token.now rest.now) }
 {
-    if draft.place().is_ended() {
+    if draft.expecting().is_ended() {
         return Ok(());
     }
     of_kind(alloc, profile, draft, token, rest)
@@ -182,10 +182,10 @@ pub(crate) fn read_token<'a>(
 pub(crate) fn at_end(draft: &mut Draft, line: usize) -> Result<(), ReadError<FileFault>>
     ensures { Follows result draft.new (at_end line draft.old) }
 {
-    if draft.place().is_ended() {
+    if draft.expecting().is_ended() {
         return Ok(());
     }
-    if draft.place().ends_section() {
+    if draft.expecting().ends_section() {
         return Ok(());
     }
     Err(fault_at(line, FaultKind::BadLine))

@@ -130,13 +130,16 @@ mul_add_fault q a b r e f = let P : Result Rational NoFit → Type 0 = λ s. IfE
     go false false h = IsProductOrSum.product refl h
 
 -- a place at which the row that is put in has 0 keeps its number
-pub passed_over : (now old ss : List Rational) (i : ℕ) (k s : Rational) (t : Bool) → i < length ss → s ≡ get_or ss i s → t ≡ is_zero s → t ≡ true
-    → ((m : ℕ) → m < i → number_at now m ≡ k *ℚ number_at ss m +ℚ number_at old m) → ((m : ℕ) → i ≤ m → number_at now m ≡ number_at old m)
-    → (m : ℕ) → m < i + 1 → number_at now m ≡ k *ℚ number_at ss m +ℚ number_at old m
-passed_over now old ss i k s t inside read f g done left m l = elim (ℕ_discrete m i) [
-  | yes same ↦ subst (λ (j : ℕ). number_at now j ≡ k *ℚ number_at ss j +ℚ number_at old j) (sym same) here
+pub passed_over : (old new ss : List Rational) (at i : ℕ) (k z s : Rational) (t : Bool) → length old ≡ length ss → i < length (set old at z) → s ≡ get_or ss i s → t ≡ is_zero s → t ≡ true
+    → ((m : ℕ) → m < i → number_at new m ≡ k *ℚ number_at ss m +ℚ number_at (set old at z) m) → ((m : ℕ) → i ≤ m → number_at new m ≡ number_at (set old at z) m)
+    → (m : ℕ) → m < i + 1 → number_at new m ≡ k *ℚ number_at ss m +ℚ number_at (set old at z) m
+passed_over old new ss at i k z s t same j read f g done left m l = elim (ℕ_discrete m i) [
+  | yes e ↦ subst (λ (v : ℕ). number_at new v ≡ k *ℚ number_at ss v +ℚ number_at (set old at z) v) (sym e) here
   | no differ ↦ done m (omega arith)
 ]
   where
-    here : number_at now i ≡ k *ℚ number_at ss i +ℚ number_at old i
-    here = left i (omega arith) ∙ subst (λ (u : Rational). number_at old i ≡ k *ℚ u +ℚ number_at old i) (read_number ss i s inside read) (nothing_added k s (number_at old i) t f g)
+    inside : i < length ss
+    inside = let n = length-set old at z in omega arith
+
+    here : number_at new i ≡ k *ℚ number_at ss i +ℚ number_at (set old at z) i
+    here = left i (omega arith) ∙ subst (λ (u : Rational). number_at (set old at z) i ≡ k *ℚ u +ℚ number_at (set old at z) i) (read_number ss i s inside read) (nothing_added k s (number_at (set old at z) i) t f g)

@@ -108,13 +108,7 @@ impl Dictionary {
     }
 
     /// Makes q basic in the place of r, which rests at the place that is given.
-    pub fn pivot(
-        self,
-        alloc: Global,
-        q: usize,
-        r: usize,
-        place: Place,
-    ) -> Result<Dictionary, NoFit>
+    pub fn pivot(self, alloc: Global, q: usize, r: usize, place: Place) -> Result<Dictionary, NoFit>
         requires enters { IsResting self.places q }
         requires leaves { IsBasic self.places r }
         requires stops { place ≢ Basic }

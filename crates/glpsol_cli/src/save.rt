@@ -4,8 +4,8 @@ ghost use Rattle.outside.specs.Causes.{Rose};
 ghost use Rattle.solution_writer.specs.Report.{IsReportable};
 ghost use Rattle.glpsol_cli.specs.Endings.{IsVerdictOf, IsSaved, IsConcluded};
 
-use crate::work_out::SolvedProblem;
 use crate::publish::publish_fault;
+use crate::work_out::SolvedProblem;
 use crate::{Answer, Target};
 use certificate::{Certificate, Verdict};
 use certificate_writer::text;

@@ -8,9 +8,9 @@ ghost use Rattle.glpsol_cli.specs.Printed.{Printed};
 ghost use Rattle.glpsol_cli.specs.Files.{Files};
 
 use crate::Answer;
-use crate::work_out::{Found, work_out};
 use crate::publish::{publish_acceptance, publish_fault, publish_size};
 use crate::save::conclude;
+use crate::work_out::{Found, work_out};
 use outside::{Sink, Store};
 use std::alloc::Global;
 use std::thread::Threads;

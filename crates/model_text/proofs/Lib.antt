@@ -1,1 +1,1 @@
-pub mod Lookup
+pub mod Laws

@@ -1,3 +1,5 @@
+pub mod Bytes
+pub mod Columns
 pub mod KindText
 pub mod Lines
 pub mod Names

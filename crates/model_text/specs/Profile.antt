@@ -1,5 +1,5 @@
 -- How far a reader of files goes.
-use Rattle.std.specs.Prelude.{◌≤◌, true, false}
+use Rattle.std.specs.Prelude.{◌≤◌, false}
 use Rattle.model_text.specs.declared.profile.Profile.{Profile}
 
 -- no limit passes what an instance holds

@@ -1,15 +1,23 @@
-//! What the readers of model files share: the lines of a text, the names in it, how far a reader goes, and how a
-//! fault is told.
+//! What the readers of model files share: the lines of a text, the names and columns that it declares, how far a
+//! reader goes, and how a fault is told.
 #![tactic(auto)]
 
+mod build;
+mod column_table;
+mod declared_column;
 mod error;
 mod fault;
 mod lines;
 mod names;
+mod owned_names;
 mod profile;
 
+pub use build::{add_columns, add_row, copied_form};
+pub use column_table::ColumnTable;
+pub use declared_column::DeclaredColumn;
 pub use error::ReadError;
 pub use fault::{FaultKind, FileFault};
 pub use lines::{as_text, lines_in};
 pub use names::Names;
+pub use owned_names::OwnedNames;
 pub use profile::{Profile, reader_profile};

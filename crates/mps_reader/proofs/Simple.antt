@@ -24,10 +24,12 @@ use Rattle.mps_reader.specs.declared.bound.BoundKind.TheVariants.{Lower, Upper, 
 use Rattle.model_text.specs.Lines.{lines_of}
 use Rattle.mps_reader.specs.Lines.{fields_of, is_header}
 use Rattle.model_text.specs.Profile.{reader_profile}
-use Rattle.mps_reader.specs.Declaration.{is_free, may_follow, DeclaredRow, new_row, Declaration, nothing_declared, with_first_changed, is_row_named, is_column_named, is_objective_named, row_named, is_row, with_row, is_column}
+use Rattle.model_text.specs.Columns.{is_column_named}
+use Rattle.mps_reader.specs.Declaration.{is_free, may_follow, DeclaredRow, new_row, Declaration, nothing_declared, with_first_changed, is_row_named, is_objective_named, row_named, is_row, with_row, is_column}
 use Rattle.model_text.specs.Steps.{then_do}
 use Rattle.mps_reader.specs.Steps.{at_end, with_number}
-use Rattle.mps_reader.specs.RowsAndColumns.{row_kind_of, makes_objective, with_new_row, row_of_kind, row_line, marker_of, is_marker, with_integers, turned, marker_line, new_column, is_the_name, at_column, given, is_entry_too_many, with_entry, at_value, at_row, at_entry, after_pair, at_second_entry, at_entries, column_line}
+use Rattle.model_text.specs.Columns.{new_column}
+use Rattle.mps_reader.specs.RowsAndColumns.{row_kind_of, makes_objective, with_new_row, row_of_kind, row_line, marker_of, is_marker, with_integers, turned, marker_line, is_the_name, at_column, given, is_entry_too_many, with_entry, at_value, at_row, at_entry, after_pair, at_second_entry, at_entries, column_line}
 use Rattle.mps_reader.specs.RhsRangesBounds.{is_of_first_set, with_set, Pair, Pairs, pairs_of, PairStep, second_pair, both_pairs, pairs_line, rhs_added, rhs_on_row, rhs_pair, rhs_of, range_of, range_added, with_range, range_on_row, range_pair, step_of, pair_line, bound_kind_of, has_value, makes_integer, bounded, BoundFields, bound_fields, bound_value, with_bound, bound_on_column, bound_with_fields, bound_of_kind, bound_line}
 use Rattle.mps_reader.specs.FreeMps.{section_of, in_section, after_word, at_section, header_line, data_line, is_ended, is_passed_over, text_line, with_line, declared_from, finished, declared_within, declared}
 use Rattle.mps_reader.specs.Finished.{finished_row, problem_with, problem_of}

@@ -7,6 +7,7 @@ use Rattle.std.specs.Str.{bytes_eq}
 use Rattle.rational.specs.Rational.{Rational}
 use Rattle.milp.specs.Form.{Entry}
 use Rattle.milp.specs.Problem.{Column}
+use Rattle.model_text.specs.Columns.{is_column_named}
 use Rattle.mps_reader.specs.declared.section.Section.{Section}
 use Rattle.mps_reader.specs.declared.section.Section.TheVariants.{Start, NameLine, Rows, Columns, Rhs, Ranges, Bounds, Ended}
 use Rattle.mps_reader.specs.declared.row.RowKind.{RowKind}
@@ -97,9 +98,6 @@ with_first_changed test f (x ∷ xs) = if test x then f x ∷ xs else x ∷ with
 
 abbrev pub is_row_named : List ℕ → DeclaredRow → Bool
 is_row_named name r = bytes_eq r.name name
-
-abbrev pub is_column_named : List ℕ → Column → Bool
-is_column_named name c = bytes_eq c.name name
 
 -- the objective has this name
 abbrev pub is_objective_named : List ℕ → Option DeclaredRow → Bool

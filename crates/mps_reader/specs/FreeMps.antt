@@ -1,9 +1,10 @@
 -- The problem that a free MPS text declares, or its first fault.
-use Rattle.std.specs.Prelude.{ℕ, ◌+◌, ◌==◌, ◌||◌, ◌&&◌, not, Bool, true, false, List, [], ◌∷◌, codes, Some, None, Result, Ok, Err, if◌then◌else◌}
+use Rattle.std.specs.Prelude.{ℕ, ◌+◌, ◌||◌, ◌&&◌, not, Bool, true, false, List, [], ◌∷◌, codes, Some, None, Result, Ok, Err, if◌then◌else◌}
 use Rattle.std.specs.declared.option.Option.{Option}
 use Rattle.std.specs.List.{list_all}
 use Rattle.std.specs.Str.{bytes_eq, is_utf8}
 use Rattle.milp.specs.Problem.{Problem}
+use Rattle.model_text.specs.Bytes.{is_one_of}
 use Rattle.model_text.specs.declared.fault.FaultKind.{FaultKind}
 use Rattle.model_text.specs.declared.fault.FaultKind.TheVariants.{BadSection, BadLine, NoEnd}
 use Rattle.model_text.specs.declared.fault.FileFault.{FileFault}
@@ -83,7 +84,7 @@ is_ended Ended = true
 -- its first character is `*`
 abbrev pub is_comment : List ℕ → Bool
 is_comment [] = false
-is_comment (b ∷ bs) = b == 42
+is_comment (b ∷ bs) = is_one_of (codes "*") b
 
 -- comments and lines of blanks
 abbrev pub is_passed_over : List ℕ → Bool

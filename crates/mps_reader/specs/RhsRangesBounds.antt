@@ -17,7 +17,8 @@ use Rattle.mps_reader.specs.declared.pairs_section.PairSection.{PairSection}
 use Rattle.mps_reader.specs.declared.pairs_section.PairSection.TheVariants.{RhsPairs, RangePairs}
 use Rattle.mps_reader.specs.declared.bound.BoundKind.{BoundKind}
 use Rattle.mps_reader.specs.declared.bound.BoundKind.TheVariants.{Lower, Upper, Fixed, IntegerLower, IntegerUpper, Unbounded, NoLower, NoUpper, Binary}
-use Rattle.mps_reader.specs.Declaration.{is_free, DeclaredRow, Declaration, row_named, with_row, is_column, is_column_named, with_first_changed}
+use Rattle.model_text.specs.Columns.{is_column_named}
+use Rattle.mps_reader.specs.Declaration.{is_free, DeclaredRow, Declaration, row_named, with_row, is_column, with_first_changed}
 use Rattle.model_text.specs.Steps.{then_do}
 use Rattle.mps_reader.specs.Steps.{with_number}
 

@@ -12,6 +12,7 @@ use Rattle.mps_reader.specs.declared.row.RowKind.{RowKind}
 use Rattle.mps_reader.specs.declared.row.RowKind.TheVariants.{Objective, Free, AtMost, AtLeast, Exactly}
 use Rattle.rational.specs.Compare.{is_zero}
 use Rattle.mps_reader.specs.Declaration.{is_free, DeclaredRow, new_row, Declaration, is_objective_named, row_named, is_row, with_row, is_column, entry_count}
+use Rattle.model_text.specs.Columns.{new_column}
 use Rattle.model_text.specs.Steps.{then_do}
 use Rattle.mps_reader.specs.Steps.{at_end, with_number}
 
@@ -78,10 +79,6 @@ turned profile d (Some false) fields = if d.in_integers then at_end fields (reco
 abbrev pub marker_line : Profile → Declaration → List (List ℕ) → Result Declaration FaultKind
 marker_line profile d (word ∷ marker ∷ fields) = turned profile d (marker_of marker) fields
 marker_line profile d fields = Err BadLine
-
--- a column begins at 0 without an upper bound
-abbrev pub new_column : List ℕ → Bool → Column
-new_column name integer = record { name = name; lower = Some zero_ℚ; upper = None; integer = integer }
 
 abbrev pub is_the_name : Option (List ℕ) → List ℕ → Bool
 is_the_name None name = false

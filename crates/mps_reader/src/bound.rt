@@ -1,7 +1,12 @@
 // Bounds of columns.
 ghost use Rattle.std.specs.Prelude.{◌≡◌};
 ghost use Rattle.std.specs.Option.{option_map};
-ghost use Rattle.mps_reader.specs.RhsRangesBounds.{bound_kind_of, has_value, makes_integer};
+ghost use Rattle.model_text.specs.Columns.{is_column_named};
+ghost use Rattle.mps_reader.specs.Declaration.{with_first_changed};
+ghost use Rattle.mps_reader.specs.RhsRangesBounds.{bound_kind_of, bounded, has_value, makes_integer};
+
+use fraction::Frac;
+use model_text::{ColumnTable, DeclaredColumn};
 
 // LO, UP, FX, LI, UI, FR, MI, PL and BV.
 #[derive(Clone, Copy)]
@@ -72,5 +77,49 @@ impl BoundKind {
             | BoundKind::NoLower
             | BoundKind::NoUpper => false,
         }
+    }
+
+    // Sets this bound of a column.
+    pub(crate) fn set(self, column: &mut DeclaredColumn, value: Frac)
+        ensures { column.new ≡ bounded self value column.old }
+    {
+        match self {
+            BoundKind::Lower => column.set_lower(Some(value)),
+            BoundKind::Upper => column.set_upper(Some(value)),
+            BoundKind::Fixed => {
+                column.set_lower(Some(value));
+                column.set_upper(Some(value));
+            }
+            BoundKind::IntegerLower => {
+                column.set_lower(Some(value));
+                column.make_integer();
+            }
+            BoundKind::IntegerUpper => {
+                column.set_upper(Some(value));
+                column.make_integer();
+            }
+            BoundKind::Unbounded => {
+                column.set_lower(None);
+                column.set_upper(None);
+            }
+            BoundKind::NoLower => column.set_lower(None),
+            BoundKind::NoUpper => column.set_upper(None),
+            BoundKind::Binary => {
+                column.set_lower(Some(Frac::zero()));
+                column.set_upper(Some(Frac::one()));
+                column.make_integer();
+            }
+        }
+    }
+}
+
+// The column of a name has a bound of this kind.
+pub(crate) fn set_bound(columns: &mut ColumnTable, name: &str, kind: BoundKind, value: Frac)
+    ensures { columns.new ≡ with_first_changed (is_column_named name.now) (bounded kind value) columns.old }
+{
+    if let Some(place) = columns.place(name) {
+        let mut column = columns.at(place);
+        kind.set(&mut column, value);
+        columns.set(place, column);
     }
 }

@@ -5,19 +5,19 @@ ghost use Rattle.std.specs.List.{All};
 ghost use Rattle.model_text.specs.Names.{AreNew};
 ghost use Rattle.mps_reader.specs.Consistent.{IsGiven};
 ghost use Rattle.milp.specs.Problem.{Column};
-ghost use Rattle.mps_reader.specs.Declaration.{DeclaredRow as RowOf, nothing_declared, row_named, is_row, is_objective_named, is_row_named, is_column, is_column_named, with_row, with_first_changed, new_row, entry_count as count_of_entries};
+ghost use Rattle.mps_reader.specs.Declaration.{DeclaredRow as RowOf, nothing_declared, row_named, is_row, is_objective_named, is_row_named, is_column, with_row, with_first_changed, new_row, entry_count as count_of_entries};
 ghost use Rattle.rational.specs.Compare.{is_zero};
-ghost use Rattle.mps_reader.specs.RowsAndColumns.{given, new_column, is_the_name};
+ghost use Rattle.mps_reader.specs.RowsAndColumns.{given, is_the_name};
+ghost use Rattle.model_text.specs.Columns.{is_column_named, new_column};
 ghost use Rattle.mps_reader.specs.RhsRangesBounds.{rhs_added, range_added, bounded, is_of_first_set, is_same_set, with_set};
 ghost use Rattle.mps_reader.specs.FreeMps.{in_section};
 
-use crate::bound::BoundKind;
-use crate::column_table::ColumnTable;
-use crate::declared_column::DeclaredColumn;
+use crate::bound::{BoundKind, set_bound};
 use crate::row::{DeclaredRow, RowKind, RowRange};
 use crate::row_table::RowTable;
 use crate::section::Section;
 use fraction::Frac;
+use model_text::{ColumnTable, DeclaredColumn};
 use std::alloc::{AllocError, Global};
 use std::marker::Model;
 
@@ -231,7 +231,7 @@ impl<'a> Draft<'a> {
     pub(crate) fn bound(&mut self, name: &str, kind: BoundKind, value: Frac)
         ensures { self.new ≡ record self.old { columns = with_first_changed (is_column_named name.now) (bounded kind value) self.old.columns } }
     {
-        self.columns.bound(name, kind, value);
+        set_bound(&mut self.columns, name, kind, value);
     }
 
     pub(crate) fn in_integers(&self) -> bool

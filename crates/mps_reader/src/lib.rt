@@ -3,9 +3,7 @@
 
 mod bound;
 mod bounds_section;
-mod column_table;
 mod columns_section;
-mod declared_column;
 mod draft;
 mod finish;
 mod laws;

@@ -1,6 +1,7 @@
 // The fields of lines.
-ghost use Rattle.std.specs.Prelude.{◌≡◌, ◌++◌, ◌==◌, map, IfOk};
+ghost use Rattle.std.specs.Prelude.{◌≡◌, ◌++◌, map, codes, IfOk};
 ghost use Rattle.std.specs.List.{slice_split};
+ghost use Rattle.model_text.specs.Bytes.{is_one_of};
 ghost use Rattle.mps_reader.specs.Lines.{fields_of, tabbed_fields, is_header};
 
 use std::alloc::{AllocError, Global};
@@ -45,13 +46,13 @@ fn add_fields<'a>(
 }
 
 fn spaced(alloc: Global, line: &str) -> Result<Vec<&str>, AllocError>
-    ensures { IfOk result (λ pieces. map (λ l. l.now) pieces.items ≡ slice_split (λ b. b == 32) line.now) }
+    ensures { IfOk result (λ pieces. map (λ l. l.now) pieces.items ≡ slice_split (is_one_of (codes " ")) line.now) }
 {
     line.split(' ').collect(alloc)
 }
 
 fn tabbed(alloc: Global, piece: &str) -> Result<Vec<&str>, AllocError>
-    ensures { IfOk result (λ parts. map (λ l. l.now) parts.items ≡ slice_split (λ b. b == 9) piece.now) }
+    ensures { IfOk result (λ parts. map (λ l. l.now) parts.items ≡ slice_split (is_one_of (codes "\t")) piece.now) }
 {
     piece.split('\t').collect(alloc)
 }

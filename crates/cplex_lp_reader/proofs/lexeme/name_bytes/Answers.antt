@@ -1,6 +1,6 @@
 -- Where no byte is another, all are counted.
 use Rattle.cplex_lp_reader.specs.Lexemes.{is_no_name_byte}
-use Rattle.cplex_lp_reader.proofs.Places.{place-past}
+use Rattle.model_text.proofs.Laws.{place-past}
 use Rattle.cplex_lp_reader.proofs.lexeme.name_bytes.Goals as goal
 
 pub returns-in-None-clause-value : goal.returns-in-None-clause-value

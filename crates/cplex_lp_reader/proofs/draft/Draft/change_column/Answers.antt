@@ -6,4 +6,4 @@ use Rattle.cplex_lp_reader.proofs.Kept.{columns-keep}
 use Rattle.cplex_lp_reader.proofs.draft.Draft.change_column.Goals as goal
 
 pub invariant_of-self : goal.invariant_of-self
-invariant_of-self c = columns-keep _ _ _ c.self.inside.columns c.change.new.self (omega (arith, ap length c.change.ensures, length-changed c.args.column (changed c.args.change) c.self.inside.columns)) c.self.invariant
+invariant_of-self c = columns-keep _ _ _ c.self.inside.columns c.change_at.new.columns (omega (arith, ap length c.change_at.ensures, length-changed c.args.column (changed c.args.change) c.self.inside.columns)) c.self.invariant

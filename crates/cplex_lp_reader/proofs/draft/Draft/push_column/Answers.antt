@@ -6,3 +6,6 @@ use Rattle.cplex_lp_reader.proofs.draft.Draft.push_column.Goals as goal
 
 pub invariant_of-self-2 : goal.invariant_of-self-2
 invariant_of-self-2 c = columns-keep _ _ _ c.self.inside.columns c.push.new.self (omega (arith, ap length c.in_ok-push.ensures.added, length-append c.self.inside.columns (c.new.result ∷ []))) c.self.invariant
+
+pub push-requires-clause-new : goal.push-requires-clause-new
+push-requires-clause-new c = ?

@@ -2,7 +2,8 @@
 use Rattle.std.proofs.Common.{◌≡◌, ◌∙◌, ◌-◌, ◌<◌, length, get_or, sym, ap, rules, arith}
 use Rattle.std.proofs.Math.ListN.{length-set}
 use Rattle.milp.specs.Problem.{Row}
-use Rattle.cplex_lp_reader.proofs.Changed.{changed-at, same-names, count-set, count-least}
+use Rattle.model_text.proofs.Laws.{same-names}
+use Rattle.cplex_lp_reader.proofs.Changed.{changed-at, count-set, count-least}
 use Rattle.cplex_lp_reader.proofs.row_table.RowTable.fill_last.Goals as goal
 
 pub overflow_sub-self : goal.overflow_sub-self
@@ -22,7 +23,7 @@ invariant_of-self c =
     let sum = count-set c.self.inside.rows.items (c.len-rows.result - 1) c.fill.new.self c.index_mut-row.result.now within in
     let least = count-least c.self.inside.rows.items (c.len-rows.result - 1) c.index_mut-row.result.now within in
     record {
-      index = same-names (λ (r : Row). r.name) c.self.inside.names c.self.inside.rows.items (c.len-rows.result - 1) c.index_mut-row.result.now c.fill.new.self c.self.invariant.index same (ap (λ (r : Row). r.name) c.fill.ensures);
+      index = same-names (λ (r : Row). r.name) c.self.inside.names c.self.inside.rows.items c.self.invariant.index (c.len-rows.result - 1) c.index_mut-row.result.now c.fill.new.self same (ap (λ (r : Row). r.name) c.fill.ensures);
       new = c.self.invariant.new;
       few = omega (arith, length-set c.self.inside.rows.items (c.len-rows.result - 1) c.fill.new.self, c.self.invariant.few);
       counted = omega (arith, before, after, count, sum, least, c.self.invariant.counted);

@@ -1,7 +1,7 @@
 -- By the rows' names.
 use Rattle.std.proofs.Common.{◌∙◌}
 use Rattle.milp.specs.Problem.{Row}
-use Rattle.cplex_lp_reader.proofs.Keyed.{any-name}
+use Rattle.model_text.proofs.Laws.{any-name}
 use Rattle.cplex_lp_reader.proofs.row_table.RowTable.has.Goals as goal
 
 pub returns : goal.returns

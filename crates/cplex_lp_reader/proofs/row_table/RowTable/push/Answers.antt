@@ -3,8 +3,8 @@ use Rattle.std.proofs.Common.{◌≡◌, ◌∙◌, ◌+◌, ◌++◌, ◌∷◌
 use Rattle.std.proofs.lemmas.List.{length-append}
 use Rattle.milp.specs.Problem.{Row}
 use Rattle.cplex_lp_reader.specs.Constraints.{blank_row, entry_count}
-use Rattle.cplex_lp_reader.proofs.Keyed.{any-name, push-kept}
 use Rattle.instance.proofs.Laws.{entry_count-snoc}
+use Rattle.model_text.proofs.Laws.{any-name, push-kept}
 use Rattle.cplex_lp_reader.proofs.row_table.RowTable.push.Goals as goal
 
 pub push-requires : goal.push-requires

@@ -2,7 +2,7 @@
 use Rattle.std.proofs.Common.{◌∙◌, ℕ, Bor, List}
 use Rattle.std.specs.Str.{bytes_eq}
 use Rattle.model_text.specs.Names.{is_name}
-use Rattle.model_text.proofs.Lookup.{bytes_eq-sym, position-same}
+use Rattle.model_text.proofs.Laws.{bytes_eq-sym, position-same}
 use Rattle.model_text.proofs.names.Names.place.Goals as goal
 
 pub returns : goal.returns

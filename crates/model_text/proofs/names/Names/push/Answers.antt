@@ -1,5 +1,5 @@
 -- The set's keys with one more.
-use Rattle.model_text.proofs.Lookup.{keys-push}
+use Rattle.model_text.proofs.Laws.{keys-push}
 use Rattle.model_text.proofs.names.Names.push.Goals as goal
 
 pub returns-clause-added : goal.returns-clause-added

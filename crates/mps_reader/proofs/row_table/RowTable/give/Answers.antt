@@ -2,7 +2,8 @@
 use Rattle.std.proofs.Common.{sym, ap}
 use Rattle.mps_reader.specs.Declaration.{DeclaredRow}
 use Rattle.mps_reader.specs.RowsAndColumns.{given}
-use Rattle.mps_reader.proofs.Keyed.{found, changed, not-changed, same-names}
+use Rattle.model_text.proofs.Laws.{same-names}
+use Rattle.mps_reader.proofs.Keyed.{found, changed, not-changed}
 use Rattle.mps_reader.proofs.row_table.RowTable.give.Goals as goal
 
 pub give-requires-clause-later : goal.give-requires-clause-later
@@ -11,7 +12,7 @@ give-requires-clause-later c =
     rw (← c.self.view_is, e) at c.requires.later
 
 pub invariant_of-self : goal.invariant_of-self
-invariant_of-self c = let e = c.in_ok-give.ensures.given in (same-names (λ (r : DeclaredRow). r.name) c.args.name.now c.self.inside.names c.self.inside.rows.items c.self.invariant.0 c.in-Some.place c.index_mut-row.result.now c.give.new.self c.index_mut-row.ensures.value (ap (λ (r : DeclaredRow). r.name) e), c.self.invariant.1)
+invariant_of-self c = let e = c.in_ok-give.ensures.given in (same-names (λ (r : DeclaredRow). r.name) c.self.inside.names c.self.inside.rows.items c.self.invariant.0 c.in-Some.place c.index_mut-row.result.now c.give.new.self c.index_mut-row.ensures.value (ap (λ (r : DeclaredRow). r.name) e), c.self.invariant.1)
 
 pub returns-in_ok-give-clause-given : goal.returns-in_ok-give-clause-given
 returns-in_ok-give-clause-given c = let e = c.in_ok-give.ensures.given in rw (← c.self.view_is, e) (sym (changed (λ (r : DeclaredRow). r.name) c.args.name.now c.self.inside.names c.self.inside.rows.items c.self.invariant.0 (given c.args.columns c.args.value) c.in-Some.place c.index_mut-row.result.now (sym c.in-Some.ensures) c.index_mut-row.ensures.value))

@@ -1,7 +1,8 @@
 -- One more row with its name.
 use Rattle.std.proofs.Common.{◌≡◌, ◌++◌, ◌∷◌, [], rules}
 use Rattle.mps_reader.specs.Declaration.{DeclaredRow}
-use Rattle.mps_reader.proofs.Keyed.{push-kept, new-name}
+use Rattle.model_text.proofs.Laws.{push-kept}
+use Rattle.mps_reader.proofs.Keyed.{new-name}
 use Rattle.mps_reader.proofs.row_table.RowTable.push.Goals as goal
 
 pub push-requires : goal.push-requires

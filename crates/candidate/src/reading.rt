@@ -1,0 +1,134 @@
+// The parts of a certificate, read off where a search ends.
+ghost use Rattle.std.specs.Prelude.{◌≤◌, ◌<◌, ◌+◌, ◌*◌, OnOk};
+ghost use Rattle.certificate.specs.Written.{count_max, next_rank};
+
+use crate::ending::{Blocked, Endless};
+use crate::model::Model;
+use crate::moving::prices_at;
+use crate::proposal::{Candidate, ProposedOptimum, ProposedRay};
+use crate::start::places_of;
+use crate::state::State;
+use crate::stop::Stop;
+use crate::vectors::{add, number_at, put, zeros};
+use certificate::{Item, Items, Weights};
+use fraction::Frac;
+use instance::Point;
+use search_node::Basis;
+use std::alloc::{AllocError, Global};
+
+/// The point, the weights for the true costs, and the basis.
+pub(crate) fn optimum(alloc: Global, state: &State) -> Result<Candidate, Stop> {
+    let y = state.row_weights(alloc, &state.model.costs)?;
+    let prices = prices_at(alloc, &state.model, &y, &state.model.costs)?;
+    let weights = weights(alloc, &state.model, &prices)?;
+    let point = point(alloc, state)?;
+    let places = places_of(alloc, &state.model, &state.places, &state.at_upper)?;
+    let basis = Basis::from_vec(places);
+    Ok(Candidate::Optimal(ProposedOptimum {
+        point,
+        weights,
+        basis,
+    }))
+}
+
+/// The weights of a row that can't be mended.
+pub(crate) fn contradiction(
+    alloc: Global,
+    state: &State,
+    blocked: &Blocked,
+) -> Result<Candidate, Stop> {
+    let y = turned(alloc, &blocked.row, blocked.above)?;
+    let none = zeros(alloc, state.model.size())?;
+    let prices = prices_at(alloc, &state.model, &y, &none)?;
+    Ok(Candidate::Infeasible(weights(alloc, &state.model, &prices)?))
+}
+
+/// The point, and the ray along which a variable moves without end.
+pub(crate) fn endless_ray(
+    alloc: Global,
+    state: &State,
+    endless: &Endless,
+) -> Result<Candidate, Stop> {
+    let mut ray = zeros(alloc, state.model.columns)?;
+    let one = Frac::whole(1);
+    put(
+        &mut ray,
+        endless.variable,
+        if endless.rises { one } else { one.neg() },
+    );
+    follow(&mut ray, state, endless);
+    Ok(Candidate::Unbounded(ProposedRay {
+        point: point(alloc, state)?,
+        ray: Point::from_vec(ray),
+    }))
+}
+
+// The basic columns move along.
+fn follow(ray: &mut [Frac], state: &State, endless: &Endless) {
+    for slot in &endless.column.used {
+        let number = number_at(&endless.column.numbers, *slot);
+        let way = if endless.rises { number.neg() } else { number };
+        put(ray, state.variable_at(*slot), way);
+    }
+}
+
+fn point(alloc: Global, state: &State) -> Result<Point, Stop> {
+    let mut numbers = Vec::with_capacity(alloc, state.model.columns)?;
+    for v in 0..state.model.columns {
+        add(&mut numbers, state.value_of(v))?;
+    }
+    Ok(Point::from_vec(numbers))
+}
+
+// The numbers, or all of them with the sign turned.
+fn turned(alloc: Global, row: &[Frac], keep: bool) -> Result<Vec<Frac>, Stop> {
+    let mut numbers = Vec::with_capacity(alloc, row.len())?;
+    for number in row {
+        add(&mut numbers, if keep { *number } else { number.neg() })?;
+    }
+    Ok(numbers)
+}
+
+// The weights that the prices of all variables are: of a row minus the price, since its variable is minus its value.
+fn weights(alloc: Global, model: &Model, prices: &[Frac]) -> Result<Weights, Stop> {
+    let row_count = count_of(model.rows)?;
+    let column_count = count_of(model.columns)?;
+    let rows = items(alloc, prices, model.columns, row_count, true)?;
+    let columns = items(alloc, prices, 0, column_count, false)?;
+    Ok(Weights::new(rows, columns, Items::new(alloc)))
+}
+
+fn count_of(n: usize) -> Result<u32, Stop> {
+    match u32::try_from(n) {
+        Ok(count) => Ok(count),
+        Err(_) => Err(Stop::NoFit),
+    }
+}
+
+// The prices of `count` variables from `first` on, with the sign turned where `turn` says so.
+fn items(
+    alloc: Global,
+    prices: &[Frac],
+    first: usize,
+    count: u32,
+    turn: bool,
+) -> Result<Items, Stop> {
+    let mut items = Items::new(alloc);
+    for index in 0..count {
+        let price = number_at(prices, first.saturating_add(index as usize));
+        add_item(&mut items, index, if turn { price.neg() } else { price })?;
+    }
+    Ok(items)
+}
+
+// One more weight, where it is not 0.
+fn add_item(items: &mut Items, index: u32, weight: Frac) -> Result<(), AllocError>
+    requires index { index < count_max }
+    requires order { next_rank 0 items.old ≤ 2 * index }
+    ensures { OnOk result (next_rank 0 items.new ≤ 2 * index + 2) }
+{
+    if weight.parts().0 == 0 {
+        return Ok(());
+    }
+    items.push(Item { index, weight })
+}

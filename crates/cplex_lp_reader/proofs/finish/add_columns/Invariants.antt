@@ -1,6 +1,0 @@
--- The columns so far.
-use Rattle.std.proofs.Common.{◌≡◌, take}
-use Rattle.cplex_lp_reader.proofs.finish.add_columns.Given as goal
-
-abbrev pub invariant-loop-column : goal.invariant-loop-column
-invariant-loop-column l = l.builder ≡ record l.initial.builder { columns = take l.column-index l.columns }

@@ -1,0 +1,5 @@
+pub mod Places
+pub mod Walks
+pub mod Texts
+pub mod Scanned
+pub mod TokenExamples

@@ -1,0 +1,6 @@
+//! Tests of the crates that read MathProg models, by their public calls alone: they stand above those crates, so that each of
+//! those is proved once.
+#![tactic(auto)]
+
+#[cfg(test)]
+mod tokens;
