@@ -1,13 +1,14 @@
 -- Reading the text of a certificate, line by line: the certificate, or the first fault.
-use Rattle.std.specs.Prelude.{◌≡◌, ℕ, ℤ, ◌+◌, ◌==◌, Bool, true, false, not, ◌&&◌, zero, suc, List, [], ◌∷◌, Option, Some, None, Result, Ok, Err, IsTrue, codes, if◌then◌else◌}
+use Rattle.std.specs.Prelude.{ℕ, ℤ, ◌+◌, zero, suc, List, [], ◌∷◌, Some, None, Result, Ok, Err, IsTrue, codes, if◌then◌else◌}
 use Rattle.std.specs.Str.{bytes_eq}
 use Rattle.std.specs.List.{slice_split}
 use Rattle.rational.specs.Rational.{Rational}
 use Rattle.milp.specs.Form.{Entry}
-use Rattle.verdicts.specs.Certificate.{Verdict, Optimal, Infeasible, Unbounded, Weights, Split, FormSplit, Proof, Plain, BySplit, Derived, TreeNode, Branch, Empty, Bound, Certificate}
+use Rattle.verdicts.specs.Certificate.{Verdict, Optimal, Infeasible, Unbounded, Weights, Proof, Plain, BySplit, Derived, TreeNode, Branch, Empty, Bound, Certificate}
 use Rattle.instance.specs.WellFormed.{are_entries}
 use Rattle.certificate.specs.Written.{count_max, open_after}
-use Rattle.certificate_lines.specs.Fields.{◌>>=◌, expect, byte, count_of, index_of, number_of, whole_of, fields_of, next_field, first_by, after_word, ended, numbers_of, form_of, weights_of}
+use Rattle.certificate_lines.specs.Fields.{◌>>=◌, count_of, index_of, number_of, whole_of, fields_of, next_field, first_by, after_word, ended, numbers_of, form_of, weights_of}
+use Rattle.certificate_lines.specs.Lines.{Rest, is_feed, fault_at, line_of, closed, line_by, is_over}
 use Rattle.certificate_lines.specs.declared.fault.FaultKind.{FaultKind}
 use Rattle.certificate_lines.specs.declared.fault.FaultKind.TheVariants.{BadLine, Unended, Extra}
 use Rattle.certificate_lines.specs.declared.fault.CertFault.{CertFault}
