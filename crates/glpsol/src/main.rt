@@ -1,29 +1,53 @@
 // The program: the real outside, the words, and the status.
 #![tactic(auto)]
 
-use glpsol_cli::run;
+use glpsol_cli::{Answer, Target, out_of_memory, run};
 use outside::{RealSink, RealStore};
 use std::alloc::Global;
 use std::env::{self, Env};
+use std::io;
 use std::process::ExitCode;
 
 fn main(rt: HostRuntime) -> ExitCode {
     let alloc = rt.alloc();
-    let mut files = RealStore::new(&rt, alloc);
     let mut out = RealSink::new(&rt);
-    let answer = run(&rt, alloc, words(&rt, alloc), &mut files, &mut out);
+    // a file that is made must not get the place of a closed output
+    if !out.is_open() {
+        return ExitCode::from(closed().code());
+    }
+    let answer = match words(&rt, alloc) {
+        Ok(words) => {
+            let mut files = RealStore::new(&rt, alloc);
+            run(&rt, alloc, words, &mut files, &mut out)
+        }
+        Err(_) => out_of_memory(alloc, &mut out),
+    };
     ExitCode::from(answer.code())
 }
 
-// The words after the program's name; none where they can't be read, so that the usage is printed.
-fn words<R: Env + Alloc<A = Global>>(rt: &R, alloc: Global) -> Vec<String> {
-    match words_of(rt, alloc) {
-        Ok(words) => words,
-        Err(_) => Vec::new(alloc),
+// The answer where the output is closed.
+fn closed() -> Answer {
+    Answer::WriteFault {
+        target: Target::Out,
+        found: None,
     }
 }
 
-fn words_of<R: Env + Alloc<A = Global>>(rt: &R, alloc: Global) -> std::io::Result<Vec<String>> {
+// The words after the program's name; none where they are no text, so that the usage is printed.
+fn words<R: Env + Alloc<A = Global>>(rt: &R, alloc: Global) -> io::Result<Vec<String>> {
+    match words_of(rt, alloc) {
+        Ok(words) => Ok(words),
+        Err(error) => {
+            if error.kind() == io::ErrorKind::OutOfMemory {
+                Err(error)
+            } else {
+                Ok(Vec::new(alloc))
+            }
+        }
+    }
+}
+
+fn words_of<R: Env + Alloc<A = Global>>(rt: &R, alloc: Global) -> io::Result<Vec<String>> {
     let mut words = Vec::new(alloc);
     for word in env::args(rt)?.skip(1) {
         words.push(word)?;

@@ -1,7 +1,8 @@
 // What a run writes on its output.
-ghost use Rattle.std.specs.Prelude.{◌≡◌, IfOk, string_bytes};
+ghost use Rattle.std.specs.Prelude.{◌≡◌, IfOk, None, string_bytes};
 ghost use Rattle.outside.specs.Causes.{Rose};
 ghost use Rattle.outside.specs.Told.{AppendsPrefix};
+ghost use Rattle.solution_writer.specs.FaultLine.{no_memory_line};
 ghost use Rattle.glpsol_cli.specs.Printed.{line_of, target_line_of};
 ghost use Rattle.glpsol_cli.specs.Endings.{IsSized, IsAcceptance};
 
@@ -10,6 +11,14 @@ use instance::Instance;
 use outside::{Sink, Trouble, write_all};
 use solution_writer::{Fault, accepted_report, fault_line, translated_report};
 use std::alloc::{AllocError, Global};
+
+/// The answer where there is no memory before anything is done. Its line is written, or a part of it from the front.
+pub fn out_of_memory<O: Sink>(alloc: Global, out: &mut O) -> Answer
+    ensures answer { result ≡ Answer.NoMemory None }
+    ensures line { AppendsPrefix (O.taken out.old) (O.taken out.new) no_memory_line }
+{
+    publish_fault(alloc, out, Answer::NoMemory { found: None })
+}
 
 /// Writes the line of a fault. Where that fails, the fault stays.
 pub fn publish_fault<O: Sink>(alloc: Global, out: &mut O, fault: Answer) -> Answer

@@ -30,6 +30,29 @@ fn fault(faults: &mut u64) -> Trouble
     Trouble::Failed
 }
 
+// How often a write that a signal interrupts is tried.
+const MAX_TRIES: u32 = 1_000;
+
+// Writes some bytes from the front. Where a signal interrupts it, it is tried again.
+fn write_some<W: Write>(writer: &mut W, bytes: &[u8]) -> io::Result<usize>
+    ensures { WritesAtMost result bytes.now }
+{
+    for _try in 0..MAX_TRIES {
+        let result = writer.write(bytes);
+        if !is_interrupted(&result) {
+            return result;
+        }
+    }
+    Err(io::Error::from(io::ErrorKind::Interrupted))
+}
+
+fn is_interrupted(written: &io::Result<usize>) -> bool {
+    match written {
+        Ok(_) => false,
+        Err(error) => error.kind() == io::ErrorKind::Interrupted,
+    }
+}
+
 // What a write of a piece comes to. To take nothing of a piece that isn't empty is a fault.
 fn written(got: io::Result<usize>, bytes: &[u8], faults: &mut u64) -> Result<usize, Trouble>
     ensures bound { WritesAtMost got bytes.now → WritesAtMost result bytes.now }
@@ -123,7 +146,7 @@ impl<R: Files> Store for RealStore<'_, R> {
         let Some(opened) = &mut self.hands[file as usize] else {
             return Err(fault(&mut self.faults));
         };
-        let result = opened.write(bytes);
+        let result = write_some(opened, bytes);
         written(result, bytes, &mut self.faults)
     }
 
@@ -151,6 +174,11 @@ impl<'a, P: Print> RealSink<'a, P> {
     pub fn new(rt: &'a P) -> Self {
         RealSink { rt, faults: 0 }
     }
+
+    /// Whether it takes anything at all: an empty write reaches the system, which refuses it where standard output is closed.
+    pub fn is_open(&mut self) -> bool {
+        self.write(b"").is_ok()
+    }
 }
 
 impl<P: Print> Sink for RealSink<'_, P> {
@@ -159,7 +187,7 @@ impl<P: Print> Sink for RealSink<'_, P> {
     ghost faults = { λ s. s.faults };
 
     fn write(&mut self, bytes: &[u8]) -> Result<usize, Trouble> {
-        let result = io::writer(self.rt).write(bytes);
+        let result = write_some(&mut io::writer(self.rt), bytes);
         written(result, bytes, &mut self.faults)
     }
 }

@@ -99,6 +99,7 @@ pub trait Store {
         ensures lacks { Lacks (told self.old name.now) → OnOk result ⊥ }
         ensures has { (bytes : List ℕ) → Has (told self.old name.now) bytes
             → (IsErrOf result OpenTrouble.Missing → ⊥) × IfOk result (λ file. left self.new file ≡ Some bytes) }
+        ensures missing { IsErrOf result OpenTrouble.Missing → faults self.new ≡ faults self.old }
         ensures in_hand { IfOk result (λ file. in_hand self.new file) }
         ensures fresh { IfOk result (λ file. in_hand self.old file → ⊥) }
         ensures told { (other : List ℕ) → told self.new other ≡ told self.old other }
@@ -181,6 +182,7 @@ pub fn read_all<S: Store>(alloc: Global, store: &mut S, name: &str) -> Result<Ve
     ensures length { IfOk result (λ read. length read.items ≤ MAX_FILE) }
     ensures lacks { Lacks (S.told store.old name.now) → OnOk result ⊥ }
     ensures missing { IsErrOf result LoadFault.Missing → (bytes : List ℕ) → Has (S.told store.old name.now) bytes → ⊥ }
+    ensures no_fault { IsErrOf result LoadFault.Missing → S.faults store.new ≡ S.faults store.old }
     ensures open { IsErrOf result LoadFault.Open → Rose (S.faults store.old) (S.faults store.new) }
     ensures read { IsErrOf result LoadFault.Read → Rose (S.faults store.old) (S.faults store.new) }
     ensures too_long { IsErrOf result LoadFault.TooLong → (bytes : List ℕ) → Has (S.told store.old name.now) bytes → MAX_FILE < length bytes }
