@@ -1,17 +1,17 @@
 -- The fraction that a text writes in the one form in which fractions are written.
-use Rattle.std.specs.Prelude.{ℕ, ℤ, pos, neg_ℤ, ◌==◌, nat_le, ◌&&◌, Bool, true, false, List, [], ◌∷◌, Some, None, Result, Ok, Err, if◌then◌else◌}
+use Rattle.std.specs.Prelude.{ℕ, ℤ, pos, neg_ℤ, ◌==◌, codes, nat_le, ◌&&◌, Bool, true, false, List, [], ◌∷◌, Some, None, Result, Ok, Err, if◌then◌else◌}
 use Rattle.std.specs.declared.option.Option.{Option}
 use Rattle.std.specs.Option.{option_map, option_and_then}
 use Rattle.std.specs.List.{slice_split}
 use Rattle.integer.specs.Gcd.{gcd}
 use Rattle.rational.specs.Rational.{Rational, over}
 use Rattle.fraction.specs.Fits.{part_max}
-use Rattle.fraction.specs.Literal.{digits_of}
+use Rattle.fraction.specs.Literal.{code, digits_of}
 use Rattle.fraction.specs.declared.read.ReadFault.{ReadFault}
 use Rattle.fraction.specs.declared.read.ReadFault.TheVariants.{NotANumber, TooWide}
 
 abbrev pub is_slash : ℕ → Bool
-is_slash c = c == 47
+is_slash c = c == code (codes "/")
 
 -- the parts of a quotient as they are written
 pub record Quotient : Type 0 where
@@ -23,7 +23,7 @@ pub record Quotient : Type 0 where
 abbrev pub plain_digits_of : List ℕ → Option ℕ
 plain_digits_of [] = None
 plain_digits_of (c ∷ []) = digits_of (c ∷ [])
-plain_digits_of (c ∷ d ∷ cs) = if c == 48 then None else digits_of (c ∷ d ∷ cs)
+plain_digits_of (c ∷ d ∷ cs) = if c == code (codes "0") then None else digits_of (c ∷ d ∷ cs)
 
 -- a number other than 0
 abbrev pub nonzero : ℕ → Option ℕ
@@ -40,7 +40,7 @@ quotient_with negative denominator numerator = record { negative = negative; num
 abbrev pub numerator_of : ℕ → List ℕ → Option Quotient
 numerator_of denominator [] = None
 numerator_of denominator (c ∷ cs) =
-    if c == 45 then option_map (quotient_with true denominator) (option_and_then nonzero (plain_digits_of cs))
+    if c == code (codes "-") then option_map (quotient_with true denominator) (option_and_then nonzero (plain_digits_of cs))
     else option_map (quotient_with false denominator) (plain_digits_of (c ∷ cs))
 
 -- a denominator: plain digits of a number above 1

@@ -1,5 +1,5 @@
 -- The value of a number literal with a sign or none.
-use Rattle.std.specs.Prelude.{ℕ, ℤ, pos, negsuc, neg_ℤ, ◌+◌, ◌-◌, ◌*◌, ◌/◌, ◌%◌, ◌^◌, ◌==◌, ◌+ℤ◌, ◌-ℤ◌, ◌*ℤ◌, nat_le, unsigned_abs, ◌&&◌, ◌||◌, Bool, zero, suc, List, [], ◌∷◌, ◌++◌, length, Some, None, Result, Ok, Err, if◌then◌else◌}
+use Rattle.std.specs.Prelude.{ℕ, ℤ, pos, negsuc, neg_ℤ, ◌+◌, ◌-◌, ◌*◌, ◌/◌, ◌%◌, ◌^◌, ◌==◌, codes, ◌+ℤ◌, ◌-ℤ◌, ◌*ℤ◌, nat_le, unsigned_abs, ◌&&◌, ◌||◌, Bool, zero, suc, List, [], ◌∷◌, ◌++◌, length, Some, None, Result, Ok, Err, if◌then◌else◌}
 use Rattle.std.specs.declared.option.Option.{Option}
 use Rattle.std.specs.Option.{option_map, option_and_then}
 use Rattle.std.specs.List.{slice_split}
@@ -9,17 +9,21 @@ use Rattle.fraction.specs.Fits.{part_max, fits}
 use Rattle.fraction.specs.declared.read.ReadFault.{ReadFault}
 use Rattle.fraction.specs.declared.read.ReadFault.TheVariants.{NotANumber, TooWide}
 
-abbrev pub is_point : ℕ → Bool
-is_point c = c == 46
+-- the code of a text of one character
+abbrev pub code : List ℕ → ℕ
+code [] = 0
+code (c ∷ cs) = c
 
--- `e` or `E`
+abbrev pub is_point : ℕ → Bool
+is_point c = c == code (codes ".")
+
 abbrev pub is_exponent_mark : ℕ → Bool
-is_exponent_mark c = (c == 101) || (c == 69)
+is_exponent_mark c = (c == code (codes "e")) || (c == code (codes "E"))
 
 -- the number whose digits go on after n
 abbrev pub digits_on : ℕ → List ℕ → Option ℕ
 digits_on n [] = Some n
-digits_on n (c ∷ cs) = if is_ascii_digit c then digits_on (10 * n + (c - 48)) cs else None
+digits_on n (c ∷ cs) = if is_ascii_digit c then digits_on (10 * n + (c - code (codes "0"))) cs else None
 
 -- the number of at least one digit
 abbrev pub digits_of : List ℕ → Option ℕ
@@ -48,8 +52,8 @@ mantissa_of text = mantissa_in (slice_split is_point text)
 abbrev pub exponent_of : List ℕ → Option ℤ
 exponent_of [] = None
 exponent_of (c ∷ cs) =
-    if c == 45 then option_map (λ n. neg_ℤ (pos n)) (digits_of cs)
-    else if c == 43 then option_map pos (digits_of cs)
+    if c == code (codes "-") then option_map (λ n. neg_ℤ (pos n)) (digits_of cs)
+    else if c == code (codes "+") then option_map pos (digits_of cs)
     else option_map pos (digits_of (c ∷ cs))
 
 -- the decimal fraction m * 10^e
@@ -106,6 +110,6 @@ signed_value sign (Some d) = fitting d (scaled (sign (pos d.m)) d.e)
 abbrev pub read_of : List ℕ → Result Rational ReadFault
 read_of [] = Err NotANumber
 read_of (c ∷ cs) =
-    if c == 45 then signed_value neg_ℤ (literal_of cs)
-    else if c == 43 then signed_value (λ n. n) (literal_of cs)
+    if c == code (codes "-") then signed_value neg_ℤ (literal_of cs)
+    else if c == code (codes "+") then signed_value (λ n. n) (literal_of cs)
     else signed_value (λ n. n) (literal_of (c ∷ cs))

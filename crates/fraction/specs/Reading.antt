@@ -1,11 +1,11 @@
 -- What `read` keeps of the parts of a literal, in numbers of limited size.
-use Rattle.std.specs.Prelude.{ℕ, ℤ, pos, neg_ℤ, ◌+◌, ◌-◌, ◌*◌, ◌/◌, ◌^◌, ◌==◌, ◌+ℤ◌, ◌-ℤ◌, nat_le, Bool, true, false, min, unsigned_abs, ◌&&◌, List, [], ◌∷◌, Some, None, Result, Ok, Err, if◌then◌else◌}
+use Rattle.std.specs.Prelude.{ℕ, ℤ, pos, neg_ℤ, ◌+◌, ◌-◌, ◌*◌, ◌/◌, ◌^◌, ◌==◌, codes, ◌+ℤ◌, ◌-ℤ◌, nat_le, Bool, true, false, min, unsigned_abs, ◌&&◌, List, [], ◌∷◌, Some, None, Result, Ok, Err, if◌then◌else◌}
 use Rattle.std.specs.declared.option.Option.{Option}
 use Rattle.std.specs.Option.{option_map}
 use Rattle.std.specs.Char.{is_ascii_digit}
 use Rattle.rational.specs.Rational.{Rational}
 use Rattle.fraction.specs.Fits.{part_max, fits}
-use Rattle.fraction.specs.Literal.{digits_of, tens_in, Decimal}
+use Rattle.fraction.specs.Literal.{code, digits_of, tens_in, Decimal}
 use Rattle.fraction.specs.Literal.{Mantissa as Written}
 use Rattle.fraction.specs.declared.read.ReadFault.{ReadFault}
 use Rattle.fraction.specs.declared.read.ReadFault.TheVariants.{NotANumber, TooWide}
@@ -36,7 +36,7 @@ with_digit k d =
 -- what is kept with more digits
 abbrev pub kept_on : Digits → List ℕ → Option Digits
 kept_on k [] = Some k
-kept_on k (c ∷ cs) = if is_ascii_digit c then kept_on (with_digit k (c - 48)) cs else None
+kept_on k (c ∷ cs) = if is_ascii_digit c then kept_on (with_digit k (c - code (codes "0"))) cs else None
 
 abbrev pub clipped : ℕ → ℕ → ℕ
 clipped limit n = min n limit
@@ -49,8 +49,8 @@ clipped_digits_of limit text = option_map (clipped limit) (digits_of text)
 abbrev pub clipped_exponent_of : List ℕ → Option ℤ
 clipped_exponent_of [] = None
 clipped_exponent_of (c ∷ cs) =
-    if c == 45 then option_map (λ n. neg_ℤ (pos n)) (clipped_digits_of exponent_end cs)
-    else if c == 43 then option_map pos (clipped_digits_of exponent_end cs)
+    if c == code (codes "-") then option_map (λ n. neg_ℤ (pos n)) (clipped_digits_of exponent_end cs)
+    else if c == code (codes "+") then option_map pos (clipped_digits_of exponent_end cs)
     else option_map pos (clipped_digits_of exponent_end (c ∷ cs))
 
 -- what is kept of a mantissa
