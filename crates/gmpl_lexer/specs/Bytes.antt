@@ -9,10 +9,10 @@ byte [] = 0
 byte (b ∷ bs) = b
 
 abbrev pub line_feed : ℕ
-line_feed = 10
+line_feed = byte (codes "\n")
 
 abbrev pub carriage_return : ℕ
-carriage_return = 13
+carriage_return = byte (codes "\r")
 
 -- the next byte is this one
 abbrev pub next_is : ℕ → List ℕ → Bool
@@ -25,7 +25,7 @@ begins_with text word = starts_with nat_eq text word
 
 -- blank, tab, line feed
 abbrev pub is_blank : ℕ → Bool
-is_blank b = (b == byte (codes " ")) || ((b == 9) || (b == line_feed))
+is_blank b = (b == byte (codes " ")) || ((b == byte (codes "\t")) || (b == line_feed))
 
 -- either quote
 abbrev pub is_quote : ℕ → Bool
