@@ -1,5 +1,5 @@
 -- The fields of a line: words, numbers, forms and weights, read from left to right up to the first fault.
-use Rattle.std.specs.Prelude.{ℕ, ℤ, ◌+◌, ◌-◌, ◌*◌, ◌==◌, nat_le, Bool, true, false, zero, suc, List, [], ◌∷◌, drop, slice_index, codes, Option, Some, None, Result, Ok, Err, if◌then◌else◌}
+use Rattle.std.specs.Prelude.{ℕ, ℤ, ◌+◌, ◌-◌, ◌*◌, ◌==◌, nat_le, Bool, true, false, zero, suc, List, [], ◌∷◌, drop, codes, Option, Some, None, Result, Ok, Err, if◌then◌else◌}
 use Rattle.std.specs.Str.{bytes_eq, is_utf8}
 use Rattle.std.specs.List.{slice_split, before_first, after_first}
 use Rattle.rational.specs.Rational.{Rational}
@@ -8,6 +8,7 @@ use Rattle.fraction.specs.declared.read.ReadFault.TheVariants as fault
 use Rattle.milp.specs.Form.{Entry}
 use Rattle.rational.specs.Compare.{is_zero}
 use Rattle.verdicts.specs.Certificate.{Item, Weights}
+use Rattle.fraction.specs.Literal.{code}
 use Rattle.fraction.specs.Canonical.{plain_digits_of, read_canonical_of}
 use Rattle.certificate.specs.Written.{count_max, rank_of}
 use Rattle.certificate_lines.specs.declared.fault.FaultKind.{FaultKind}
@@ -58,15 +59,11 @@ whole_of field = number_of field >>= λ v. expect (v.denominator == 1) v.numerat
 
 -- ---- fields, which single blanks part
 
--- the byte of a text of one byte
-abbrev pub byte : List ℕ → ℕ
-byte text = slice_index text 0
-
 abbrev pub is_blank : ℕ → Bool
-is_blank c = c == byte (codes " ")
+is_blank c = c == code (codes " ")
 
 abbrev pub is_colon : ℕ → Bool
-is_colon c = c == byte (codes ":")
+is_colon c = c == code (codes ":")
 
 abbrev pub fields_of : List ℕ → List (List ℕ)
 fields_of line = slice_split is_blank line
@@ -138,8 +135,8 @@ items_of kind least (field ∷ fields) =
 
 unfoldable pub weights_of : List (List ℕ) → Result Weights FaultKind
 weights_of fields = do
-  rows ← items_of (byte (codes "r")) 0 fields
-  columns ← items_of (byte (codes "c")) 0 rows.1
-  derived ← items_of (byte (codes "d")) 0 columns.1
+  rows ← items_of (code (codes "r")) 0 fields
+  columns ← items_of (code (codes "c")) 0 rows.1
+  derived ← items_of (code (codes "d")) 0 columns.1
   end ← ended derived.1
   Ok (record { rows = rows.0; columns = columns.0; derived = derived.0 })

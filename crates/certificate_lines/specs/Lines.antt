@@ -1,13 +1,14 @@
 -- The lines of a text, which line feeds end, and what is read of one.
 use Rattle.std.specs.Prelude.{ℕ, ◌+◌, ◌==◌, Bool, true, false, not, ◌&&◌, List, [], ◌∷◌, Result, Ok, Err, codes, if◌then◌else◌}
 use Rattle.std.specs.List.{slice_split}
-use Rattle.certificate_lines.specs.Fields.{◌>>=◌, byte, fields_of}
+use Rattle.fraction.specs.Literal.{code}
+use Rattle.certificate_lines.specs.Fields.{◌>>=◌, fields_of}
 use Rattle.certificate_lines.specs.declared.fault.FaultKind.{FaultKind}
 use Rattle.certificate_lines.specs.declared.fault.FaultKind.TheVariants.{BadLine, Unended}
 use Rattle.certificate_lines.specs.declared.fault.CertFault.{CertFault}
 
 abbrev pub is_feed : ℕ → Bool
-is_feed c = c == byte (codes "\n")
+is_feed c = c == code (codes "\n")
 
 -- what is left of a text: the number of its next line, and its pieces between line feeds
 pub record Rest : Type 0 where
