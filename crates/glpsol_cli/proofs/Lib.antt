@@ -1,4 +1,7 @@
-pub mod Texts
-pub mod Finds
+pub mod Follow
+pub mod Writing
+pub mod Answers
 pub mod Reports
-pub mod Ends
+pub mod Works
+pub mod Verdicts
+pub mod Completes

@@ -1,0 +1,76 @@
+-- How the writing of pieces goes on, one after the other.
+use Rattle.std.proofs.Common.{◌≡◌, ◌⊎◌, ◌∙◌, ℕ, zero, List, [], ◌∷◌, ◌++◌, Some, None, Option, refl, inl, inr, map, drop, sym, ap, subst}
+use Rattle.std.specs.Prelude.{Result, Ok, Err}
+use Rattle.std.proofs.KnownBytes.{Appends-nil, Appends-trans}
+use Rattle.std.specs.Io.KnownBytes.{Appends}
+use Rattle.outside.specs.Told.{Has, AppendsPrefix, IsKeptOrPrefix}
+use Rattle.glpsol_cli.specs.Asked.{ToldNames}
+use Rattle.glpsol_cli.specs.Pieces.{Piece, Outside, SameNames, IsSame, IsWritten, IsWrittenInPart, AllWritten, WrittenUpTo, SomeWritten}
+use Rattle.glpsol_cli.specs.Stages.{EndsWriting, EndsPiece}
+use Rattle.glpsol_cli.specs.declared.answer.Target.{Target}
+use Rattle.glpsol_cli.specs.declared.answer.Target.TheVariants.{Out, File}
+use Rattle.glpsol_cli.specs.declared.publish.PublishFault.{PublishFault}
+use Rattle.glpsol_cli.specs.declared.publish.PublishFault.TheVariants.{Write, NoMemory}
+
+-- ---- nothing written
+
+pub nothing : (o : Outside) → IsSame o o
+nothing o = (Appends-nil o.taken, λ name. refl)
+
+pub no_part : (target : Target) (text : List ℕ) (o : Outside) → IsWrittenInPart target text o o
+no_part Out text o = ((0, Appends-nil o.taken), λ name. refl)
+no_part (File name) text o = (Appends-nil o.taken, λ before had. inl had, λ other not. refl)
+
+pub none_written : (ps : List Piece) (o : Outside) → SomeWritten ps o o
+none_written [] o = nothing o
+none_written (p ∷ ps) o = inl (no_part p.target p.text o)
+
+-- ---- one piece, and then the others
+
+pub goes_on : {T : Type 0} (p : Piece) (ps : List Piece) (old middle new : Outside) (r : Result T PublishFault) → IsWritten p.target p.text old middle → EndsWriting {T = T} ps middle new r → EndsWriting {T = T} (p ∷ ps) old new r
+goes_on p ps old middle new (Ok t) is h = (middle, is, h)
+goes_on p ps old middle new (Err (Write target)) is h = inr (middle, is, h)
+goes_on p ps old middle new (Err NoMemory) is h = inr (middle, is, h)
+
+pub stops_at : {T U : Type 0} (p : Piece) (ps : List Piece) (old new : Outside) (e : PublishFault) → EndsPiece {T = U} p old new (Err e) → EndsWriting {T = T} (p ∷ ps) old new (Err e)
+stops_at p ps old new (Write target) h = inl h
+stops_at p ps old new NoMemory h = inl h
+
+-- ---- from names that are told the same
+
+module _ (taken : Option (List ℕ)) (told told' : ToldNames) (same : SameNames told told') where
+  written_from : (target : Target) (text : List ℕ) (new : Outside) → IsWritten target text (record { taken = taken; told = told' }) new → IsWritten target text (record { taken = taken; told = told }) new
+  written_from Out text new h = (h.0, λ name. h.1 name ∙ same name)
+  written_from (File name) text new h = (h.0, λ had_before had. h.1 had_before (same name ∙ had), λ other not. h.2 other not ∙ same other)
+
+  part_from : (target : Target) (text : List ℕ) (new : Outside) → IsWrittenInPart target text (record { taken = taken; told = told' }) new → IsWrittenInPart target text (record { taken = taken; told = told }) new
+  part_from Out text new h = (h.0, λ name. h.1 name ∙ same name)
+  part_from (File name) text new h = (h.0, λ had_before had. h.1 had_before (same name ∙ had), λ other not. h.2 other not ∙ same other)
+
+  pub all_from : (ps : List Piece) (new : Outside) → AllWritten ps (record { taken = taken; told = told' }) new → AllWritten ps (record { taken = taken; told = told }) new
+  all_from [] new h = (h.0, λ name. h.1 name ∙ same name)
+  all_from (p ∷ ps) new h = (h.0, written_from p.target p.text h.0 h.1, h.2)
+
+  pub up_to_from : (target : Target) (ps : List Piece) (new : Outside) → WrittenUpTo target ps (record { taken = taken; told = told' }) new → WrittenUpTo target ps (record { taken = taken; told = told }) new
+  up_to_from target [] new h = absurd h
+  up_to_from target (p ∷ ps) new h = elim h [
+    | inl part ↦ inl (part.0, part_from p.target p.text new part.1)
+    | inr more ↦ inr (more.0, written_from p.target p.text more.0 more.1, more.2)
+  ]
+
+  pub some_from : (ps : List Piece) (new : Outside) → SomeWritten ps (record { taken = taken; told = told' }) new → SomeWritten ps (record { taken = taken; told = told }) new
+  some_from [] new h = (h.0, λ name. h.1 name ∙ same name)
+  some_from (p ∷ ps) new h = elim h [
+    | inl part ↦ inl (part_from p.target p.text new part)
+    | inr more ↦ inr (more.0, written_from p.target p.text more.0 more.1, more.2)
+  ]
+
+  pub ends_from : {T : Type 0} (ps : List Piece) (new : Outside) (r : Result T PublishFault) → EndsWriting {T = T} ps (record { taken = taken; told = told' }) new r → EndsWriting {T = T} ps (record { taken = taken; told = told }) new r
+  ends_from ps new (Ok t) h = all_from ps new h
+  ends_from ps new (Err (Write target)) h = up_to_from target ps new h
+  ends_from ps new (Err NoMemory) h = some_from ps new h
+
+-- ---- pieces that are shown one by one
+
+pub piece_next : {A : Type 0} (f : A → Piece) (xs ys : List A) (x : A) → xs ≡ x ∷ ys → map f xs ≡ f x ∷ map f ys
+piece_next f xs ys x e = ap (map f) e
