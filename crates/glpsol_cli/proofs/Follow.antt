@@ -8,8 +8,5 @@ pub handed_on : {X E : Type 0} (r : Result X E) (e : E) (P : E → Type 0) → I
 handed_on (Ok u) e P h p = tt
 handed_on (Err d) e P h p = subst P (sym h) p
 
-pub rose_since : (a b c : ℕ) → a ≤ b → Rose b c → Rose a c
-rose_since a b c h k = omega (arith, h, k)
-
-pub rose_until : (a b c : ℕ) → b ≤ c → Rose a b → Rose a c
-rose_until a b c h k = omega (arith, h, k)
+pub rose_within : (a b c d : ℕ) → a ≤ b → c ≤ d → Rose b c → Rose a d
+rose_within a b c d h k r = omega (arith, h, k, r)

@@ -3,5 +3,6 @@ pub mod Writing
 pub mod Answers
 pub mod Reports
 pub mod Works
+pub mod Reads
 pub mod Verdicts
 pub mod Completes

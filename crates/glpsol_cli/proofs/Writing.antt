@@ -1,16 +1,18 @@
 -- How the writing of pieces goes on, one after the other.
-use Rattle.std.proofs.Common.{◌≡◌, ◌⊎◌, ◌∙◌, ℕ, zero, List, [], ◌∷◌, ◌++◌, Some, None, Option, refl, inl, inr, map, drop, sym, ap, subst}
+use Rattle.std.proofs.Common.{◌≡◌, ◌⊎◌, ◌∙◌, ◌≤◌, ℕ, zero, List, [], ◌∷◌, ◌++◌, Some, None, Option, refl, inl, inr, sym, ap, subst}
 use Rattle.std.specs.Prelude.{Result, Ok, Err}
 use Rattle.std.proofs.KnownBytes.{Appends-nil, Appends-trans}
 use Rattle.std.specs.Io.KnownBytes.{Appends}
 use Rattle.outside.specs.Told.{Has, AppendsPrefix, IsKeptOrPrefix}
 use Rattle.glpsol_cli.specs.Asked.{ToldNames}
 use Rattle.glpsol_cli.specs.Pieces.{Piece, Outside, SameNames, IsSame, IsWritten, IsWrittenInPart, AllWritten, WrittenUpTo, SomeWritten}
-use Rattle.glpsol_cli.specs.Stages.{EndsWriting, EndsPiece}
+use Rattle.outside.specs.Causes.{Rose}
+use Rattle.glpsol_cli.specs.Stages.{EndsWriting, EndsPiece, HasFailed}
 use Rattle.glpsol_cli.specs.declared.answer.Target.{Target}
 use Rattle.glpsol_cli.specs.declared.answer.Target.TheVariants.{Out, File}
 use Rattle.glpsol_cli.specs.declared.publish.PublishFault.{PublishFault}
 use Rattle.glpsol_cli.specs.declared.publish.PublishFault.TheVariants.{Write, NoMemory}
+use Rattle.glpsol_cli.proofs.Follow.{rose_within}
 
 -- ---- nothing written
 
@@ -24,6 +26,23 @@ no_part (File name) text o = (Appends-nil o.taken, λ before had. inl had, λ ot
 pub none_written : (ps : List Piece) (o : Outside) → SomeWritten ps o o
 none_written [] o = nothing o
 none_written (p ∷ ps) o = inl (no_part p.target p.text o)
+
+-- ---- a file of a name, by another term for it and for its text
+
+module _ (name name' text text' : List ℕ) (taken : Option (List ℕ)) (told told' : ToldNames) (same : name' ≡ name) (same_text : text' ≡ text) (others : (other : List ℕ) → (other ≡ name' → ⊥) → told' other ≡ told other) where
+  pub made : ((before : Option (List ℕ)) → told name' ≡ Some before → Has (told' name') text') → IsWritten (File name) text (record { taken = taken; told = told }) (record { taken = taken; told = told' })
+  made all = (
+    Appends-nil taken,
+    subst (λ (t : List ℕ). (before : Option (List ℕ)) → told name ≡ Some before → Has (told' name) t) same_text (subst (λ (n : List ℕ). (before : Option (List ℕ)) → told n ≡ Some before → Has (told' n) text') same all),
+    subst (λ (n : List ℕ). (other : List ℕ) → (other ≡ n → ⊥) → told' other ≡ told other) same others
+  )
+
+  pub made_in_part : ((before : Option (List ℕ)) → told name' ≡ Some before → IsKeptOrPrefix before (told' name') text') → IsWrittenInPart (File name) text (record { taken = taken; told = told }) (record { taken = taken; told = told' })
+  made_in_part part = (
+    Appends-nil taken,
+    subst (λ (t : List ℕ). (before : Option (List ℕ)) → told name ≡ Some before → IsKeptOrPrefix before (told' name) t) same_text (subst (λ (n : List ℕ). (before : Option (List ℕ)) → told n ≡ Some before → IsKeptOrPrefix before (told' n) text') same part),
+    subst (λ (n : List ℕ). (other : List ℕ) → (other ≡ n → ⊥) → told' other ≡ told other) same others
+  )
 
 -- ---- one piece, and then the others
 
@@ -70,7 +89,10 @@ module _ (taken : Option (List ℕ)) (told told' : ToldNames) (same : SameNames 
   ends_from ps new (Err (Write target)) h = up_to_from target ps new h
   ends_from ps new (Err NoMemory) h = some_from ps new h
 
--- ---- pieces that are shown one by one
+-- ---- what has failed within a longer time
 
-pub piece_next : {A : Type 0} (f : A → Piece) (xs ys : List A) (x : A) → xs ≡ x ∷ ys → map f xs ≡ f x ∷ map f ys
-piece_next f xs ys x e = ap (map f) e
+module _ (a b c d : ℕ) (before : a ≤ b) (after : c ≤ d) (p q r s : ℕ) (before' : p ≤ q) (after' : r ≤ s) where
+  pub failed_within : (fault : PublishFault) → HasFailed (Rose b c) (Rose q r) fault → HasFailed (Rose a d) (Rose p s) fault
+  failed_within (Write Out) h = rose_within p q r s before' after' h
+  failed_within (Write (File name)) h = rose_within a b c d before after h
+  failed_within NoMemory h = tt
