@@ -28,10 +28,11 @@ use Rattle.cplex_lp_reader.specs.declared.column_change.ColumnChange.{ColumnChan
 use Rattle.cplex_lp_reader.specs.declared.column_change.ColumnChange.TheVariants.{Kept, Bounded, Freed}
 use Rattle.model_text.specs.Profile.{reader_profile}
 use Rattle.cplex_lp_reader.specs.Tokens.{Token, is_word, is_name, tokens_of}
+use Rattle.model_text.specs.Columns.{new_column}
 use Rattle.model_text.specs.Steps.{then_do}
 use Rattle.cplex_lp_reader.specs.Steps.{fault_at, misplaced, fitting_at, number_of}
 use Rattle.cplex_lp_reader.specs.Grammar.{after_plus, after_minus, signed, is_colon, is_before_colon, is_before_name}
-use Rattle.cplex_lp_reader.specs.Declaration.{new_column, Declaration, nothing_declared, now_expecting, added, entries_of, column_place, mentioned, with_column, problem_of}
+use Rattle.cplex_lp_reader.specs.Declaration.{Declaration, nothing_declared, now_expecting, added, entries_of, column_place, mentioned, with_column, problem_of}
 use Rattle.cplex_lp_reader.specs.Objective.{objective_term, with_constant, objective_number, objective_begun, objective_factor, objective_done, in_objective, at_objective_start, at_objective_colon}
 use Rattle.cplex_lp_reader.specs.Constraints.{is_row, row_opened, default_name, unnamed_row, unnamed_row_at, row_term, row_begun, row_factor, may_follow, row_done, in_row_terms, at_row_name, at_row_start, at_row_colon, at_row_first, at_row_number, with_right, entry_count, row_closed, at_row_right}
 use Rattle.cplex_lp_reader.specs.Bounds.{is_infinity, infinite, is_possible, bounded, turned, changed, with_mentioned, bound_word, at_bound_start, at_bound_left, at_bound_relation, at_bound_name, at_bound_compared, at_bound_named, with_right_bound, at_bound_right}
@@ -76,8 +77,8 @@ moved p d e h = record { continuous = h.continuous; outside = e }
 mentioned-plain : (profile : Profile) (t : Token) (d : Declaration) → IsPlain d → IfOk (mentioned profile t d) IsPlain
 mentioned-plain profile t d h =
     either (nat_lt (column_place t.text d.columns) (length d.columns)) (Ok d) _ h
-    (either (nat_le profile.columns (length d.columns)) (fault_at t.line TooMany) (Ok (record d { columns = d.columns ++ new_column t.text ∷ [] })) tt
-    (record { continuous = All-push IsContinuous d.columns (new_column t.text) h.continuous refl; outside = h.outside }))
+    (either (nat_le profile.columns (length d.columns)) (fault_at t.line TooMany) (Ok (record d { columns = d.columns ++ new_column t.text false ∷ [] })) tt
+    (record { continuous = All-push IsContinuous d.columns (new_column t.text false) h.continuous refl; outside = h.outside }))
 
 bounded-continuous : (relation : Relation) (limit : Limit) (c : Column) → IsContinuous c → IsContinuous (bounded relation limit c)
 bounded-continuous AtMost limit c h = h

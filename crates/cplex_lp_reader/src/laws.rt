@@ -5,6 +5,7 @@ ghost use Rattle.model_text.specs.declared.profile.Profile.{Profile};
 ghost use Rattle.cplex_lp_reader.specs.CplexLp.{declared_within, declared};
 
 /// A text that is read has no integer columns while integer columns aren't read.
+// This law goes, with its proof (proofs/Continuous.antt), when integer columns are taken.
 #[tactic(auto, using(crate::proofs::Continuous::columns_are_continuous, crate::proofs::Continuous::declared_columns_are_continuous))]
 pub fn declared_problems_are_continuous()
     ensures continuous { (profile : Profile) (text : List ℕ) (p : Problem) → profile.takes_integers ≡ false

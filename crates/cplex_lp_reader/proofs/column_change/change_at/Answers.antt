@@ -4,8 +4,8 @@ use Rattle.cplex_lp_reader.specs.Bounds.{changed}
 use Rattle.cplex_lp_reader.proofs.Changed.{changed-got, changed-past, changed-name}
 use Rattle.cplex_lp_reader.proofs.column_change.change_at.Goals as goal
 
-pub set-requires-then-place-len-clause-name : goal.set-requires-then-place-len-clause-name
-set-requires-then-place-len-clause-name c = rw (c.at-column.ensures, c.apply.ensures) (changed-name c.args.change c.at-column.result)
+pub set-requires-clause-name : goal.set-requires-clause-name
+set-requires-clause-name c = rw (c.at-column.ensures, c.apply.ensures) (changed-name c.args.change c.at-column.result)
 
 pub returns-then-place-len : goal.returns-then-place-len
 returns-then-place-len c =
