@@ -3,6 +3,6 @@ pub mod Writing
 pub mod Answers
 pub mod Reports
 pub mod Works
-pub mod Reads
+pub mod FilesRead
 pub mod Verdicts
 pub mod Completes
