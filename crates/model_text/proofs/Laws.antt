@@ -60,6 +60,14 @@ pub place-within : {X : Type 0} (p : X → Bool) → (xs : List X) (found : Opti
 place-within p xs None e = tt
 place-within p xs (Some i) e = (place-some p xs i (sym e)).1
 
+none-by : {X : Type 0} (p : X → Bool) (x : X) (xs : List X) (b : Bool) → p x ≡ b → (length xs ≤ position_or_len p xs → list_any p xs ≡ false) → length (x ∷ xs) ≤ position_or_len p (x ∷ xs) → list_any p (x ∷ xs) ≡ false
+none-by p x xs true e more h = let t : position_or_len p (x ∷ xs) ≡ 0 = rw e refl in absurd (omega arith)
+none-by p x xs false e more h = let t : position_or_len p (x ∷ xs) ≡ 1 + position_or_len p xs = rw e refl in rw e (more (omega arith))
+
+pub none-passes : {X : Type 0} (p : X → Bool) (xs : List X) → length xs ≤ position_or_len p xs → list_any p xs ≡ false
+none-passes p [] h = refl
+none-passes p (x ∷ xs) h = none-by p x xs (p x) refl (none-passes p xs) h
+
 some-when : (b : Bool) (n : ℕ) → is_some (cond b (Some n) None) ≡ b
 some-when true n = refl
 some-when false n = refl

@@ -1,11 +1,10 @@
 -- What a builder asks for, from what a draft keeps.
 use Rattle.std.proofs.Common.{◌≡◌, ◌∙◌, ℕ, suc, zero, ◌+◌, ◌<◌, ◌≤◌, false, List, [], ◌∷◌, ◌++◌, length, map, take, get_or, sym, ap, refl, arith}
-use Rattle.std.proofs.lemmas.List.{get_or-map, take-map, take_more, length-map}
-use Rattle.std.specs.List.{list_any}
+use Rattle.std.proofs.lemmas.List.{take_more}
 use Rattle.std.specs.Str.{bytes_eq}
 use Rattle.milp.specs.Problem.{Row}
 use Rattle.instance.specs.WellFormed.{has_row, entry_count as entries_of_rows}
-use Rattle.model_text.specs.Names.{is_name, AreNew}
+use Rattle.model_text.specs.Names.{AreNew}
 use Rattle.mps_reader.specs.Declaration.{DeclaredRow, entry_count}
 use Rattle.mps_reader.specs.Finished.{finished_row}
 use Rattle.model_text.proofs.Laws.{list_any-same, new-at}

@@ -1,13 +1,10 @@
 -- Lists whose elements have names of their own: what is found and changed by name is so by its place among the names.
-use Rattle.std.proofs.Common.{suc, ◌≡◌, ℕ, ◌+◌, ◌<◌, ◌≤◌, Bool, true, false, cond, ltb, List, [], ◌∷◌, ◌++◌, length, map, get_or, set, slice_get, Some, None, is_some, sym, ap, add_comm, refl, ◌∙◌, add-one, arith}
-use Rattle.std.proofs.lemmas.Bool.Decides.{nat_tests}
+use Rattle.std.proofs.Common.{suc, ◌≡◌, ℕ, ◌+◌, ◌<◌, ◌≤◌, Bool, true, false, List, [], ◌∷◌, length, map, get_or, set, slice_get, Some, None, sym, ap, add_comm, refl, ◌∙◌, add-one, arith}
 use Rattle.std.proofs.lemmas.Option.{slice_get-get_or, slice_get_past}
 use Rattle.std.proofs.lemmas.List.Folds.{find_at}
-use Rattle.std.proofs.lemmas.List.{map-append}
-use Rattle.std.proofs.Math.Seq.{map-set_same}
 use Rattle.std.specs.List.{position, position_or_len, list_any, find}
 use Rattle.mps_reader.specs.Declaration.{with_first_changed}
-use Rattle.model_text.specs.Names.{is_name, AreNew}
+use Rattle.model_text.specs.Names.{is_name}
 use Rattle.model_text.proofs.Laws.{position-same, list_any-same, place-some, place-none}
 
 changed-by : {X : Type 0} (p : X → Bool) (f : X → X) → (x : X) (xs : List X) (d : X) (n : ℕ) (b : Bool) → p x ≡ b → position_or_len p xs ≡ n → (n < length xs → with_first_changed p f xs ≡ set xs n (f (get_or xs n d))) → (m : ℕ) → m ≡ position_or_len p (x ∷ xs) → m < length (x ∷ xs) → with_first_changed p f (x ∷ xs) ≡ set (x ∷ xs) m (f (get_or (x ∷ xs) m d))

@@ -1,5 +1,5 @@
 -- What a step of the reader, its declaration and the definition's answer have to do with each other.
-use Rattle.std.specs.Prelude.{ℕ, ◌≡◌, Result, Ok, Err}
+use Rattle.std.specs.Prelude.{ℕ, Result, Ok, Err}
 use Rattle.model_text.specs.declared.error.ReadError.{ReadError}
 use Rattle.model_text.specs.declared.error.ReadError.TheVariants.{Fault, NoMemory}
 use Rattle.model_text.specs.declared.fault.FaultKind.{FaultKind}
@@ -7,7 +7,6 @@ use Rattle.model_text.specs.declared.fault.FileFault.{FileFault}
 use Rattle.rational.specs.Rational.{Rational}
 use Rattle.fraction.specs.declared.read.ReadFault.{ReadFault}
 use Rattle.mps_reader.specs.declared.row.RowRange.{RowRange}
-use Rattle.mps_reader.specs.Declaration.{Declaration}
 use Rattle.mps_reader.specs.Steps.{kind_of}
 
 -- the number of a field, or the fault of its line

@@ -1,5 +1,5 @@
 -- The problem that a free MPS text declares, or its first fault.
-use Rattle.std.specs.Prelude.{ℕ, ◌+◌, ◌||◌, ◌&&◌, not, Bool, true, false, List, [], ◌∷◌, codes, Some, None, Result, Ok, Err, if◌then◌else◌}
+use Rattle.std.specs.Prelude.{ℕ, ◌+◌, ◌||◌, not, Bool, true, false, List, [], ◌∷◌, codes, Some, None, Result, Ok, Err, if◌then◌else◌}
 use Rattle.std.specs.declared.option.Option.{Option}
 use Rattle.std.specs.List.{list_all}
 use Rattle.std.specs.Str.{bytes_eq, is_utf8}
@@ -16,7 +16,6 @@ use Rattle.model_text.specs.Lines.{lines_of}
 use Rattle.mps_reader.specs.Lines.{fields_of, is_blank, is_header}
 use Rattle.model_text.specs.Profile.{reader_profile}
 use Rattle.mps_reader.specs.Declaration.{may_follow, Declaration, nothing_declared}
-use Rattle.model_text.specs.Steps.{then_do}
 use Rattle.mps_reader.specs.Steps.{at_end}
 use Rattle.mps_reader.specs.RowsAndColumns.{row_line, column_line}
 use Rattle.mps_reader.specs.RhsRangesBounds.{pair_line, bound_line}

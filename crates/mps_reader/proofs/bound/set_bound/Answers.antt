@@ -1,5 +1,5 @@
 -- The column at its name's place, changed.
-use Rattle.std.proofs.Common.{◌∙◌, sym, ap, set}
+use Rattle.std.proofs.Common.{◌∙◌, sym}
 use Rattle.model_text.specs.Columns.{is_column_named}
 use Rattle.mps_reader.specs.RhsRangesBounds.{bounded}
 use Rattle.mps_reader.proofs.Bounded.{bounded-name}
