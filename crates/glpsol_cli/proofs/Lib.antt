@@ -4,5 +4,6 @@ pub mod Answers
 pub mod Reports
 pub mod Works
 pub mod FilesRead
+pub mod Carried
 pub mod Verdicts
 pub mod Completes

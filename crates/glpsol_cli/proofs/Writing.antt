@@ -1,6 +1,6 @@
 -- How the writing of pieces goes on, one after the other.
 use Rattle.std.proofs.Common.{◌≡◌, ◌⊎◌, ◌∙◌, ◌≤◌, ℕ, zero, List, [], ◌∷◌, ◌++◌, Some, None, Option, refl, inl, inr, sym, ap, subst}
-use Rattle.std.specs.Prelude.{Result, Ok, Err}
+use Rattle.std.specs.Prelude.{Result, Ok, Err, IsErrAnd}
 use Rattle.std.proofs.KnownBytes.{Appends-nil, Appends-trans}
 use Rattle.std.specs.Io.KnownBytes.{Appends}
 use Rattle.outside.specs.Told.{Has, AppendsPrefix, IsKeptOrPrefix}
@@ -54,6 +54,11 @@ goes_on p ps old middle new (Err NoMemory) is h = inr (middle, is, h)
 pub stops_at : {T U : Type 0} (p : Piece) (ps : List Piece) (old new : Outside) (e : PublishFault) → EndsPiece {T = U} p old new (Err e) → EndsWriting {T = T} (p ∷ ps) old new (Err e)
 stops_at p ps old new (Write target) h = inl h
 stops_at p ps old new NoMemory h = inl h
+
+-- an error that is handed on
+pub ended_by : {T : Type 0} (ps : List Piece) (old new : Outside) (r : Result T PublishFault) (e : PublishFault) → IsErrAnd r (λ d. d ≡ e) → EndsWriting {T = T} ps old new (Err e) → EndsWriting {T = T} ps old new r
+ended_by ps old new (Ok t) e h w = absurd h
+ended_by {T} ps old new (Err d) e h w = subst (λ (x : PublishFault). EndsWriting {T = T} ps old new (Err x)) (sym h) w
 
 -- ---- from names that are told the same
 
