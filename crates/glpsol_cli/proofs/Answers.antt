@@ -22,6 +22,7 @@ use Rattle.glpsol_cli.specs.declared.answer.Target.TheVariants.{Out}
 use Rattle.glpsol_cli.specs.declared.found.Found.{Found}
 use Rattle.glpsol_cli.specs.declared.found.Finding.{Finding}
 use Rattle.glpsol_cli.specs.declared.found.Finding.TheVariants.{Size, Acceptance, Verdict as VerdictFound}
+use Rattle.glpsol_cli.specs.declared.answer.Reached.{Reached}
 use Rattle.glpsol_cli.specs.declared.answer.Reached.TheVariants.{Size as SizeReached, Acceptance as AcceptanceReached, Verdict as VerdictReached}
 use Rattle.glpsol_cli.specs.declared.stop.Stop.{Stop}
 use Rattle.glpsol_cli.specs.declared.stop.Stop.TheVariants.{Words, File, Work}

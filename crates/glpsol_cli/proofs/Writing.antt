@@ -1,6 +1,6 @@
 -- How the writing of pieces goes on, one after the other.
 use Rattle.std.proofs.Common.{◌≡◌, ◌⊎◌, ◌∙◌, ◌≤◌, ℕ, zero, List, [], ◌∷◌, ◌++◌, Some, None, Option, refl, inl, inr, sym, ap, subst}
-use Rattle.std.specs.Prelude.{Result, Ok, Err, IsErrAnd}
+use Rattle.std.specs.Prelude.{Result, Ok, Err}
 use Rattle.std.proofs.KnownBytes.{Appends-nil, Appends-trans}
 use Rattle.std.specs.Io.KnownBytes.{Appends}
 use Rattle.outside.specs.Told.{Has, AppendsPrefix, IsKeptOrPrefix}
@@ -26,39 +26,6 @@ no_part (File name) text o = (Appends-nil o.taken, λ before had. inl had, λ ot
 pub none_written : (ps : List Piece) (o : Outside) → SomeWritten ps o o
 none_written [] o = nothing o
 none_written (p ∷ ps) o = inl (no_part p.target p.text o)
-
--- ---- a file of a name, by another term for it and for its text
-
-module _ (name name' text text' : List ℕ) (taken : Option (List ℕ)) (told told' : ToldNames) (same : name' ≡ name) (same_text : text' ≡ text) (others : (other : List ℕ) → (other ≡ name' → ⊥) → told' other ≡ told other) where
-  pub made : ((before : Option (List ℕ)) → told name' ≡ Some before → Has (told' name') text') → IsWritten (File name) text (record { taken = taken; told = told }) (record { taken = taken; told = told' })
-  made all = (
-    Appends-nil taken,
-    subst (λ (t : List ℕ). (before : Option (List ℕ)) → told name ≡ Some before → Has (told' name) t) same_text (subst (λ (n : List ℕ). (before : Option (List ℕ)) → told n ≡ Some before → Has (told' n) text') same all),
-    subst (λ (n : List ℕ). (other : List ℕ) → (other ≡ n → ⊥) → told' other ≡ told other) same others
-  )
-
-  pub made_in_part : ((before : Option (List ℕ)) → told name' ≡ Some before → IsKeptOrPrefix before (told' name') text') → IsWrittenInPart (File name) text (record { taken = taken; told = told }) (record { taken = taken; told = told' })
-  made_in_part part = (
-    Appends-nil taken,
-    subst (λ (t : List ℕ). (before : Option (List ℕ)) → told name ≡ Some before → IsKeptOrPrefix before (told' name) t) same_text (subst (λ (n : List ℕ). (before : Option (List ℕ)) → told n ≡ Some before → IsKeptOrPrefix before (told' n) text') same part),
-    subst (λ (n : List ℕ). (other : List ℕ) → (other ≡ n → ⊥) → told' other ≡ told other) same others
-  )
-
--- ---- one piece, and then the others
-
-pub goes_on : {T : Type 0} (p : Piece) (ps : List Piece) (old middle new : Outside) (r : Result T PublishFault) → IsWritten p.target p.text old middle → EndsWriting {T = T} ps middle new r → EndsWriting {T = T} (p ∷ ps) old new r
-goes_on p ps old middle new (Ok t) is h = (middle, is, h)
-goes_on p ps old middle new (Err (Write target)) is h = inr (middle, is, h)
-goes_on p ps old middle new (Err NoMemory) is h = inr (middle, is, h)
-
-pub stops_at : {T U : Type 0} (p : Piece) (ps : List Piece) (old new : Outside) (e : PublishFault) → EndsPiece {T = U} p old new (Err e) → EndsWriting {T = T} (p ∷ ps) old new (Err e)
-stops_at p ps old new (Write target) h = inl h
-stops_at p ps old new NoMemory h = inl h
-
--- an error that is handed on
-pub ended_by : {T : Type 0} (ps : List Piece) (old new : Outside) (r : Result T PublishFault) (e : PublishFault) → IsErrAnd r (λ d. d ≡ e) → EndsWriting {T = T} ps old new (Err e) → EndsWriting {T = T} ps old new r
-ended_by ps old new (Ok t) e h w = absurd h
-ended_by {T} ps old new (Err d) e h w = subst (λ (x : PublishFault). EndsWriting {T = T} ps old new (Err x)) (sym h) w
 
 -- ---- from names that are told the same
 
