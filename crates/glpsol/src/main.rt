@@ -1,7 +1,7 @@
 // The program: the real outside, the words, and the status.
 #![tactic(auto)]
 
-use glpsol_cli::{Answer, Target, out_of_memory, run};
+use glpsol_cli::{Answer, Reached, Target, out_of_memory, run};
 use outside::{RealSink, RealStore};
 use std::alloc::Global;
 use std::env::{self, Env};
@@ -29,7 +29,7 @@ fn main(rt: HostRuntime) -> ExitCode {
 fn closed() -> Answer {
     Answer::WriteFault {
         target: Target::Out,
-        found: None,
+        reached: Reached::Nothing,
     }
 }
 

@@ -1,4 +1,9 @@
-pub mod Texts
-pub mod Finds
+pub mod Follow
+pub mod Writing
+pub mod Answers
 pub mod Reports
-pub mod Ends
+pub mod Works
+pub mod FilesRead
+pub mod Carried
+pub mod Verdicts
+pub mod Completes

@@ -1,21 +1,29 @@
--- What a report needs of a certificate: a number for each column, and rows whose values fit.
-use Rattle.std.proofs.Common.{◌≡◌, Bool, true, false, cond, ◌&&◌, ◌==◌, List, [], ◌∷◌, length, Some, refl, sym, subst}
-use Rattle.std.specs.Prelude.{Result, Ok, Err, IsOk}
-use Rattle.rational.specs.Rational.{Rational, zero_ℚ}
-use Rattle.milp.specs.Problem.{Row, Problem}
-use Rattle.milp.specs.Points.{objective_value}
-use Rattle.verdicts.specs.Certificate.{Verdict, Optimal, Unbounded, Bound, Certificate}
-use Rattle.verdicts.specs.Proves.{Part, lies_above, lies_below, meets_columns}
+-- What the checker's acceptance gives of a certificate: the parts that its report shows.
+use Rattle.std.proofs.Common.{◌≡◌, ◌∙◌, ℕ, suc, Bool, true, false, cond, not, ◌&&◌, ◌||◌, ◌==◌, List, [], ◌∷◌, length, Some, None, Option, refl, sym, ap, subst}
+use Rattle.std.specs.Prelude.{Result, Ok, Err, IsOk, IsSome, IsSomeAnd, codes}
+use Rattle.rational.specs.Rational.{Rational, zero_ℚ, ◌*ℚ◌}
+use Rattle.milp.specs.Points.{sign_of}
+use Rattle.rational.specs.Compare.{is_less, is_whole}
+use Rattle.milp.specs.Problem.{Column, Row, Problem}
+use Rattle.verdicts.specs.Certificate.{Verdict, Optimal, Infeasible, Unbounded, Certificate}
+use Rattle.verdicts.specs.Proves.{Part, lies_above, lies_below, bound_for, meets_columns}
 use Rattle.verdicts.specs.Proves as of
 use Rattle.fraction.specs.declared.frac.NoFit.{NoFit}
 use Rattle.instance.specs.Sums.{and_then, sum_answer, rows_answer, meets_answer}
-use Rattle.basis.specs.Relaxation.{leaf_certificate, point_certificate}
-use Rattle.cert_check.specs.Parts.{point_answer}
-use Rattle.cert_check.specs.Outcome.{Outcome, Acceptance, Refusal, Fault, judged, outcome, trials, verdict_trials, value_trials, ray_trials}
-use Rattle.branch_solve.specs.Made.{IsPlainCertificate}
-use Rattle.solution_writer.specs.Report.{RowsFit, IsReportable}
+use Rattle.cert_check.specs.Sums.{and_also}
+use Rattle.cert_check.specs.Parts.{point_answer, value_answer, ray_rows_answer, ray_answer}
+use Rattle.cert_check.specs.Outcome.{Outcome, Acceptance, Refusal, Fault, judged, outcome, trials, verdict_trials, value_trials, ray_trials, tree_trials, form_goal}
+use Rattle.solution_writer.specs.Report.{RowsFit, IsShownPoint, HasParts, IsReportable, solved_report, verdict_report, optimal_at, unbounded_at, optimal_report, unbounded_report, translated_report, accepted_report}
+use Rattle.std.specs.Option.{option_map}
+use Rattle.command_line.specs.declared.settings.Settings.{Settings}
+use Rattle.command_line.specs.declared.settings.Task.{Task}
+use Rattle.glpsol_cli.specs.Pieces.{Piece}
+use Rattle.glpsol_cli.specs.Meaning.{found_pieces, printed, solved_pieces}
+use Rattle.glpsol_cli.specs.Stages.{IsFinding, IsShown, reached_by}
+use Rattle.glpsol_cli.specs.declared.found.Finding.{Finding}
+use Rattle.glpsol_cli.specs.declared.found.Finding.TheVariants.{Size, Acceptance as AcceptanceFound, Verdict as VerdictFound}
 
--- ---- rows
+-- ---- tests that passed
 
 differ : ◌≡◌ {A = Result Bool NoFit} (Ok false) (Ok true) → ⊥
 differ e = cc
@@ -23,20 +31,57 @@ differ e = cc
 no_fault : (e : NoFit) → ◌≡◌ {A = Result Bool NoFit} (Err e) (Ok true) → ⊥
 no_fault e h = cc
 
-cond_true : (b : Bool) (a : Result Bool NoFit) → cond b a (Ok false) ≡ Ok true → a ≡ Ok true
-cond_true true a h = h
+cond_true : (b : Bool) (a : Result Bool NoFit) → cond b a (Ok false) ≡ Ok true → (b ≡ true) × (a ≡ Ok true)
+cond_true true a h = (refl, h)
 cond_true false a h = absurd (differ h)
+
+first_true : (b : Bool) (rest : Result Bool NoFit) → and_also (Ok b) rest ≡ Ok true → b ≡ true
+first_true true rest h = refl
+first_true false rest h = absurd (differ h)
+
+second_true : (a b : Bool) → (a && b) ≡ true → b ≡ true
+second_true true b h = h
+second_true false b h = cc
+
+-- ---- points
+
+as_long : (ray : Bool) (columns : List Column) (x : List Rational) → meets_columns ray columns x ≡ true → length x ≡ length columns
+as_long ray [] [] h = refl
+as_long ray [] (v ∷ vs) h = cc
+as_long ray (c ∷ cs) [] h = cc
+as_long ray (c ∷ cs) (v ∷ vs) h =
+    let inside : Bool = lies_above (bound_for ray c.lower) v && lies_below (bound_for ray c.upper) v in
+    let whole : Bool = not c.integer || is_whole v in
+    let more : Bool = meets_columns ray cs vs in
+    ap suc (as_long ray cs vs (second_true whole more (second_true inside (whole && more) h)))
 
 rows_fit : (x : List Rational) (rows : List Row) → rows_answer x rows ≡ Ok true → RowsFit x rows
 rows_fit x [] h = tt
 rows_fit x (r ∷ rs) h = let parts = row_fits (sum_answer x zero_ℚ r.entries) h in (parts.0, rows_fit x rs parts.1)
   where
     row_fits : (s : Result Rational NoFit) → and_then s (λ v. cond (lies_above r.lower v && lies_below r.upper v) (rows_answer x rs) (Ok false)) ≡ Ok true → IsOk s × (rows_answer x rs ≡ Ok true)
-    row_fits (Ok v) k = (refl, cond_true (lies_above r.lower v && lies_below r.upper v) (rows_answer x rs) k)
+    row_fits (Ok v) k = (refl, (cond_true (lies_above r.lower v && lies_below r.upper v) (rows_answer x rs) k).1)
     row_fits (Err e) k = absurd (no_fault e k)
 
-point_fits : (p : Problem) (x : List Rational) → meets_answer p x ≡ Ok true → RowsFit x p.rows
-point_fits p x h = rows_fit x p.rows (cond_true (meets_columns false p.columns x) (rows_answer x p.rows) h)
+shown_point : (p : Problem) (o : Option (List Rational)) → point_answer p o ≡ Ok true → IsSomeAnd o (IsShownPoint p)
+shown_point p None h = absurd (differ h)
+shown_point p (Some x) h =
+    let met = cond_true (meets_columns false p.columns x) (rows_answer x p.rows) h in
+    (as_long false p.columns x met.0, rows_fit x p.rows met.1)
+
+long_point : (p : Problem) (o : Option (List Rational)) → point_answer p o ≡ Ok true → IsSomeAnd o (λ x. length x ≡ length p.columns)
+long_point p None h = absurd (differ h)
+long_point p (Some x) h = as_long false p.columns x (cond_true (meets_columns false p.columns x) (rows_answer x p.rows) h).0
+
+long_ray : (p : Problem) (o : Option (List Rational)) → ray_answer p o ≡ Ok true → IsSomeAnd o (λ r. length r ≡ length p.columns)
+long_ray p None h = absurd (differ h)
+long_ray p (Some r) h =
+    as_long true p.columns r (first_true (meets_columns true p.columns r) (and_also (ray_rows_answer r p.rows) (and_then (sum_answer r zero_ℚ p.objective) (λ v. Ok (is_less (sign_of p.direction *ℚ v) zero_ℚ)))) h)
+
+has_value : (p : Problem) (o : Option (List Rational)) (v : Option Rational) → value_answer p o v ≡ Ok true → IsSome v
+has_value p None v h = absurd (differ h)
+has_value p (Some x) None h = absurd (differ h)
+has_value p (Some x) (Some v) h = refl
 
 -- ---- parts that were accepted
 
@@ -51,28 +96,55 @@ accepted part (Err e) rest h = absurd (fault_is_none part e h)
 accepted part (Ok false) rest h = absurd (refusal_is_none part h)
 accepted part (Ok true) rest h = (refl, h)
 
--- ---- points
-
 abbrev after_size : Problem → Certificate → Verdict → Outcome
 after_size p c v = judged of.Size (Ok ((c.rows == length p.rows) && (c.columns == length p.columns))) (outcome (verdict_trials p c v))
 
-optimum_met : (p : Problem) (c : Certificate) → after_size p c Optimal ≡ Acceptance → point_answer p c.point ≡ Ok true
-optimum_met p c h =
-    let rest = (accepted of.Size (Ok ((c.rows == length p.rows) && (c.columns == length p.columns))) (outcome (verdict_trials p c Optimal)) h).1 in
-    (accepted of.Point (point_answer p c.point) (outcome (value_trials p c)) rest).0
+after_point : (p : Problem) (c : Certificate) (v : Verdict) → after_size p c v ≡ Acceptance → outcome (verdict_trials p c v) ≡ Acceptance
+after_point p c v h = (accepted of.Size (Ok ((c.rows == length p.rows) && (c.columns == length p.columns))) (outcome (verdict_trials p c v)) h).1
 
-endless_met : (p : Problem) (c : Certificate) → after_size p c Unbounded ≡ Acceptance → point_answer p c.point ≡ Ok true
-endless_met p c h =
-    let rest = (accepted of.Size (Ok ((c.rows == length p.rows) && (c.columns == length p.columns))) (outcome (verdict_trials p c Unbounded)) h).1 in
-    (accepted of.Point (point_answer p c.point) (outcome (ray_trials p c)) rest).0
+has_parts : (p : Problem) (c : Certificate) (v : Verdict) → after_size p c v ≡ Acceptance → HasParts p c v
+has_parts p c Optimal h =
+    let point = accepted of.Point (point_answer p c.point) (outcome (value_trials p c)) (after_point p c Optimal h) in
+    let value = accepted of.Value (value_answer p c.point c.value) (outcome (tree_trials p (form_goal p c.value) c)) point.1 in
+    (has_value p c.point c.value value.0, shown_point p c.point point.0)
+has_parts p c Infeasible h = tt
+has_parts p c Unbounded h =
+    let point = accepted of.Point (point_answer p c.point) (outcome (ray_trials p c)) (after_point p c Unbounded h) in
+    let ray = accepted of.Ray (ray_answer p c.ray) Acceptance point.1 in
+    (long_point p c.point point.0, long_ray p c.ray ray.0)
 
-pub reportable : (p : Problem) (c : Certificate) → IsPlainCertificate p c → outcome (trials p c) ≡ Acceptance → IsReportable p c
-reportable p c (IsPlainCertificate.optimal x w size e) h =
-    let d : Certificate = leaf_certificate p Optimal (Some (objective_value p x)) (Some x) (Bound w) in
-    let met : meets_answer p x ≡ Ok true = optimum_met p d (subst (λ d. outcome (trials p d) ≡ Acceptance) e h) in
-    subst (IsReportable p) (sym e) (record { point = size; ray = tt; rows = point_fits p x met })
-reportable p c (IsPlainCertificate.infeasible w e) h = subst (IsReportable p) (sym e) (record { point = tt; ray = tt; rows = tt })
-reportable p c (IsPlainCertificate.unbounded x ray size ray_size e) h =
-    let d : Certificate = point_certificate p x ray in
-    let met : meets_answer p x ≡ Ok true = endless_met p d (subst (λ d. outcome (trials p d) ≡ Acceptance) e h) in
-    subst (IsReportable p) (sym e) (record { point = size; ray = ray_size; rows = point_fits p x met })
+pub reportable : (p : Problem) (c : Certificate) → outcome (trials p c) ≡ Acceptance → IsReportable p c
+reportable p c h = has_parts p c c.verdict h
+
+-- ---- there is a report
+
+module _ (p : Problem) where
+  optimal_there : (value : Option Rational) (point : Option (List Rational)) → IsSome value → IsSomeAnd point (IsShownPoint p) → (report : List ℕ) × (optimal_at p value point ≡ Some report)
+  optimal_there None point v x = cc
+  optimal_there (Some value) None v x = absurd x
+  optimal_there (Some value) (Some point) v x = (optimal_report p value point, refl)
+
+  unbounded_there : (point ray : Option (List Rational)) → IsSomeAnd point (λ x. length x ≡ length p.columns) → IsSomeAnd ray (λ r. length r ≡ length p.columns) → (report : List ℕ) × (unbounded_at p point ray ≡ Some report)
+  unbounded_there None ray x r = absurd x
+  unbounded_there (Some point) None x r = absurd r
+  unbounded_there (Some point) (Some ray) x r = (unbounded_report p point ray, refl)
+
+  report_there : (c : Certificate) (v : Verdict) → HasParts p c v → (report : List ℕ) × (verdict_report p c v ≡ Some report)
+  report_there c Optimal h = optimal_there c.value c.point h.0 h.1
+  report_there c Infeasible h = (codes "INFEASIBLE\n", refl)
+  report_there c Unbounded h = unbounded_there c.point c.ray h.0 h.1
+
+pub has_report : (p : Problem) (c : Certificate) → IsReportable p c → (report : List ℕ) × (solved_report p c ≡ Some report)
+has_report p c h = report_there p c c.verdict h
+
+-- ---- what is found has pieces
+
+pub shown : (p : Problem) (s : Settings) (texts : List (List ℕ)) (f : Finding) → IsFinding p s texts f → IsShown p f
+shown p s texts Size h = tt
+shown p s texts AcceptanceFound h = tt
+shown p s texts (VerdictFound c) h = reportable p c h.2
+
+pub shown_pieces : (task : Task) (p : Problem) (f : Finding) → IsShown p f → (pieces : List Piece) × (found_pieces task p (reached_by f) ≡ Some pieces)
+shown_pieces task p Size h = (printed (translated_report p), refl)
+shown_pieces task p AcceptanceFound h = (printed accepted_report, refl)
+shown_pieces task p (VerdictFound c) h = let report = has_report p c h in (solved_pieces task c report.0, ap (option_map (solved_pieces task c)) report.1)

@@ -1,49 +1,26 @@
--- What a command asks about: the settings of its words, the texts of its files, and the problem that the model's text means.
-use Rattle.std.specs.Prelude.{◌≡◌, ◌≤◌, ℕ, List, length, Result, Some, None, Ok, Err}
+-- What a command asks for, by its words alone, and the files that it reads.
+use Rattle.std.specs.Prelude.{◌≡◌, ◌≤◌, ℕ, List, [], ◌∷◌, ◌++◌, length, Some, None}
 use Rattle.std.specs.declared.option.Option.{Option}
-use Rattle.milp.specs.Problem.{Problem}
-use Rattle.milp.specs.declared.Direction.{Direction}
-use Rattle.model_text.specs.declared.fault.FileFault.{FileFault}
-use Rattle.mps_reader.specs.FreeMps.{declared as declared_by_free_mps}
-use Rattle.cplex_lp_reader.specs.CplexLp.{declared as declared_by_cplex_lp}
 use Rattle.outside.specs.Told.{Lacks, Has}
 use Rattle.command_line.specs.Meaning.{settings_of}
-use Rattle.command_line.specs.declared.settings.Language.{Language}
-use Rattle.command_line.specs.declared.settings.Language.TheVariants.{FreeMps, CplexLp}
 use Rattle.command_line.specs.declared.settings.Settings.{Settings}
+use Rattle.command_line.specs.declared.settings.Task.{Task}
 use Rattle.command_line.specs.declared.settings.Task.TheVariants.{Solve, Translate, CheckCertificate}
 
 -- what a store tells of each name
 abbrev pub ToldNames : Type 0
 ToldNames = List ℕ → Option (Option (List ℕ))
 
--- the problem that a text of this language declares, or its first fault
-abbrev pub declared_in : Language → List ℕ → Result Problem FileFault
-declared_in FreeMps text = declared_by_free_mps text
-declared_in CplexLp text = declared_by_cplex_lp text
+-- ---- the task
 
--- `--min` and `--max` set the direction
-abbrev pub directed : Option Direction → Problem → Problem
-directed None p = p
-directed (Some d) p = record p { direction = d }
+abbrev pub IsSolve : Task → Type 0
+IsSolve (Solve outputs) = Unit {0}
+IsSolve Translate = ⊥
+IsSolve (CheckCertificate name) = ⊥
 
--- p is the problem of the text, in this direction where there is one
-pub record IsProblem (language : Language) (direction : Option Direction) (text : List ℕ) (p : Problem) : Type 0 where
-  pub meaning : Problem
-  pub means : declared_in language text ≡ Ok meaning
-  pub is : p ≡ directed direction meaning
-
--- p is the problem of the text, in the language and direction that the settings ask for
-abbrev pub IsAsked : Settings → List ℕ → Problem → Type 0
-IsAsked s text p = IsProblem s.language s.direction text p
-
--- the text has this fault, and none before it
-abbrev pub IsRefused : Settings → List ℕ → FileFault → Type 0
-IsRefused s text fault = declared_in s.language text ≡ Err fault
-
--- the settings ask for the solution of the problem, with the certificate in this file, if in one
-abbrev pub Solves : Settings → Option (List ℕ) → Type 0
-Solves s file = s.task ≡ Solve (record { certificate = file })
+-- the settings ask for the solution of the problem
+abbrev pub Solves : Settings → Type 0
+Solves s = IsSolve s.task
 
 -- they ask for the size of the problem alone
 abbrev pub Translates : Settings → Type 0
@@ -53,24 +30,58 @@ Translates s = s.task ≡ Translate
 abbrev pub Checks : Settings → List ℕ → Type 0
 Checks s name = s.task ≡ CheckCertificate name
 
--- the file isn't told missing, and its text, where it is told, isn't too long
+-- the file that the certificate is written to, where one is named
+abbrev pub certificate_file : Task → Option (List ℕ)
+certificate_file (Solve outputs) = outputs.certificate
+certificate_file Translate = None
+certificate_file (CheckCertificate name) = None
+
+-- ---- the files that are read
+
+-- the certificate that is to be checked is read last
+abbrev pub names_checked : Task → List (List ℕ)
+names_checked (Solve outputs) = []
+names_checked Translate = []
+names_checked (CheckCertificate name) = name ∷ []
+
+-- the names of the files that are read, in order
+abbrev pub names_read : Settings → List (List ℕ)
+names_read s = s.model ∷ names_checked s.task
+
+-- a file isn't told missing, and its text, where it is told, isn't too long
 pub record IsThere (told : Option (Option (List ℕ))) : Type 0 where
   pub there : Lacks told → ⊥
   pub within : (text : List ℕ) → Has told text → length text ≤ 16777216
 
--- the words are a command whose files are there, and the model's text, where it is told, has P
-pub record OfText (words : List (List ℕ)) (told : ToldNames) (P : Settings → List ℕ → Type 0) : Type 0 where
+abbrev pub AreThere : ToldNames → List (List ℕ) → Type 0
+AreThere told [] = Unit {0}
+AreThere told (name ∷ names) = IsThere (told name) × AreThere told names
+
+-- the file of this name is read in its turn: all before it are there
+pub record IsInTurn (words : List (List ℕ)) (told : ToldNames) (name : List ℕ) : Type 0 where
   pub settings : Settings
   pub asks : settings_of words ≡ Some settings
-  pub model : IsThere (told settings.model)
-  pub certificate : (name : List ℕ) → Checks settings name → IsThere (told name)
-  pub text : (text : List ℕ) → Has (told settings.model) text → P settings text
+  pub before : List (List ℕ)
+  pub after : List (List ℕ)
+  pub is : names_read settings ≡ before ++ name ∷ after
+  pub there : AreThere told before
 
--- the file of this name is read in its turn: the model's first, and then that of the certificate that is to be checked
-pub data IsInTurn (words : List (List ℕ)) (told : ToldNames) (name : List ℕ) : Type 0 where
-  of_model : (s : Settings) → settings_of words ≡ Some s → s.model ≡ name → IsInTurn words told name
-  of_certificate : (s : Settings) → settings_of words ≡ Some s → IsThere (told s.model) → Checks s name → IsInTurn words told name
+-- a file is there, and this is its text; where the store tells nothing of it, some text
+pub record IsTextOf (told : Option (Option (List ℕ))) (text : List ℕ) : Type 0 where
+  pub there : IsThere told
+  pub is : (bytes : List ℕ) → Has told bytes → bytes ≡ text
 
--- where the words ask for a solution, they ask for its certificate in this file, or, without one, in none
-abbrev pub AsksFor : List (List ℕ) → Option (List ℕ) → Type 0
-AsksFor words file = (s : Settings) (other : Option (List ℕ)) → settings_of words ≡ Some s → Solves s other → other ≡ file
+-- the texts of the files of these names
+abbrev pub AreTexts : ToldNames → List (List ℕ) → List (List ℕ) → Type 0
+AreTexts told [] [] = Unit {0}
+AreTexts told [] (text ∷ texts) = ⊥
+AreTexts told (name ∷ names) [] = ⊥
+AreTexts told (name ∷ names) (text ∷ texts) = IsTextOf (told name) text × AreTexts told names texts
+
+-- the words are a command whose files are there, and P holds of its settings and of the texts of these files
+pub record OfTexts (words : List (List ℕ)) (told : ToldNames) (P : Settings → List (List ℕ) → Type 0) : Type 0 where
+  pub settings : Settings
+  pub asks : settings_of words ≡ Some settings
+  pub texts : List (List ℕ)
+  pub read : AreTexts told (names_read settings) texts
+  pub has : P settings texts

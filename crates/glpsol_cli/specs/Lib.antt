@@ -1,6 +1,8 @@
 pub mod Asked
+pub mod Pieces
+pub mod Meaning
 pub mod Cause
+pub mod Complete
 pub mod Code
-pub mod Printed
-pub mod Files
-pub mod Endings
+pub mod Written
+pub mod Stages

@@ -27,6 +27,21 @@ pub enum OverflowSite {
     InPart(Part),
 }
 
+/// How far a run has come.
+#[derive(Drop)]
+pub enum Reached {
+    /// Nothing is executed yet: the words, the files and the model's text come first.
+    Nothing,
+    /// The texts are executed, up to a problem or to their first fault.
+    Executed,
+    /// The size of the problem is found, which was asked for.
+    Size,
+    /// The certificate that was to be checked proves its verdict.
+    Acceptance,
+    /// This certificate proves its verdict, and the checker accepts it.
+    Verdict(Certificate),
+}
+
 /// What a run comes to, with the values that show it.
 #[derive(Drop)]
 pub enum Answer {
@@ -48,12 +63,8 @@ pub enum Answer {
     OpenFault(Name),
     /// The file of this name can't be read.
     ReadFault(Name),
-    /// The target can't be written. What was found is in the certificate; there is none where only the size or a check
-    /// was asked for.
-    WriteFault {
-        target: Target,
-        found: Option<Certificate>,
-    },
+    /// The target can't be written, after this was reached.
+    WriteFault { target: Target, reached: Reached },
     /// The file of this name is longer than 16,777,216 bytes.
     TooLong(Name),
     /// The model's text has this fault, and none before it.
@@ -61,18 +72,13 @@ pub enum Answer {
     /// The text of the certificate that was to be checked has this fault, and none before it.
     BadCertificate(CertFault),
     /// The result of this operation does not fit.
-    Overflow {
-        at: OverflowSite,
-        fault: NoFit,
-    },
+    Overflow { at: OverflowSite, fault: NoFit },
     /// The simplex method went through these bases, as many steps as are allowed, and has not ended.
     Undecided(Bases),
     /// This part of the certificate that was to be checked is the first that does not hold.
     Refused(Part),
-    /// The memory is not there. What was found before is in the certificate.
-    NoMemory {
-        found: Option<Certificate>,
-    },
+    /// The memory is not there, after this was reached.
+    NoMemory { reached: Reached },
 }
 
 impl Answer {

@@ -1,100 +1,165 @@
-// What a run writes on its output.
-ghost use Rattle.std.specs.Prelude.{◌≡◌, IfOk, None, string_bytes};
+// What is found is written: the report, and then the certificate's file.
+ghost use Rattle.std.specs.Prelude.{◌≡◌, ◌≤◌, ◌++◌, List, ℕ, IfOk, IfErr, OnOk, Some, string_bytes};
+ghost use Rattle.std.specs.Option.{option_map};
 ghost use Rattle.outside.specs.Causes.{Rose};
-ghost use Rattle.outside.specs.Told.{AppendsPrefix};
-ghost use Rattle.solution_writer.specs.FaultLine.{no_memory_line};
-ghost use Rattle.glpsol_cli.specs.Printed.{line_of, target_line_of};
-ghost use Rattle.glpsol_cli.specs.Endings.{IsSized, IsAcceptance};
+ghost use Rattle.solution_writer.specs.Report.{IsReportable, solved_report};
+ghost use Rattle.glpsol_cli.specs.Asked.{certificate_file};
+ghost use Rattle.glpsol_cli.specs.Meaning.{found_pieces, printed, saved_in, solved_pieces};
+ghost use Rattle.glpsol_cli.specs.Stages.{reached_by, piece_of, pieces_of, IsShown, EndsPiece, EndsWriting, HasFailed, IsPublished};
 
-use crate::{Answer, Target};
-use instance::Instance;
-use outside::{Sink, Trouble, write_all};
-use solution_writer::{Fault, accepted_report, fault_line, translated_report};
+use crate::Target;
+use crate::found::{Finding, Found};
+use certificate::Certificate;
+use certificate_writer::text;
+use command_line::Task;
+use instance::{Instance, Name};
+use outside::{Sink, Store, Trouble, write_all, write_file};
+use solution_writer::{accepted_report, solved_report, translated_report};
 use std::alloc::{AllocError, Global};
 
-/// The answer where there is no memory before anything is done. Its line is written, or a part of it from the front.
-pub fn out_of_memory<O: Sink>(alloc: Global, out: &mut O) -> Answer
-    ensures answer { result ≡ Answer.NoMemory None }
-    ensures line { AppendsPrefix (O.taken out.old) (O.taken out.new) no_memory_line }
-{
-    publish_fault(alloc, out, Answer::NoMemory { found: None })
+// A text, and where it is written.
+#[derive(Drop)]
+pub struct Piece {
+    pub target: Target,
+    pub text: Vec<u8>,
 }
 
-/// Writes the line of a fault. Where that fails, the fault stays.
-pub fn publish_fault<O: Sink>(alloc: Global, out: &mut O, fault: Answer) -> Answer
-    ensures same { result ≡ fault }
-    ensures prefix { AppendsPrefix (O.taken out.old) (O.taken out.new) (line_of fault) }
-{
-    if let Ok(line) = line(alloc, &fault) {
-        let _ = write_all(out, line.as_bytes());
-    }
-    fault
+// Why what is found is not all written.
+#[derive(Drop)]
+pub enum PublishFault {
+    // this can't be written
+    Write(Target),
+    NoMemory,
 }
 
-// The line of a fault; a report, and a fault of the output, have none.
-fn line(alloc: Global, answer: &Answer) -> Result<String, AllocError>
-    ensures { IfOk result (λ text. string_bytes text ≡ line_of answer.now) }
+/// Writes what is found: its pieces, in order.
+pub fn publish<S: Store, O: Sink>(
+    alloc: Global,
+    files: &mut S,
+    out: &mut O,
+    found: &Found,
+) -> Result<(), PublishFault>
+    requires { IsShown found.now.problem found.now.finding }
+    ensures published { IsPublished found.now (record { taken = O.taken out.old; told = S.told files.old }) (record { taken = O.taken out.new; told = S.told files.new }) result }
+    ensures failed { IfErr result (HasFailed (Rose (S.faults files.old) (S.faults files.new)) (Rose (O.faults out.old) (O.faults out.new))) }
 {
-    match answer {
-        Answer::Optimal(_)
-        | Answer::Infeasible(_)
-        | Answer::Unbounded(_)
-        | Answer::Translated
-        | Answer::Accepted => Ok(String::new(alloc)),
-        Answer::Usage => fault_line(alloc, &Fault::Usage),
-        Answer::Missing(name) => fault_line(alloc, &Fault::Missing(name)),
-        Answer::OpenFault(name) => fault_line(alloc, &Fault::OpenFault(name)),
-        Answer::ReadFault(name) => fault_line(alloc, &Fault::ReadFault(name)),
-        Answer::WriteFault { target, .. } => target_line(alloc, target),
-        Answer::TooLong(name) => fault_line(alloc, &Fault::TooLong(name)),
-        Answer::BadFile(fault) => fault_line(alloc, &Fault::File(*fault)),
-        Answer::BadCertificate(fault) => fault_line(alloc, &Fault::Certificate(*fault)),
-        Answer::Overflow { fault, .. } => fault_line(alloc, &Fault::Overflow(*fault)),
-        Answer::Undecided(_) => fault_line(alloc, &Fault::UndecidedPivots),
-        Answer::Refused(part) => fault_line(alloc, &Fault::Refused(*part)),
-        Answer::NoMemory { .. } => fault_line(alloc, &Fault::NoMemory),
+    match pieces(alloc, found) {
+        Ok(pieces) => write_pieces(files, out, pieces),
+        Err(_) => Err(PublishFault::NoMemory),
     }
 }
 
-fn target_line(alloc: Global, target: &Target) -> Result<String, AllocError>
-    ensures { IfOk result (λ text. string_bytes text ≡ target_line_of target.now) }
+// ---- the pieces
+
+// The pieces of what is found.
+fn pieces(alloc: Global, found: &Found) -> Result<Vec<Piece>, AllocError>
+    requires { IsShown found.now.problem found.now.finding }
+    ensures { IfOk result (λ pieces. found_pieces found.now.settings.task found.now.problem (reached_by found.now.finding) ≡ Some (pieces_of pieces.items)) }
 {
+    match &found.finding {
+        Finding::Size => output(alloc, &translated_report(alloc, &found.problem)?),
+        Finding::Acceptance => output(alloc, &accepted_report(alloc)?),
+        Finding::Verdict(certificate) => {
+            solved(alloc, &found.settings.task, &found.problem, certificate)
+        }
+    }
+}
+
+// The report of a certificate on the output, and its text to the file that the task names, if it names one.
+fn solved(
+    alloc: Global,
+    task: &Task,
+    problem: &Instance,
+    certificate: &Certificate,
+) -> Result<Vec<Piece>, AllocError>
+    requires { IsReportable problem.now certificate.now }
+    ensures { IfOk result (λ pieces. found_pieces task.now problem.now (reached_by (Finding.Verdict certificate.now)) ≡ Some (pieces_of pieces.items)) }
+{
+    let report = solved_report(alloc, problem, certificate)?;
+    let mut pieces = output(alloc, &report)?;
+    if let Some(name) = certificate_file(task) {
+        add_file(alloc, &mut pieces, name, text(alloc, certificate)?)?;
+    }
+    Ok(pieces)
+}
+
+fn certificate_file(task: &Task) -> Option<&Name>
+    ensures { option_map (λ n. n.now) result ≡ certificate_file task.now }
+{
+    match task {
+        Task::Solve(outputs) => outputs.certificate.as_ref(),
+        Task::Translate | Task::CheckCertificate(_) => None,
+    }
+}
+
+// A text on the output alone.
+fn output(alloc: Global, text: &str) -> Result<Vec<Piece>, AllocError>
+    ensures { IfOk result (λ pieces. pieces_of pieces.items ≡ printed text.now) }
+{
+    let mut pieces = Vec::new(alloc);
+    pieces.push(Piece {
+        target: Target::Out,
+        text: text.as_bytes().to_vec(alloc)?,
+    })?;
+    Ok(pieces)
+}
+
+// One more text, to the file of this name.
+fn add_file(
+    alloc: Global,
+    pieces: &mut Vec<Piece>,
+    name: &Name,
+    text: Vec<u8>,
+) -> Result<(), AllocError>
+    ensures { OnOk result (pieces_of pieces.new.items ≡ pieces_of pieces.old.items ++ saved_in (Some name.now) text.items) }
+{
+    let name = Name::new(alloc, name.as_str())?;
+    pieces.push(Piece {
+        target: Target::File(name),
+        text,
+    })?;
+    Ok(())
+}
+
+// ---- writing
+
+// Writes the pieces, in order.
+fn write_pieces<S: Store, O: Sink>(
+    files: &mut S,
+    out: &mut O,
+    pieces: Vec<Piece>,
+) -> Result<(), PublishFault>
+    ensures ends { EndsWriting (pieces_of pieces.items) (record { taken = O.taken out.old; told = S.told files.old }) (record { taken = O.taken out.new; told = S.told files.new }) result }
+    ensures failed { IfErr result (HasFailed (Rose (S.faults files.old) (S.faults files.new)) (Rose (O.faults out.old) (O.faults out.new))) }
+{
+    for piece in pieces {
+        write_piece(files, out, piece)?;
+    }
+    Ok(())
+}
+
+// Writes a piece.
+fn write_piece<S: Store, O: Sink>(
+    files: &mut S,
+    out: &mut O,
+    piece: Piece,
+) -> Result<(), PublishFault>
+    ensures ends { EndsPiece (piece_of piece) (record { taken = O.taken out.old; told = S.told files.old }) (record { taken = O.taken out.new; told = S.told files.new }) result }
+    ensures failed { IfErr result (HasFailed (Rose (S.faults files.old) (S.faults files.new)) (Rose (O.faults out.old) (O.faults out.new))) }
+    ensures files_later { S.faults files.old ≤ S.faults files.new }
+    ensures out_later { O.faults out.old ≤ O.faults out.new }
+{
+    let Piece { target, text } = piece;
     match target {
-        Target::Out => Ok(String::new(alloc)),
-        Target::File(name) => fault_line(alloc, &Fault::WriteFault(name)),
-    }
-}
-
-/// Writes the size of a problem, or what it comes to.
-pub fn publish_size<O: Sink>(alloc: Global, out: &mut O, problem: &Instance) -> Answer
-    ensures { IsSized problem.now (Rose (O.faults out.old) (O.faults out.new)) (O.taken out.old) (O.taken out.new) result }
-{
-    let Ok(text) = translated_report(alloc, problem) else {
-        return publish_fault(alloc, out, Answer::NoMemory { found: None });
-    };
-    match write_all(out, text.as_bytes()) {
-        Ok(()) => Answer::Translated,
-        Err(Trouble::Failed) => Answer::WriteFault {
-            target: Target::Out,
-            found: None,
+        Target::Out => match write_all(out, &text) {
+            Ok(()) => Ok(()),
+            Err(Trouble::Failed) => Err(PublishFault::Write(Target::Out)),
+            Err(Trouble::NoMemory) => Err(PublishFault::NoMemory),
         },
-        Err(Trouble::NoMemory) => Answer::NoMemory { found: None },
-    }
-}
-
-/// Writes that a certificate is accepted, or what it comes to.
-pub fn publish_acceptance<O: Sink>(alloc: Global, out: &mut O) -> Answer
-    ensures { IsAcceptance (Rose (O.faults out.old) (O.faults out.new)) (O.taken out.old) (O.taken out.new) result }
-{
-    let Ok(text) = accepted_report(alloc) else {
-        return publish_fault(alloc, out, Answer::NoMemory { found: None });
-    };
-    match write_all(out, text.as_bytes()) {
-        Ok(()) => Answer::Accepted,
-        Err(Trouble::Failed) => Answer::WriteFault {
-            target: Target::Out,
-            found: None,
+        Target::File(name) => match write_file(files, name.as_str(), &text) {
+            Ok(()) => Ok(()),
+            Err(Trouble::Failed) => Err(PublishFault::Write(Target::File(name))),
+            Err(Trouble::NoMemory) => Err(PublishFault::NoMemory),
         },
-        Err(Trouble::NoMemory) => Answer::NoMemory { found: None },
     }
 }

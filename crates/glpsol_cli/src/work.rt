@@ -2,15 +2,16 @@
 ghost use Rattle.std.specs.Prelude.{◌≡◌, ℕ, List, map, string_bytes};
 ghost use Rattle.verdicts.specs.Certificate.{Certificate};
 ghost use Rattle.outside.specs.Causes.{Rose};
-ghost use Rattle.glpsol_cli.specs.Asked.{OfText};
-ghost use Rattle.glpsol_cli.specs.Cause.{Cause, IsBest, HasNoPoint, HasRay, IsComplete, IsVerdictOrNoMemory};
-ghost use Rattle.glpsol_cli.specs.Printed.{Printed};
-ghost use Rattle.glpsol_cli.specs.Files.{Files};
+ghost use Rattle.glpsol_cli.specs.Asked.{OfTexts};
+ghost use Rattle.glpsol_cli.specs.Cause.{Cause, IsBest, HasNoPoint, HasRay, IsTrueOf, reached_of};
+ghost use Rattle.glpsol_cli.specs.Written.{Written};
+ghost use Rattle.glpsol_cli.specs.Complete.{IsComplete, IsVerdictOrNoMemory};
 
-use crate::Answer;
-use crate::publish::{publish_acceptance, publish_fault, publish_size};
-use crate::save::conclude;
-use crate::work_out::{Found, work_out};
+use crate::publish::publish;
+use crate::stop::stop_answer;
+use crate::tell::tell;
+use crate::work_out::work_out;
+use crate::{Answer, Reached};
 use outside::{Sink, Store};
 use std::alloc::Global;
 use std::thread::Threads;
@@ -25,33 +26,51 @@ pub fn run<T: Threads + Sync, S: Store, O: Sink>(
     out: &mut O,
 ) -> Answer
     // Where it answers Optimal, the point meets every bound, row and integrality that the text declares, and no such point is better.
-    ensures optimal { (c : Certificate) → result ≡ Answer.Optimal c → OfText (map string_bytes words.items) (S.told files.old) (IsBest c) }
+    ensures optimal { (c : Certificate) → result ≡ Answer.Optimal c → OfTexts (map string_bytes words.items) (S.told files.old) (IsBest c) }
 
     // Where it answers Infeasible, no such point exists.
-    ensures infeasible { (c : Certificate) → result ≡ Answer.Infeasible c → OfText (map string_bytes words.items) (S.told files.old) HasNoPoint }
+    ensures infeasible { (c : Certificate) → result ≡ Answer.Infeasible c → OfTexts (map string_bytes words.items) (S.told files.old) HasNoPoint }
 
     // Where it answers Unbounded, the point is feasible, and the ray improves it without end.
-    ensures unbounded { (c : Certificate) → result ≡ Answer.Unbounded c → OfText (map string_bytes words.items) (S.told files.old) (HasRay c) }
+    ensures unbounded { (c : Certificate) → result ≡ Answer.Unbounded c → OfTexts (map string_bytes words.items) (S.told files.old) (HasRay c) }
 
-    // Each answer has its cause, and each verdict a certificate that proves it.
+    // The verdict of each certificate that an answer carries is true, whatever fault comes after it.
+    ensures carried { (c : Certificate) → reached_of result ≡ Reached.Verdict c → OfTexts (map string_bytes words.items) (S.told files.old) (IsTrueOf c) }
+
+    // Each answer has its cause, and each verdict a certificate that proves it and that the checker accepts.
     ensures cause { Cause (map string_bytes words.items) (S.told files.old)
         (Rose (S.faults files.old) (S.faults files.new)) (Rose (O.faults out.old) (O.faults out.new)) result }
 
-    // It writes the report, and the line of a fault that comes after it, or a part from the front.
-    ensures printed { Printed (map string_bytes words.items) (S.told files.old) (O.taken out.old) (O.taken out.new) result }
-
-    // It leaves the files as they were, but for the certificate's.
-    ensures files { Files (map string_bytes words.items) (S.told files.old) (S.told files.new) result }
+    // It writes the report and then the certificate's file, or the first part of this, and then the line of a fault or a part of it.
+    ensures written { Written (map string_bytes words.items) (record { taken = O.taken out.old; told = S.told files.old })
+        (record { taken = O.taken out.new; told = S.told files.new }) result }
 
     // Where nothing stands in the way, it gives a verdict.
     ensures complete { IsComplete (map string_bytes words.items) (S.told files.old)
         (Rose (S.faults files.old) (S.faults files.new)) (Rose (O.faults out.old) (O.faults out.new)) → IsVerdictOrNoMemory result }
 {
     certificates_are_right();
-    match work_out(alloc, &words, files) {
-        Ok(Found::Sized(problem)) => publish_size(alloc, out, &problem),
-        Ok(Found::Accepted) => publish_acceptance(alloc, out),
-        Ok(Found::Solved(solved)) => conclude(alloc, files, out, solved),
-        Err(fault) => publish_fault(alloc, out, fault),
+    carried_out(alloc, &words, files, out)
+}
+
+// The words are carried out.
+fn carried_out<S: Store, O: Sink>(
+    alloc: Global,
+    words: &[String],
+    files: &mut S,
+    out: &mut O,
+) -> Answer
+    ensures cause { Cause (map string_bytes words.now) (S.told files.old)
+        (Rose (S.faults files.old) (S.faults files.new)) (Rose (O.faults out.old) (O.faults out.new)) result }
+    ensures written { Written (map string_bytes words.now) (record { taken = O.taken out.old; told = S.told files.old })
+        (record { taken = O.taken out.new; told = S.told files.new }) result }
+{
+    let found = match work_out(alloc, words, files) {
+        Ok(found) => found,
+        Err(stop) => return tell(alloc, out, stop_answer(alloc, stop)),
+    };
+    match publish(alloc, files, out, &found) {
+        Ok(()) => found.finding.answer(),
+        Err(fault) => tell(alloc, out, found.finding.unpublished(fault)),
     }
 }

@@ -1,6 +1,6 @@
 // Words that are no command, files that are missing, and an outside that fails.
 use crate::support::{MODEL, REPORT, words_of};
-use glpsol_cli::{Answer, Target, run};
+use glpsol_cli::{Answer, Reached, Target, run};
 use outside::{MemSink, MemStore};
 use std::test::Fail;
 
@@ -75,11 +75,11 @@ fn the_sink_fails(rt: HostRuntime) -> Result<(), Fail> {
     let mut out = MemSink::new(alloc, vec![in alloc; 2]?, 4);
     let words = words_of(alloc, &["--freemps", "row1.mps"])?;
     let answer = run(&rt, alloc, words, &mut files, &mut out);
-    let Answer::WriteFault { target, found } = answer else {
+    let Answer::WriteFault { target, reached } = answer else {
         panic!(rt; "a write fault");
     };
     assert!(rt; matches!(target, Target::Out));
-    assert!(rt; found.is_some());
+    assert!(rt; matches!(reached, Reached::Verdict(_)));
     assert_eq!(rt; out.bytes(), b"OPTI".as_slice());
     Ok(())
 }

@@ -1,5 +1,5 @@
 -- The report of a run. Every line ends with a line feed; a number is `n` or `n/d`.
-use Rattle.std.specs.Prelude.{ℕ, List, [], ◌∷◌, ◌++◌, codes, length, Option, Some, None, IfSome, IsOk, ◌≡◌}
+use Rattle.std.specs.Prelude.{ℕ, List, [], ◌∷◌, ◌++◌, codes, length, Option, Some, None, IsSome, IsSomeAnd, IsOk, ◌≡◌}
 use Rattle.std.specs.Fmt.{decimal}
 use Rattle.rational.specs.Rational.{Rational, zero_ℚ}
 use Rattle.instance.specs.Sums.{sum_answer}
@@ -50,24 +50,24 @@ ray_lines (c ∷ cs) (number ∷ point) (step ∷ ray) = ray_line c.name number 
 abbrev pub unbounded_report : Problem → List Rational → List Rational → List ℕ
 unbounded_report p point ray = codes "UNBOUNDED\n" ++ ray_lines p.columns point ray
 
--- with the parts that the verdict has
-abbrev pub optimal_at : Problem → Option Rational → Option (List Rational) → List ℕ
-optimal_at p None point = []
-optimal_at p (Some value) None = []
-optimal_at p (Some value) (Some point) = optimal_report p value point
+-- with the parts that the verdict needs, where they are there
+abbrev pub optimal_at : Problem → Option Rational → Option (List Rational) → Option (List ℕ)
+optimal_at p None point = None
+optimal_at p (Some value) None = None
+optimal_at p (Some value) (Some point) = Some (optimal_report p value point)
 
-abbrev pub unbounded_at : Problem → Option (List Rational) → Option (List Rational) → List ℕ
-unbounded_at p None ray = []
-unbounded_at p (Some point) None = []
-unbounded_at p (Some point) (Some ray) = unbounded_report p point ray
+abbrev pub unbounded_at : Problem → Option (List Rational) → Option (List Rational) → Option (List ℕ)
+unbounded_at p None ray = None
+unbounded_at p (Some point) None = None
+unbounded_at p (Some point) (Some ray) = Some (unbounded_report p point ray)
 
-abbrev pub verdict_report : Problem → Certificate → Verdict → List ℕ
+abbrev pub verdict_report : Problem → Certificate → Verdict → Option (List ℕ)
 verdict_report p c Optimal = optimal_at p c.value c.point
-verdict_report p c Infeasible = codes "INFEASIBLE\n"
+verdict_report p c Infeasible = Some (codes "INFEASIBLE\n")
 verdict_report p c Unbounded = unbounded_at p c.point c.ray
 
--- the report of a solved problem
-abbrev pub solved_report : Problem → Certificate → List ℕ
+-- the report of a solved problem; there is none where the certificate lacks a part that its verdict needs
+abbrev pub solved_report : Problem → Certificate → Option (List ℕ)
 solved_report p c = verdict_report p c c.verdict
 
 -- the report of a problem that was only read
@@ -78,8 +78,16 @@ translated_report p = codes "TRANSLATED\nrows " ++ (decimal (length p.rows) ++ (
 abbrev pub accepted_report : List ℕ
 accepted_report = codes "ACCEPTED\n"
 
--- the point and the ray have a number for each column, and the value of each row's form at the point fits
-pub record IsReportable (p : Problem) (c : Certificate) : Type 0 where
-  pub point : IfSome c.point (λ x. length x ≡ length p.columns)
-  pub ray : IfSome c.ray (λ r. length r ≡ length p.columns)
-  pub rows : IfSome c.point (λ x. RowsFit x p.rows)
+-- a point with a number for each column, at which the value of each row's form fits
+abbrev pub IsShownPoint : Problem → List Rational → Type 0
+IsShownPoint p point = (length point ≡ length p.columns) × RowsFit point p.rows
+
+-- what the report of a verdict shows is there
+abbrev pub HasParts : Problem → Certificate → Verdict → Type 0
+HasParts p c Optimal = IsSome c.value × IsSomeAnd c.point (IsShownPoint p)
+HasParts p c Infeasible = Unit {0}
+HasParts p c Unbounded = IsSomeAnd c.point (λ x. length x ≡ length p.columns) × IsSomeAnd c.ray (λ r. length r ≡ length p.columns)
+
+-- the certificate has what the report of its verdict shows
+abbrev pub IsReportable : Problem → Certificate → Type 0
+IsReportable p c = HasParts p c c.verdict

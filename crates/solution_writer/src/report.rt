@@ -1,10 +1,10 @@
 // The reports.
-ghost use Rattle.std.specs.Prelude.{◌≡◌, ◌<◌, IfOk, IfSome, IsOk, length, slice_get, string_bytes};
+ghost use Rattle.std.specs.Prelude.{◌≡◌, ◌<◌, IfOk, IsSome, IsSomeAnd, IsOk, Some, length, slice_get, string_bytes};
 ghost use Rattle.std.specs.Option.{option_map};
 ghost use Rattle.rational.specs.Rational.{zero_ℚ};
 ghost use Rattle.milp.specs.Form.{sum_at};
 ghost use Rattle.instance.specs.Sums.{sum_answer, form_of};
-ghost use Rattle.solution_writer.specs.Report.{optimal_at, unbounded_at, row_lines, optimal_report, unbounded_report, solved_report, translated_report, accepted_report, RowsFit, IsReportable};
+ghost use Rattle.solution_writer.specs.Report.{optimal_at, unbounded_at, row_lines, optimal_report, unbounded_report, solved_report, translated_report, accepted_report, RowsFit, IsShownPoint, IsReportable};
 
 use crate::lines::{column_lines, head_line, ray_lines, row_line};
 use certificate::{Certificate, Verdict};
@@ -21,8 +21,8 @@ pub fn solved_report(
     problem: &Instance,
     certificate: &Certificate,
 ) -> Result<String, AllocError>
-    requires sizes { IsReportable problem.now certificate.now }
-    ensures { IfOk result (λ text. string_bytes text ≡ solved_report problem.now certificate.now) }
+    requires parts { IsReportable problem.now certificate.now }
+    ensures { IfOk result (λ text. solved_report problem.now certificate.now ≡ Some (string_bytes text)) }
 {
     match certificate.verdict() {
         Verdict::Optimal => optimal_at(alloc, problem, certificate.value(), certificate.point()),
@@ -37,17 +37,13 @@ fn optimal_at(
     value: Option<Frac>,
     point: Option<&Point>,
 ) -> Result<String, AllocError>
-    requires size { IfSome (option_map (λ p. p.now) point) (λ x. length x ≡ length problem.now.columns) }
-    requires rows { IfSome (option_map (λ p. p.now) point) (λ x. RowsFit x problem.now.rows) }
-    ensures { IfOk result (λ text. string_bytes text ≡ optimal_at problem.now value (option_map (λ p. p.now) point.entry)) }
+    requires value { IsSome value }
+    requires point { IsSomeAnd (option_map (λ p. p.now) point) (IsShownPoint problem.now) }
+    ensures { IfOk result (λ text. optimal_at problem.now value (option_map (λ p. p.now) point.entry) ≡ Some (string_bytes text)) }
 {
-    match value {
-        None => Ok(String::new(alloc)),
-        Some(value) => match point {
-            None => Ok(String::new(alloc)),
-            Some(point) => optimal_report(alloc, problem, value, point),
-        },
-    }
+    let Some(value) = value else { unreachable!() };
+    let Some(point) = point else { unreachable!() };
+    optimal_report(alloc, problem, value, point)
 }
 
 fn optimal_report(
@@ -103,17 +99,13 @@ fn unbounded_at(
     point: Option<&Point>,
     ray: Option<&Point>,
 ) -> Result<String, AllocError>
-    requires point { IfSome (option_map (λ p. p.now) point) (λ x. length x ≡ length problem.now.columns) }
-    requires ray { IfSome (option_map (λ r. r.now) ray) (λ r. length r ≡ length problem.now.columns) }
-    ensures { IfOk result (λ text. string_bytes text ≡ unbounded_at problem.now (option_map (λ p. p.now) point.entry) (option_map (λ r. r.now) ray.entry)) }
+    requires point { IsSomeAnd (option_map (λ p. p.now) point) (λ x. length x ≡ length problem.now.columns) }
+    requires ray { IsSomeAnd (option_map (λ r. r.now) ray) (λ r. length r ≡ length problem.now.columns) }
+    ensures { IfOk result (λ text. unbounded_at problem.now (option_map (λ p. p.now) point.entry) (option_map (λ r. r.now) ray.entry) ≡ Some (string_bytes text)) }
 {
-    match point {
-        None => Ok(String::new(alloc)),
-        Some(point) => match ray {
-            None => Ok(String::new(alloc)),
-            Some(ray) => unbounded_report(alloc, problem, point, ray),
-        },
-    }
+    let Some(point) = point else { unreachable!() };
+    let Some(ray) = ray else { unreachable!() };
+    unbounded_report(alloc, problem, point, ray)
 }
 
 fn unbounded_report(

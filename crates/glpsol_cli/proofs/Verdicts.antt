@@ -1,0 +1,82 @@
+-- Verdicts in the user's words, from the cause of an answer.
+use Rattle.std.proofs.Common.{◌≡◌, ℕ, List, refl, sym, subst}
+use Rattle.milp.specs.Problem.{Problem}
+use Rattle.verdicts.specs.Certificate.{Certificate, Verdict}
+use Rattle.verdicts.specs.Certificate as kind
+use Rattle.verdicts.specs.Proves.{Proves, Holds}
+use Rattle.command_line.specs.declared.settings.Settings.{Settings}
+use Rattle.glpsol_cli.specs.Asked.{ToldNames, OfTexts}
+use Rattle.glpsol_cli.specs.Cause.{Cause, IsReached, reached_of, IsProved, IsTrueOf, IsBest, HasNoPoint, HasRay}
+use Rattle.glpsol_cli.specs.declared.answer.Answer.{Answer}
+use Rattle.glpsol_cli.specs.declared.answer.Answer.TheVariants.{Optimal, Infeasible, Unbounded, Translated, Accepted, Usage, Missing, OpenFault, ReadFault, WriteFault, TooLong, BadFile, BadCertificate, Overflow, Undecided, Refused, NoMemory}
+use Rattle.glpsol_cli.specs.declared.answer.Reached.{Reached}
+use Rattle.glpsol_cli.specs.declared.answer.Reached.TheVariants.{Nothing, Executed, Size, Acceptance, Verdict as VerdictReached}
+use Rattle.glpsol_cli.proofs.Answers.{of_texts}
+
+-- a certificate that proves its verdict is right
+abbrev pub AreRight : Type 0
+AreRight = (p : Problem) (c : Certificate) → Proves p c → Holds p c c.verdict
+
+module _ (words : List (List ℕ)) (told : ToldNames) (c : Certificate) (right : AreRight) where
+  true_of : (s : Settings) (texts : List (List ℕ)) → IsProved c s texts → IsTrueOf c s texts
+  true_of s texts h = record { problem = h.problem; asked = h.asked; holds = right h.problem c h.proves }
+
+  -- ---- what an answer carries
+
+  nothing_carried : Nothing ≡ VerdictReached c → ⊥
+  nothing_carried e = cc
+
+  executed_carried : Executed ≡ VerdictReached c → ⊥
+  executed_carried e = cc
+
+  size_carried : Size ≡ VerdictReached c → ⊥
+  size_carried e = cc
+
+  acceptance_carried : Acceptance ≡ VerdictReached c → ⊥
+  acceptance_carried e = cc
+
+  of_reached : (r : Reached) → r ≡ VerdictReached c → IsReached words told r → OfTexts words told (IsTrueOf c)
+  of_reached r e h = of_texts words told (IsProved c) (IsTrueOf c) true_of (subst (IsReached words told) e h)
+
+  pub carried : (files_rose out_rose : Type 0) (answer : Answer) → reached_of answer ≡ VerdictReached c → Cause words told files_rose out_rose answer → OfTexts words told (IsTrueOf c)
+  carried files_rose out_rose (Optimal d) e h = of_reached (VerdictReached d) e h.1
+  carried files_rose out_rose (Infeasible d) e h = of_reached (VerdictReached d) e h.1
+  carried files_rose out_rose (Unbounded d) e h = of_reached (VerdictReached d) e h.1
+  carried files_rose out_rose Translated e h = absurd (size_carried e)
+  carried files_rose out_rose Accepted e h = absurd (acceptance_carried e)
+  carried files_rose out_rose Usage e h = absurd (nothing_carried e)
+  carried files_rose out_rose (Missing name) e h = absurd (nothing_carried e)
+  carried files_rose out_rose (OpenFault name) e h = absurd (nothing_carried e)
+  carried files_rose out_rose (ReadFault name) e h = absurd (nothing_carried e)
+  carried files_rose out_rose (WriteFault target r) e h = of_reached r e h.0
+  carried files_rose out_rose (TooLong name) e h = absurd (nothing_carried e)
+  carried files_rose out_rose (BadFile fault) e h = absurd (executed_carried e)
+  carried files_rose out_rose (BadCertificate fault) e h = absurd (executed_carried e)
+  carried files_rose out_rose (Overflow at fault) e h = absurd (executed_carried e)
+  carried files_rose out_rose (Undecided bases) e h = absurd (executed_carried e)
+  carried files_rose out_rose (Refused part) e h = absurd (executed_carried e)
+  carried files_rose out_rose (NoMemory r) e h = of_reached r e h
+
+  -- ---- the three verdicts
+
+  best : (s : Settings) (texts : List (List ℕ)) → c.verdict ≡ kind.Optimal → IsProved c s texts → IsBest c s texts
+  best s texts is h =
+      let holds : Holds h.problem c kind.Optimal = subst (Holds h.problem c) is (right h.problem c h.proves) in
+      record { problem = h.problem; asked = h.asked; point = holds.0; has_point = holds.1; has_value = holds.2; optimal = holds.3 }
+
+  no_point : (s : Settings) (texts : List (List ℕ)) → c.verdict ≡ kind.Infeasible → IsProved c s texts → HasNoPoint s texts
+  no_point s texts is h = record { problem = h.problem; asked = h.asked; none = subst (Holds h.problem c) is (right h.problem c h.proves) }
+
+  ray : (s : Settings) (texts : List (List ℕ)) → c.verdict ≡ kind.Unbounded → IsProved c s texts → HasRay c s texts
+  ray s texts is h =
+      let holds : Holds h.problem c kind.Unbounded = subst (Holds h.problem c) is (right h.problem c h.proves) in
+      record { problem = h.problem; asked = h.asked; point = holds.0; ray = holds.1; has_point = holds.2; has_ray = holds.3; unbounded = holds.4 }
+
+  pub is_best : (files_rose out_rose : Type 0) → Cause words told files_rose out_rose (Optimal c) → OfTexts words told (IsBest c)
+  is_best files_rose out_rose h = of_texts words told (IsProved c) (IsBest c) (λ s texts proved. best s texts h.0 proved) h.1
+
+  pub has_no_point : (files_rose out_rose : Type 0) → Cause words told files_rose out_rose (Infeasible c) → OfTexts words told HasNoPoint
+  has_no_point files_rose out_rose h = of_texts words told (IsProved c) HasNoPoint (λ s texts proved. no_point s texts h.0 proved) h.1
+
+  pub has_ray : (files_rose out_rose : Type 0) → Cause words told files_rose out_rose (Unbounded c) → OfTexts words told (HasRay c)
+  has_ray files_rose out_rose h = of_texts words told (IsProved c) (HasRay c) (λ s texts proved. ray s texts h.0 proved) h.1

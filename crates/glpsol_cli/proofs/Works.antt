@@ -1,0 +1,91 @@
+-- What the work on a problem gives of the texts.
+use Rattle.std.proofs.Common.{◌≡◌, ◌∙◌, ℕ, List, [], ◌∷◌, ◌++◌, Some, None, Option, refl, sym, ap, subst}
+use Rattle.std.specs.Prelude.{Result, Ok, Err}
+use Rattle.milp.specs.Problem.{Problem}
+use Rattle.milp.specs.declared.Direction.{Direction}
+use Rattle.basis.specs.Node.{system_of}
+use Rattle.basis.specs.Numbers.{node_numbers}
+use Rattle.basis.specs.declared.Place.{Place}
+use Rattle.fraction.specs.declared.frac.NoFit.{NoFit}
+use Rattle.search_node.specs.Faults.{IsSiteFault}
+use Rattle.search_node.specs.Sides.{sides_of}
+use Rattle.search_node.specs.declared.node.Node.{Node}
+use Rattle.simplex.specs.Run.{IsLimited}
+use Rattle.branch_solve.specs.Solved.{IsRoot, IsNoFit, IsAtLimit}
+use Rattle.branch_solve.specs.declared.fault.SolveFault.{SolveFault}
+use Rattle.branch_solve.specs.declared.fault.SolveFault.TheVariants.{Node as AtSite, Part as AtPart, PivotLimit, NoMemory as SolveNoMemory}
+use Rattle.model_text.specs.declared.fault.FileFault.{FileFault}
+use Rattle.command_line.specs.declared.settings.Outputs.{Outputs}
+use Rattle.command_line.specs.declared.settings.Settings.{Settings}
+use Rattle.command_line.specs.declared.settings.Task.{Task}
+use Rattle.command_line.specs.declared.settings.Task.TheVariants.{Solve, Translate, CheckCertificate}
+use Rattle.glpsol_cli.specs.Asked.{ToldNames, Solves, IsSolve, IsInTurn, names_read, names_checked}
+use Rattle.glpsol_cli.specs.Meaning.{Declared, Faulty, end_of, declared_in, directed, IsAsked, IsRefused}
+use Rattle.glpsol_cli.specs.Cause.{OfCertificate, IsNoCertificate, IsRefusedAt, IsCheckOverflow, IsNodeOverflow, IsUndecided}
+use Rattle.glpsol_cli.specs.Stages.{IsProblem, IsTextFault, IsUnfound, IsCheckStop, texts_checked, texts_in}
+use Rattle.glpsol_cli.specs.declared.inputs.Inputs.{Inputs}
+use Rattle.glpsol_cli.specs.declared.stop.TextFault.{TextFault}
+use Rattle.glpsol_cli.specs.declared.stop.TextFault.TheVariants.{Fault as TextHas, NoMemory as TextNoMemory}
+use Rattle.glpsol_cli.specs.declared.stop.CheckStop.{CheckStop}
+use Rattle.glpsol_cli.specs.declared.stop.CheckStop.TheVariants.{BadText, Refused, NoFit as CheckNoFit, NoMemory as CheckNoMemory}
+use Rattle.glpsol_cli.specs.declared.stop.Unfound.TheVariants.{Text, Solve as SolveStop, Check}
+
+-- ---- the problem of the texts
+
+pub asked : (s : Settings) (text : List ℕ) (others : List (List ℕ)) (p : Problem) → IsProblem s.language s.direction text p → IsAsked s (text ∷ others) p
+asked s text others p is = ap (λ e. Some (end_of s.direction e)) is.means ∙ ap (λ q. Some (Declared q)) (sym is.is)
+
+pub text_fault : (s : Settings) (text : List ℕ) (others : List (List ℕ)) (fault : TextFault) → IsTextFault s.language text fault → IsUnfound (Text fault) s (text ∷ others)
+text_fault s text others (TextHas fault) h = ap (λ e. Some (end_of s.direction e)) h
+text_fault s text others TextNoMemory h = tt
+
+-- ---- solving
+
+module _ (s : Settings) (texts : List (List ℕ)) (p : Problem) (asks : IsAsked s texts p) (solves : Solves s) where
+  at_node : (node : Node) (e : NoFit) → IsRoot node → IsSiteFault (node_numbers p [] []) e → IsNodeOverflow node e s texts
+  at_node node e root operation = record {
+    problem = p;
+    asked = asks;
+    solves = solves;
+    derived = [];
+    work = record { root = root; none = refl };
+    operation = subst (λ (n : Node). IsSiteFault (node_numbers p [] (sides_of n.splits)) e) (sym root) operation;
+  }
+
+  pub unsolved : (fault : SolveFault) → IsNoFit p fault → IsAtLimit p s.pivot_limit fault → IsUnfound (SolveStop fault) s texts
+  unsolved (AtSite site) no_fit limit = at_node site.node site.fault no_fit.0 no_fit.1
+  unsolved (AtPart f) no_fit limit = at_node (record { root_basis = None; splits = [] }) f.fault refl no_fit.operation
+  unsolved (PivotLimit bases) no_fit limit = record {
+    problem = p;
+    asked = asks;
+    solves = solves;
+    node = record { root_basis = None; splits = [] };
+    derived = [];
+    work = record { root = refl; none = refl };
+    limit = limit;
+  }
+  unsolved SolveNoMemory no_fit limit = tt
+
+pub solves_by : (task : Task) (outputs : Outputs) → task ≡ Solve outputs → IsSolve task
+solves_by task outputs e = subst IsSolve (sym e) tt
+
+-- ---- checking
+
+module _ (s : Settings) (text bytes : List ℕ) (p : Problem) where
+  pub of_checked : (name : List ℕ) (P : Problem → List ℕ → Type 0) → s.task ≡ CheckCertificate name → IsAsked s (text ∷ texts_checked s.task bytes) p → P p bytes → OfCertificate P s (text ∷ texts_checked s.task bytes)
+  of_checked name P is asks holds = record {
+    problem = p;
+    asked = asks;
+    name = name;
+    checks = is;
+    before = text ∷ [];
+    bytes = bytes;
+    last = ap (λ t. text ∷ texts_checked t bytes) is;
+    holds = holds;
+  }
+
+  pub unchecked : (name : List ℕ) (stop : CheckStop) → s.task ≡ CheckCertificate name → IsAsked s (text ∷ texts_checked s.task bytes) p → IsCheckStop p bytes stop → IsUnfound (Check stop) s (text ∷ texts_checked s.task bytes)
+  unchecked name (BadText fault) is asks h = of_checked name (IsNoCertificate fault) is asks h
+  unchecked name (Refused part) is asks h = of_checked name (IsRefusedAt part) is asks h
+  unchecked name (CheckNoFit f) is asks h = of_checked name (IsCheckOverflow f.part f.fault) is asks h
+  unchecked name CheckNoMemory is asks h = tt

@@ -1,0 +1,66 @@
+-- When a run gives a verdict, and when a certificate that it wrote is accepted: where no cause of another answer is there.
+use Rattle.std.specs.Prelude.{◌≡◌, ◌≤◌, ℕ, List, [], ◌∷◌, ◌++◌, length, Some}
+use Rattle.milp.specs.Problem.{Problem}
+use Rattle.fraction.specs.declared.frac.NoFit.{NoFit}
+use Rattle.verdicts.specs.Certificate.{Certificate}
+use Rattle.basis.specs.declared.Place.{Place}
+use Rattle.search_node.specs.declared.node.Node.{Node}
+use Rattle.certificate.specs.Text.{certificate_text}
+use Rattle.outside.specs.Told.{Has}
+use Rattle.command_line.specs.Meaning.{settings_of}
+use Rattle.command_line.specs.declared.settings.Settings.{Settings}
+use Rattle.command_line.specs.declared.settings.Task.TheVariants.{CheckCertificate}
+use Rattle.glpsol_cli.specs.Asked.{ToldNames, Solves, names_read}
+use Rattle.glpsol_cli.specs.Meaning.{IsAsked}
+use Rattle.glpsol_cli.specs.Cause.{IsNodeOverflow, IsUndecided, IsProved}
+use Rattle.glpsol_cli.specs.declared.answer.Answer.{Answer}
+use Rattle.glpsol_cli.specs.declared.answer.Answer.TheVariants.{Optimal, Infeasible, Unbounded, Translated, Accepted, Usage, Missing, OpenFault, ReadFault, WriteFault, TooLong, BadFile, BadCertificate, Overflow, Undecided, Refused, NoMemory}
+
+-- the files of these names are told with these texts, and none is too long
+abbrev pub AreTold : ToldNames → List (List ℕ) → List (List ℕ) → Type 0
+AreTold told [] [] = Unit {0}
+AreTold told [] (text ∷ texts) = ⊥
+AreTold told (name ∷ names) [] = ⊥
+AreTold told (name ∷ names) (text ∷ texts) = Has (told name) text × (length text ≤ 16777216) × AreTold told names texts
+
+-- the answer is a verdict, or want of memory
+abbrev pub IsVerdictOrNoMemory : Answer → Type 0
+IsVerdictOrNoMemory (Optimal c) = Unit {0}
+IsVerdictOrNoMemory (Infeasible c) = Unit {0}
+IsVerdictOrNoMemory (Unbounded c) = Unit {0}
+IsVerdictOrNoMemory (NoMemory reached) = Unit {0}
+IsVerdictOrNoMemory answer = ⊥
+
+-- Words that ask for a solution, told files, texts that declare a problem, no operation that doesn't fit, no run that is
+-- too long, and counts that didn't rise: then nothing but a verdict or want of memory is answered.
+pub record IsComplete (words : List (List ℕ)) (told : ToldNames) (files_rose out_rose : Type 0) : Type 0 where
+  pub settings : Settings
+  pub texts : List (List ℕ)
+  pub problem : Problem
+  pub asks : settings_of words ≡ Some settings
+  pub solves : Solves settings
+  pub has : AreTold told (names_read settings) texts
+  pub asked : IsAsked settings texts problem
+  pub fits : (node : Node) (e : NoFit) → ¬ (IsNodeOverflow node e settings texts)
+  pub ends : (bases : List (List Place)) → ¬ (IsUndecided bases settings texts)
+  pub files_held : files_rose → ⊥
+  pub out_held : out_rose → ⊥
+
+-- the answer is that a certificate is accepted, or that the outside failed, or want of memory
+abbrev pub IsAcceptedOrFault : Answer → Type 0
+IsAcceptedOrFault Accepted = Unit {0}
+IsAcceptedOrFault (OpenFault name) = Unit {0}
+IsAcceptedOrFault (ReadFault name) = Unit {0}
+IsAcceptedOrFault (WriteFault target reached) = Unit {0}
+IsAcceptedOrFault (NoMemory reached) = Unit {0}
+IsAcceptedOrFault answer = ⊥
+
+-- The words ask for a check of c, whose text stands in a file; the rest of them, and the other texts, are those of a run
+-- that found c.
+pub record IsRecheck (c : Certificate) (again : List (List ℕ)) (told : ToldNames) : Type 0 where
+  pub settings : Settings
+  pub texts : List (List ℕ)
+  pub found : IsProved c settings texts
+  pub name : List ℕ
+  pub asks : settings_of again ≡ Some (record settings { task = CheckCertificate name })
+  pub has : AreTold told (settings.model ∷ name ∷ []) (texts ++ certificate_text c ∷ [])

@@ -1,0 +1,109 @@
+-- What the texts of a command's files mean, and what is written of it.
+use Rattle.std.specs.Prelude.{◌≡◌, ℕ, List, [], ◌∷◌, ◌++◌, Result, Some, None, Ok, Err}
+use Rattle.std.specs.declared.option.Option.{Option}
+use Rattle.std.specs.Option.{option_map}
+use Rattle.milp.specs.Problem.{Problem}
+use Rattle.milp.specs.declared.Direction.{Direction}
+use Rattle.verdicts.specs.Certificate.{Certificate}
+use Rattle.certificate.specs.Text.{certificate_text}
+use Rattle.model_text.specs.declared.fault.FileFault.{FileFault}
+use Rattle.mps_reader.specs.FreeMps.{declared as declared_by_free_mps}
+use Rattle.cplex_lp_reader.specs.CplexLp.{declared as declared_by_cplex_lp}
+use Rattle.command_line.specs.declared.settings.Language.{Language}
+use Rattle.command_line.specs.declared.settings.Language.TheVariants.{FreeMps, CplexLp}
+use Rattle.command_line.specs.declared.settings.Settings.{Settings}
+use Rattle.command_line.specs.declared.settings.Task.{Task}
+use Rattle.solution_writer.specs.Report.{solved_report, translated_report, accepted_report}
+use Rattle.glpsol_cli.specs.Asked.{ToldNames, OfTexts, certificate_file}
+use Rattle.glpsol_cli.specs.Pieces.{Piece}
+use Rattle.glpsol_cli.specs.declared.answer.Reached.{Reached}
+use Rattle.glpsol_cli.specs.declared.answer.Reached.TheVariants.{Nothing, Executed, Size, Acceptance, Verdict}
+use Rattle.glpsol_cli.specs.declared.answer.Target.TheVariants.{Out, File}
+
+-- ---- what the texts mean
+
+-- how the execution of the texts ends: they declare a problem, or have this fault and none before it
+pub data End : Type 0 where
+  Declared : Problem → End
+  Faulty : FileFault → End
+
+-- what is written while the texts are executed, in order, and how that ends
+pub record Meaning : Type 0 where
+  pub done : List Piece
+  pub end : End
+
+-- the problem that a text of this language declares, or its first fault
+abbrev pub declared_in : Language → List ℕ → Result Problem FileFault
+declared_in FreeMps text = declared_by_free_mps text
+declared_in CplexLp text = declared_by_cplex_lp text
+
+-- `--min` and `--max` set the direction
+abbrev pub directed : Option Direction → Problem → Problem
+directed None p = p
+directed (Some d) p = record p { direction = d }
+
+abbrev pub end_of : Option Direction → Result Problem FileFault → End
+end_of direction (Ok p) = Declared (directed direction p)
+end_of direction (Err fault) = Faulty fault
+
+-- the model's text stands first; free MPS and CPLEX LP write nothing
+abbrev pub meaning_of : Settings → List (List ℕ) → Option Meaning
+meaning_of s [] = None
+meaning_of s (text ∷ others) = Some (record { done = []; end = end_of s.direction (declared_in s.language text) })
+
+abbrev pub end_in : Settings → List (List ℕ) → Option End
+end_in s texts = option_map (λ (m : Meaning). m.end) (meaning_of s texts)
+
+-- p is the problem that the texts declare, in the direction that the settings ask for
+abbrev pub IsAsked : Settings → List (List ℕ) → Problem → Type 0
+IsAsked s texts p = end_in s texts ≡ Some (Declared p)
+
+-- the texts have this fault, and none before it
+abbrev pub IsRefused : FileFault → Settings → List (List ℕ) → Type 0
+IsRefused fault s texts = end_in s texts ≡ Some (Faulty fault)
+
+-- ---- what is written of what was reached
+
+-- a text to the file of this name, where there is one
+abbrev pub saved_in : Option (List ℕ) → List ℕ → List Piece
+saved_in None text = []
+saved_in (Some name) text = record { target = File name; text = text } ∷ []
+
+abbrev pub printed : List ℕ → List Piece
+printed text = record { target = Out; text = text } ∷ []
+
+-- the report on the output, and then the certificate to its file
+abbrev pub solved_pieces : Task → Certificate → List ℕ → List Piece
+solved_pieces task c report = printed report ++ saved_in (certificate_file task) (certificate_text c)
+
+-- what is written of a problem once this was reached; none where a certificate lacks a part that its report shows
+abbrev pub found_pieces : Task → Problem → Reached → Option (List Piece)
+found_pieces task p Nothing = Some []
+found_pieces task p Executed = Some []
+found_pieces task p Size = Some (printed (translated_report p))
+found_pieces task p Acceptance = Some (printed accepted_report)
+found_pieces task p (Verdict c) = option_map (solved_pieces task c) (solved_report p c)
+
+-- P holds of what is written while the texts are executed
+pub record HasDone (P : List Piece → Type 0) (s : Settings) (texts : List (List ℕ)) : Type 0 where
+  pub meaning : Meaning
+  pub means : meaning_of s texts ≡ Some meaning
+  pub has : P meaning.done
+
+-- P holds of that, with what is written of the problem once this was reached
+pub record HasFound (reached : Reached) (P : List Piece → Type 0) (s : Settings) (texts : List (List ℕ)) : Type 0 where
+  pub meaning : Meaning
+  pub means : meaning_of s texts ≡ Some meaning
+  pub problem : Problem
+  pub end : meaning.end ≡ Declared problem
+  pub found : List Piece
+  pub are : found_pieces s.task problem reached ≡ Some found
+  pub has : P (meaning.done ++ found)
+
+-- P holds of all that is to be written once this was reached
+abbrev pub OfPieces : List (List ℕ) → ToldNames → Reached → (List Piece → Type 0) → Type 0
+OfPieces words told Nothing P = P []
+OfPieces words told Executed P = OfTexts words told (HasDone P)
+OfPieces words told Size P = OfTexts words told (HasFound Size P)
+OfPieces words told Acceptance P = OfTexts words told (HasFound Acceptance P)
+OfPieces words told (Verdict c) P = OfTexts words told (HasFound (Verdict c) P)

@@ -1,0 +1,65 @@
+-- What a run writes with each answer: the pieces of what it reached, or the first of them, and then the line of a fault or a part of it.
+use Rattle.std.specs.Prelude.{ℕ, List, [], codes}
+use Rattle.std.specs.declared.option.Option.{Option}
+use Rattle.solution_writer.specs.FaultLine.{named_line, overflow_line, usage_line, file_line, certificate_line, undecided_pivots_line, refused_line, no_memory_line}
+use Rattle.glpsol_cli.specs.Asked.{ToldNames}
+use Rattle.glpsol_cli.specs.Pieces.{Piece, Outside, IsWrittenInPart, Extent, Whole, UpTo, Part, WrittenTo}
+use Rattle.glpsol_cli.specs.Meaning.{OfPieces}
+use Rattle.glpsol_cli.specs.Cause.{reached_of}
+use Rattle.glpsol_cli.specs.declared.answer.Answer.{Answer}
+use Rattle.glpsol_cli.specs.declared.answer.Answer.TheVariants.{Optimal, Infeasible, Unbounded, Translated, Accepted, Usage, Missing, OpenFault, ReadFault, WriteFault, TooLong, BadFile, BadCertificate, Overflow, Undecided, Refused, NoMemory}
+use Rattle.glpsol_cli.specs.declared.answer.Target.{Target}
+use Rattle.glpsol_cli.specs.declared.answer.Target.TheVariants.{Out, File}
+
+-- the line of a target that can't be written; the output has none
+abbrev pub target_line_of : Target → List ℕ
+target_line_of Out = []
+target_line_of (File name) = named_line (codes "write fault") name
+
+-- the line of a fault; an answer without a fault has none
+abbrev pub line_of : Answer → List ℕ
+line_of (Optimal c) = []
+line_of (Infeasible c) = []
+line_of (Unbounded c) = []
+line_of Translated = []
+line_of Accepted = []
+line_of Usage = usage_line
+line_of (Missing name) = named_line (codes "missing") name
+line_of (OpenFault name) = named_line (codes "open fault") name
+line_of (ReadFault name) = named_line (codes "read fault") name
+line_of (WriteFault target reached) = target_line_of target
+line_of (TooLong name) = named_line (codes "too long") name
+line_of (BadFile fault) = file_line fault
+line_of (BadCertificate fault) = certificate_line fault
+line_of (Overflow at fault) = overflow_line fault
+line_of (Undecided bases) = undecided_pivots_line
+line_of (Refused part) = refused_line part
+line_of (NoMemory reached) = no_memory_line
+
+-- how far the pieces are written: up to what can't be written, or, where memory is wanting, some of them; else all
+abbrev pub extent_of : Answer → Extent
+extent_of (Optimal c) = Whole
+extent_of (Infeasible c) = Whole
+extent_of (Unbounded c) = Whole
+extent_of Translated = Whole
+extent_of Accepted = Whole
+extent_of Usage = Whole
+extent_of (Missing name) = Whole
+extent_of (OpenFault name) = Whole
+extent_of (ReadFault name) = Whole
+extent_of (WriteFault target reached) = UpTo target
+extent_of (TooLong name) = Whole
+extent_of (BadFile fault) = Whole
+extent_of (BadCertificate fault) = Whole
+extent_of (Overflow at fault) = Whole
+extent_of (Undecided bases) = Whole
+extent_of (Refused part) = Whole
+extent_of (NoMemory reached) = Part
+
+-- the pieces are written so far, and then a part of the line from its front
+abbrev pub ThenLine : Extent → List ℕ → Outside → Outside → List Piece → Type 0
+ThenLine extent line old new pieces = (middle : Outside) × WrittenTo extent pieces old middle × IsWrittenInPart Out line middle new
+
+-- what is written with an answer: the pieces of what was reached, and then the line
+abbrev pub Written : List (List ℕ) → Outside → Outside → Answer → Type 0
+Written words old new answer = OfPieces words old.told (reached_of answer) (ThenLine (extent_of answer) (line_of answer) old new)

@@ -1,0 +1,20 @@
+// What follows from the causes of answers.
+ghost use Rattle.std.specs.Prelude.{ℕ, List};
+ghost use Rattle.outside.specs.Causes.{Rose};
+ghost use Rattle.verdicts.specs.Certificate.{Certificate};
+ghost use Rattle.certificate.specs.Written.{HasText};
+ghost use Rattle.glpsol_cli.specs.Asked.{ToldNames};
+ghost use Rattle.glpsol_cli.specs.Cause.{Cause};
+ghost use Rattle.glpsol_cli.specs.Complete.{IsRecheck, IsAcceptedOrFault};
+ghost use Rattle.glpsol_cli.specs.declared.answer.Answer.{Answer};
+
+use fraction::texts;
+
+/// A certificate that a run wrote is accepted where the same words and texts come with `--checkcert` and its text: an
+/// answer with a cause there is Accepted, a fault of the outside, or want of memory.
+pub fn written_certificates_are_accepted()
+    ensures { (c : Certificate) (again : List (List ℕ)) (told : ToldNames) (answer : Answer) (files files' out out' : ℕ) → HasText c → IsRecheck c again told
+        → Cause again told (Rose files files') (Rose out out') answer → IsAcceptedOrFault answer }
+{
+    texts();
+}

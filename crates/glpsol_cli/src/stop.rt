@@ -1,0 +1,141 @@
+// Why nothing is found, by the stage of the work that says so.
+ghost use Rattle.std.specs.Prelude.{◌≡◌};
+ghost use Rattle.glpsol_cli.specs.Stages.{words_answer, unread_answer, text_answer, solve_answer, check_answer, unfound_answer, stop_answer};
+
+use crate::{Answer, OverflowSite, Reached};
+use branch_solve::SolveFault;
+use cert_check::{CheckFault, Part};
+use certificate_reader::CertFault;
+use command_line::WordsFault;
+use instance::Name;
+use model_text::FileFault;
+use outside::LoadFault;
+use search_node::Node;
+use std::alloc::Global;
+
+#[derive(Drop)]
+pub enum Stop {
+    Words(WordsFault),
+    File(Unread),
+    Work(Unfound),
+}
+
+// A file that is not read.
+#[derive(Drop)]
+pub struct Unread {
+    pub name: Name,
+    pub fault: LoadFault,
+}
+
+// Why the texts give nothing.
+#[derive(Drop)]
+pub enum Unfound {
+    Text(TextFault),
+    Solve(SolveFault),
+    Check(CheckStop),
+}
+
+// Why a text is no problem.
+#[derive(Drop)]
+pub enum TextFault {
+    Fault(FileFault),
+    NoMemory,
+}
+
+// Why a certificate is not accepted.
+#[derive(Drop)]
+pub enum CheckStop {
+    BadText(CertFault),
+    Refused(Part),
+    NoFit(CheckFault),
+    NoMemory,
+}
+
+/// The answer that a stop stands for.
+pub fn stop_answer(alloc: Global, stop: Stop) -> Answer
+    ensures { result ≡ stop_answer stop }
+{
+    match stop {
+        Stop::Words(fault) => words_answer(fault),
+        Stop::File(unread) => unread_answer(unread.name, unread.fault),
+        Stop::Work(unfound) => unfound_answer(alloc, unfound),
+    }
+}
+
+fn words_answer(fault: WordsFault) -> Answer
+    ensures { result ≡ words_answer fault }
+{
+    match fault {
+        WordsFault::Usage => Answer::Usage,
+        WordsFault::NoMemory => no_memory(Reached::Nothing),
+    }
+}
+
+fn unread_answer(name: Name, fault: LoadFault) -> Answer
+    ensures { result ≡ unread_answer name fault }
+{
+    match fault {
+        LoadFault::Missing => Answer::Missing(name),
+        LoadFault::Open => Answer::OpenFault(name),
+        LoadFault::Read => Answer::ReadFault(name),
+        LoadFault::TooLong => Answer::TooLong(name),
+        LoadFault::NoMemory => no_memory(Reached::Nothing),
+    }
+}
+
+fn unfound_answer(alloc: Global, unfound: Unfound) -> Answer
+    ensures { result ≡ unfound_answer unfound }
+{
+    match unfound {
+        Unfound::Text(fault) => text_answer(fault),
+        Unfound::Solve(fault) => solve_answer(alloc, fault),
+        Unfound::Check(stop) => check_answer(stop),
+    }
+}
+
+fn text_answer(fault: TextFault) -> Answer
+    ensures { result ≡ text_answer fault }
+{
+    match fault {
+        TextFault::Fault(fault) => Answer::BadFile(fault),
+        TextFault::NoMemory => no_memory(Reached::Nothing),
+    }
+}
+
+fn solve_answer(alloc: Global, fault: SolveFault) -> Answer
+    ensures { result ≡ solve_answer fault }
+{
+    match fault {
+        SolveFault::Node(site) => Answer::Overflow {
+            at: OverflowSite::AtNode(site.node),
+            fault: site.fault,
+        },
+        // the certificate is the root's
+        SolveFault::Part(part) => Answer::Overflow {
+            at: OverflowSite::AtNode(Node::root(alloc)),
+            fault: part.fault,
+        },
+        SolveFault::PivotLimit(bases) => Answer::Undecided(bases),
+        SolveFault::NoMemory => no_memory(Reached::Executed),
+    }
+}
+
+fn check_answer(stop: CheckStop) -> Answer
+    ensures { result ≡ check_answer stop }
+{
+    match stop {
+        CheckStop::BadText(fault) => Answer::BadCertificate(fault),
+        CheckStop::Refused(part) => Answer::Refused(part),
+        CheckStop::NoFit(CheckFault { part, fault }) => Answer::Overflow {
+            at: OverflowSite::InPart(part),
+            fault,
+        },
+        CheckStop::NoMemory => no_memory(Reached::Executed),
+    }
+}
+
+fn no_memory(reached: Reached) -> Answer
+    ensures { result ≡ Answer.NoMemory reached }
+{
+    Answer::NoMemory { reached }
+}

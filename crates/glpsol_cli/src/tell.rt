@@ -1,0 +1,71 @@
+// The line of an answer.
+ghost use Rattle.std.specs.Prelude.{◌≡◌, ◌≤◌, IfOk, string_bytes};
+ghost use Rattle.outside.specs.Told.{AppendsPrefix};
+ghost use Rattle.solution_writer.specs.FaultLine.{no_memory_line};
+ghost use Rattle.glpsol_cli.specs.Written.{line_of, target_line_of};
+
+use crate::{Answer, Reached, Target};
+use outside::{Sink, write_all};
+use solution_writer::{Fault, fault_line};
+use std::alloc::{AllocError, Global};
+
+/// The answer where there is no memory before anything is done. Its line is written, or a part of it from the front.
+pub fn out_of_memory<O: Sink>(alloc: Global, out: &mut O) -> Answer
+    ensures answer { result ≡ Answer.NoMemory Reached.Nothing }
+    ensures line { AppendsPrefix (O.taken out.old) (O.taken out.new) no_memory_line }
+{
+    tell(
+        alloc,
+        out,
+        Answer::NoMemory {
+            reached: Reached::Nothing,
+        },
+    )
+}
+
+/// Writes the line of an answer, or, where that fails, a part of it. The answer stays.
+pub fn tell<O: Sink>(alloc: Global, out: &mut O, answer: Answer) -> Answer
+    ensures same { result ≡ answer }
+    ensures prefix { AppendsPrefix (O.taken out.old) (O.taken out.new) (line_of answer) }
+    ensures later { O.faults out.old ≤ O.faults out.new }
+{
+    if let Ok(line) = line(alloc, &answer) {
+        let _ = write_all(out, line.as_bytes());
+    }
+    answer
+}
+
+// The line of a fault; an answer without a fault has none.
+fn line(alloc: Global, answer: &Answer) -> Result<String, AllocError>
+    ensures { IfOk result (λ text. string_bytes text ≡ line_of answer.now) }
+{
+    match answer {
+        Answer::Optimal(_)
+        | Answer::Infeasible(_)
+        | Answer::Unbounded(_)
+        | Answer::Translated
+        | Answer::Accepted => Ok(String::new(alloc)),
+        Answer::Usage => fault_line(alloc, &Fault::Usage),
+        Answer::Missing(name) => fault_line(alloc, &Fault::Missing(name)),
+        Answer::OpenFault(name) => fault_line(alloc, &Fault::OpenFault(name)),
+        Answer::ReadFault(name) => fault_line(alloc, &Fault::ReadFault(name)),
+        Answer::WriteFault { target, .. } => target_line(alloc, target),
+        Answer::TooLong(name) => fault_line(alloc, &Fault::TooLong(name)),
+        Answer::BadFile(fault) => fault_line(alloc, &Fault::File(*fault)),
+        Answer::BadCertificate(fault) => fault_line(alloc, &Fault::Certificate(*fault)),
+        Answer::Overflow { fault, .. } => fault_line(alloc, &Fault::Overflow(*fault)),
+        Answer::Undecided(_) => fault_line(alloc, &Fault::UndecidedPivots),
+        Answer::Refused(part) => fault_line(alloc, &Fault::Refused(*part)),
+        Answer::NoMemory { .. } => fault_line(alloc, &Fault::NoMemory),
+    }
+}
+
+// The output has no line.
+fn target_line(alloc: Global, target: &Target) -> Result<String, AllocError>
+    ensures { IfOk result (λ text. string_bytes text ≡ target_line_of target.now) }
+{
+    match target {
+        Target::Out => Ok(String::new(alloc)),
+        Target::File(name) => fault_line(alloc, &Fault::WriteFault(name)),
+    }
+}
