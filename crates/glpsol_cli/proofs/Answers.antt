@@ -1,10 +1,9 @@
 -- What a stop and what is found give of the answer: its cause, and what is written with it.
-use Rattle.std.proofs.Common.{◌≡◌, ◌∙◌, ℕ, List, [], ◌∷◌, Some, None, Option, refl, sym, ap, subst}
-use Rattle.std.specs.Prelude.{Result, Ok, Err}
+use Rattle.std.proofs.Common.{◌≡◌, ℕ, List, [], ◌∷◌, Some, refl, subst}
+use Rattle.std.specs.Prelude.{Err}
 use Rattle.milp.specs.Problem.{Problem}
 use Rattle.verdicts.specs.Certificate.{Certificate, Verdict}
 use Rattle.verdicts.specs.Certificate as kind
-use Rattle.outside.specs.Told.{AppendsPrefix}
 use Rattle.outside.specs.declared.store.LoadFault.{LoadFault}
 use Rattle.outside.specs.declared.store.LoadFault.TheVariants.{Missing as LoadMissing, Open, Read, TooLong as LoadTooLong, NoMemory as LoadNoMemory}
 use Rattle.branch_solve.specs.declared.fault.SolveFault.TheVariants.{Node as AtSite, Part as AtPart, PivotLimit, NoMemory as SolveNoMemory}
@@ -12,12 +11,10 @@ use Rattle.command_line.specs.declared.settings.Settings.{Settings}
 use Rattle.command_line.specs.declared.settings.WordsFault.TheVariants.{Usage as WordsUsage, NoMemory as WordsNoMemory}
 use Rattle.glpsol_cli.specs.Asked.{ToldNames, OfTexts, AreTexts, IsInTurn, names_read}
 use Rattle.glpsol_cli.specs.Pieces.{Piece, Outside, IsWrittenInPart, AllWritten, Whole, UpTo, Part}
-use Rattle.glpsol_cli.specs.Meaning.{End, Declared, meaning_of, end_of, declared_in, IsAsked, HasDone, HasFound, OfPieces, found_pieces}
+use Rattle.glpsol_cli.specs.Meaning.{End, Declared, end_of, declared_in, IsAsked, HasDone, HasFound, OfPieces, found_pieces}
 use Rattle.glpsol_cli.specs.Cause.{Cause, IsReached, IsTranslated, IsProved, OfCertificate, IsAccepted}
 use Rattle.glpsol_cli.specs.Written.{Written, ThenLine, line_of}
 use Rattle.glpsol_cli.specs.Stages.{IsFinding, IsFoundIn, IsStop, IsUnfound, IsUnread, EndsWriting, HasFailed, unread_answer, reached_by, verdict_answer, finding_answer, publish_answer, stop_answer, unfound_answer}
-use Rattle.glpsol_cli.specs.declared.answer.Answer.{Answer}
-use Rattle.glpsol_cli.specs.declared.answer.Target.{Target}
 use Rattle.glpsol_cli.specs.declared.answer.Target.TheVariants.{Out}
 use Rattle.glpsol_cli.specs.declared.found.Found.{Found}
 use Rattle.glpsol_cli.specs.declared.found.Finding.{Finding}
@@ -26,7 +23,6 @@ use Rattle.glpsol_cli.specs.declared.answer.Reached.{Reached}
 use Rattle.glpsol_cli.specs.declared.answer.Reached.TheVariants.{Size as SizeReached, Acceptance as AcceptanceReached, Verdict as VerdictReached}
 use Rattle.glpsol_cli.specs.declared.stop.Stop.{Stop}
 use Rattle.glpsol_cli.specs.declared.stop.Stop.TheVariants.{Words, File, Work}
-use Rattle.glpsol_cli.specs.declared.stop.Unread.{Unread}
 use Rattle.glpsol_cli.specs.declared.stop.Unfound.{Unfound}
 use Rattle.glpsol_cli.specs.declared.stop.Unfound.TheVariants.{Text, Solve, Check}
 use Rattle.glpsol_cli.specs.declared.stop.TextFault.TheVariants.{Fault as TextHas, NoMemory as TextNoMemory}

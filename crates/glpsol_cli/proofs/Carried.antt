@@ -1,15 +1,13 @@
 -- How a run ends, from how its stages ended.
-use Rattle.std.proofs.Common.{◌≡◌, ◌≤◌, ℕ, List, Some, Option, refl, sym, subst}
-use Rattle.std.specs.Prelude.{Result, Ok, Err}
-use Rattle.outside.specs.Causes.{Rose}
+use Rattle.std.proofs.Common.{◌≡◌, ℕ, List, Option, refl, sym, subst}
+use Rattle.std.specs.Prelude.{Ok, Err}
 use Rattle.outside.specs.Told.{AppendsPrefix}
 use Rattle.glpsol_cli.specs.Asked.{ToldNames, OfTexts}
-use Rattle.glpsol_cli.specs.Pieces.{Outside, SameNames, IsWrittenInPart}
+use Rattle.glpsol_cli.specs.Pieces.{Outside, SameNames}
 use Rattle.glpsol_cli.specs.Cause.{Cause}
 use Rattle.glpsol_cli.specs.Written.{Written, line_of}
 use Rattle.glpsol_cli.specs.Stages.{IsFoundIn, IsStop, IsShown, IsPublished, HasFailed, finding_answer, publish_answer, stop_answer}
 use Rattle.glpsol_cli.specs.declared.answer.Answer.{Answer}
-use Rattle.glpsol_cli.specs.declared.answer.Target.TheVariants.{Out}
 use Rattle.glpsol_cli.specs.declared.found.Found.{Found}
 use Rattle.glpsol_cli.specs.declared.stop.Stop.{Stop}
 use Rattle.glpsol_cli.specs.declared.publish.PublishFault.{PublishFault}

@@ -1,27 +1,24 @@
 -- Where nothing stands in the way: what the words ask for is what is answered.
-use Rattle.std.proofs.Common.{◌≡◌, ◌∙◌, ◌<◌, ◌≤◌, ℕ, List, [], ◌∷◌, ◌++◌, length, Some, None, Option, refl, sym, ap, subst, arith}
+use Rattle.std.proofs.Common.{◌≡◌, ◌∙◌, ◌<◌, ◌≤◌, ℕ, List, [], ◌∷◌, ◌++◌, length, Some, None, refl, sym, subst, arith}
 use Rattle.std.specs.Prelude.{Result, Ok, Err}
 use Rattle.milp.specs.Problem.{Problem}
-use Rattle.basis.specs.declared.Place.{Place}
 use Rattle.fraction.specs.declared.frac.NoFit.{NoFit}
 use Rattle.verdicts.specs.Certificate.{Certificate}
-use Rattle.verdicts.specs.Proves.{Part as PartOf, Proves, tests, first_failing}
+use Rattle.verdicts.specs.Proves.{Part as PartOf, tests, first_failing}
 use Rattle.certificate.specs.Text.{certificate_text}
 use Rattle.certificate_reader.specs.Reading.{read_of}
 use Rattle.certificate_lines.specs.declared.fault.CertFault.{CertFault}
-use Rattle.cert_check.specs.Outcome.{Outcome, Acceptance as Accepting, Fault, outcome, trials, part_of}
+use Rattle.cert_check.specs.Outcome.{Acceptance as Accepting, Fault, outcome, trials, part_of}
 use Rattle.cert_check.specs.declared.part.Part.{Part}
 use Rattle.model_text.specs.declared.fault.FileFault.{FileFault}
-use Rattle.search_node.specs.declared.node.Node.{Node}
 use Rattle.outside.specs.Told.{Has}
 use Rattle.command_line.specs.Meaning.{settings_of}
-use Rattle.command_line.specs.declared.settings.Outputs.{Outputs}
 use Rattle.command_line.specs.declared.settings.Settings.{Settings}
 use Rattle.command_line.specs.declared.settings.Task.{Task}
 use Rattle.command_line.specs.declared.settings.Task.TheVariants.{Solve, Translate, CheckCertificate}
-use Rattle.glpsol_cli.specs.Asked.{ToldNames, OfTexts, AreTexts, IsInTurn, IsSolve, Solves, Translates, Checks, names_read}
-use Rattle.glpsol_cli.specs.Meaning.{Declared, Faulty, IsAsked, IsRefused, end_in}
-use Rattle.glpsol_cli.specs.Cause.{Cause, OfCertificate, IsAccepted, IsNoCertificate, IsRefusedAt, IsCheckOverflow, IsNodeOverflow, IsUndecided, IsTranslated, IsProved, IsOverflow, RoseAt}
+use Rattle.glpsol_cli.specs.Asked.{ToldNames, OfTexts, AreTexts, IsInTurn, IsSolve, names_read}
+use Rattle.glpsol_cli.specs.Meaning.{Declared, Faulty, IsAsked, IsRefused}
+use Rattle.glpsol_cli.specs.Cause.{Cause, OfCertificate, IsAccepted, IsNoCertificate, IsRefusedAt, IsCheckOverflow, IsUndecided, IsTranslated, IsProved, IsOverflow, RoseAt}
 use Rattle.glpsol_cli.specs.Complete.{AreTold, IsComplete, IsVerdictOrNoMemory, IsRecheck, IsAcceptedOrFault}
 use Rattle.glpsol_cli.specs.declared.answer.Answer.{Answer}
 use Rattle.glpsol_cli.specs.declared.answer.Answer.TheVariants.{Optimal, Infeasible, Unbounded, Translated, Accepted, Usage, Missing, OpenFault, ReadFault, WriteFault, TooLong, BadFile, BadCertificate, Overflow, Undecided, Refused, NoMemory}

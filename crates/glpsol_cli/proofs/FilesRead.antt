@@ -1,6 +1,5 @@
 -- What the words and the files give, by what was told of the files at the start.
-use Rattle.std.proofs.Common.{◌≡◌, ◌∙◌, ◌<◌, ◌≤◌, ℕ, List, [], ◌∷◌, ◌++◌, length, Some, None, Option, refl, sym, ap, subst}
-use Rattle.outside.specs.Told.{Lacks, Has}
+use Rattle.std.proofs.Common.{◌≡◌, ◌∙◌, ℕ, List, [], ◌∷◌, Some, None, Option, refl, sym, ap, subst}
 use Rattle.outside.specs.declared.store.LoadFault.{LoadFault}
 use Rattle.outside.specs.declared.store.LoadFault.TheVariants.{Missing, Open, Read, TooLong, NoMemory as LoadNoMemory}
 use Rattle.command_line.specs.Meaning.{settings_of}
@@ -9,7 +8,7 @@ use Rattle.command_line.specs.declared.settings.Task.{Task}
 use Rattle.command_line.specs.declared.settings.Task.TheVariants.{CheckCertificate}
 use Rattle.command_line.specs.declared.settings.WordsFault.{WordsFault}
 use Rattle.command_line.specs.declared.settings.WordsFault.TheVariants.{Usage, NoMemory as WordsNoMemory}
-use Rattle.glpsol_cli.specs.Asked.{ToldNames, IsThere, IsTextOf, AreTexts, IsInTurn, names_read, names_checked}
+use Rattle.glpsol_cli.specs.Asked.{ToldNames, IsThere, IsTextOf, AreTexts, IsInTurn, names_checked}
 use Rattle.glpsol_cli.specs.Pieces.{SameNames}
 use Rattle.glpsol_cli.specs.Stages.{IsUnread, IsWordsFault, texts_checked}
 

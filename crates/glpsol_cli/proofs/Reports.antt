@@ -1,5 +1,5 @@
 -- What the checker's acceptance gives of a certificate: the parts that its report shows.
-use Rattle.std.proofs.Common.{◌≡◌, ◌∙◌, ℕ, suc, Bool, true, false, cond, not, ◌&&◌, ◌||◌, ◌==◌, List, [], ◌∷◌, length, Some, None, Option, refl, sym, ap, subst}
+use Rattle.std.proofs.Common.{◌≡◌, ℕ, suc, Bool, true, false, cond, not, ◌&&◌, ◌||◌, ◌==◌, List, [], ◌∷◌, length, Some, None, Option, refl, ap}
 use Rattle.std.specs.Prelude.{Result, Ok, Err, IsOk, IsSome, IsSomeAnd, codes}
 use Rattle.rational.specs.Rational.{Rational, zero_ℚ, ◌*ℚ◌}
 use Rattle.milp.specs.Points.{sign_of}
@@ -9,7 +9,7 @@ use Rattle.verdicts.specs.Certificate.{Verdict, Optimal, Infeasible, Unbounded, 
 use Rattle.verdicts.specs.Proves.{Part, lies_above, lies_below, bound_for, meets_columns}
 use Rattle.verdicts.specs.Proves as of
 use Rattle.fraction.specs.declared.frac.NoFit.{NoFit}
-use Rattle.instance.specs.Sums.{and_then, sum_answer, rows_answer, meets_answer}
+use Rattle.instance.specs.Sums.{and_then, sum_answer, rows_answer}
 use Rattle.cert_check.specs.Sums.{and_also}
 use Rattle.cert_check.specs.Parts.{point_answer, value_answer, ray_rows_answer, ray_answer}
 use Rattle.cert_check.specs.Outcome.{Outcome, Acceptance, Refusal, Fault, judged, outcome, trials, verdict_trials, value_trials, ray_trials, tree_trials, form_goal}

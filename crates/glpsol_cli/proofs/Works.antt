@@ -1,29 +1,22 @@
 -- What the work on a problem gives of the texts.
-use Rattle.std.proofs.Common.{◌≡◌, ◌∙◌, ℕ, List, [], ◌∷◌, ◌++◌, Some, None, Option, refl, sym, ap, subst}
-use Rattle.std.specs.Prelude.{Result, Ok, Err}
+use Rattle.std.proofs.Common.{◌≡◌, ◌∙◌, ℕ, List, [], ◌∷◌, Some, None, refl, sym, ap, subst}
 use Rattle.milp.specs.Problem.{Problem}
-use Rattle.milp.specs.declared.Direction.{Direction}
-use Rattle.basis.specs.Node.{system_of}
 use Rattle.basis.specs.Numbers.{node_numbers}
-use Rattle.basis.specs.declared.Place.{Place}
 use Rattle.fraction.specs.declared.frac.NoFit.{NoFit}
 use Rattle.search_node.specs.Faults.{IsSiteFault}
 use Rattle.search_node.specs.Sides.{sides_of}
 use Rattle.search_node.specs.declared.node.Node.{Node}
-use Rattle.simplex.specs.Run.{IsLimited}
 use Rattle.branch_solve.specs.Solved.{IsRoot, IsNoFit, IsAtLimit}
 use Rattle.branch_solve.specs.declared.fault.SolveFault.{SolveFault}
 use Rattle.branch_solve.specs.declared.fault.SolveFault.TheVariants.{Node as AtSite, Part as AtPart, PivotLimit, NoMemory as SolveNoMemory}
-use Rattle.model_text.specs.declared.fault.FileFault.{FileFault}
 use Rattle.command_line.specs.declared.settings.Outputs.{Outputs}
 use Rattle.command_line.specs.declared.settings.Settings.{Settings}
 use Rattle.command_line.specs.declared.settings.Task.{Task}
-use Rattle.command_line.specs.declared.settings.Task.TheVariants.{Solve, Translate, CheckCertificate}
-use Rattle.glpsol_cli.specs.Asked.{ToldNames, Solves, IsSolve, IsInTurn, names_read, names_checked}
-use Rattle.glpsol_cli.specs.Meaning.{Declared, Faulty, end_of, declared_in, directed, IsAsked, IsRefused}
-use Rattle.glpsol_cli.specs.Cause.{OfCertificate, IsNoCertificate, IsRefusedAt, IsCheckOverflow, IsNodeOverflow, IsUndecided}
-use Rattle.glpsol_cli.specs.Stages.{IsProblem, IsTextFault, IsUnfound, IsCheckStop, texts_checked, texts_in}
-use Rattle.glpsol_cli.specs.declared.inputs.Inputs.{Inputs}
+use Rattle.command_line.specs.declared.settings.Task.TheVariants.{Solve, CheckCertificate}
+use Rattle.glpsol_cli.specs.Asked.{Solves, IsSolve}
+use Rattle.glpsol_cli.specs.Meaning.{Declared, end_of, IsAsked}
+use Rattle.glpsol_cli.specs.Cause.{OfCertificate, IsNoCertificate, IsRefusedAt, IsCheckOverflow, IsNodeOverflow}
+use Rattle.glpsol_cli.specs.Stages.{IsProblem, IsTextFault, IsUnfound, IsCheckStop, texts_checked}
 use Rattle.glpsol_cli.specs.declared.stop.TextFault.{TextFault}
 use Rattle.glpsol_cli.specs.declared.stop.TextFault.TheVariants.{Fault as TextHas, NoMemory as TextNoMemory}
 use Rattle.glpsol_cli.specs.declared.stop.CheckStop.{CheckStop}

@@ -1,13 +1,11 @@
 -- How the writing of pieces goes on, one after the other.
-use Rattle.std.proofs.Common.{◌≡◌, ◌⊎◌, ◌∙◌, ◌≤◌, ℕ, zero, List, [], ◌∷◌, ◌++◌, Some, None, Option, refl, inl, inr, sym, ap, subst}
+use Rattle.std.proofs.Common.{◌∙◌, ◌≤◌, ℕ, List, [], ◌∷◌, Option, refl, inl, inr}
 use Rattle.std.specs.Prelude.{Result, Ok, Err}
-use Rattle.std.proofs.KnownBytes.{Appends-nil, Appends-trans}
-use Rattle.std.specs.Io.KnownBytes.{Appends}
-use Rattle.outside.specs.Told.{Has, AppendsPrefix, IsKeptOrPrefix}
+use Rattle.std.proofs.KnownBytes.{Appends-nil}
 use Rattle.glpsol_cli.specs.Asked.{ToldNames}
 use Rattle.glpsol_cli.specs.Pieces.{Piece, Outside, SameNames, IsSame, IsWritten, IsWrittenInPart, AllWritten, WrittenUpTo, SomeWritten}
 use Rattle.outside.specs.Causes.{Rose}
-use Rattle.glpsol_cli.specs.Stages.{EndsWriting, EndsPiece, HasFailed}
+use Rattle.glpsol_cli.specs.Stages.{EndsWriting, HasFailed}
 use Rattle.glpsol_cli.specs.declared.answer.Target.{Target}
 use Rattle.glpsol_cli.specs.declared.answer.Target.TheVariants.{Out, File}
 use Rattle.glpsol_cli.specs.declared.publish.PublishFault.{PublishFault}

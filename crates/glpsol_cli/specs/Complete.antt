@@ -14,7 +14,7 @@ use Rattle.glpsol_cli.specs.Asked.{ToldNames, Solves, names_read}
 use Rattle.glpsol_cli.specs.Meaning.{IsAsked}
 use Rattle.glpsol_cli.specs.Cause.{IsNodeOverflow, IsUndecided, IsProved}
 use Rattle.glpsol_cli.specs.declared.answer.Answer.{Answer}
-use Rattle.glpsol_cli.specs.declared.answer.Answer.TheVariants.{Optimal, Infeasible, Unbounded, Translated, Accepted, Usage, Missing, OpenFault, ReadFault, WriteFault, TooLong, BadFile, BadCertificate, Overflow, Undecided, Refused, NoMemory}
+use Rattle.glpsol_cli.specs.declared.answer.Answer.TheVariants.{Optimal, Infeasible, Unbounded, Accepted, OpenFault, ReadFault, WriteFault, NoMemory}
 
 -- the files of these names are told with these texts, and none is too long
 abbrev pub AreTold : ToldNames → List (List ℕ) → List (List ℕ) → Type 0

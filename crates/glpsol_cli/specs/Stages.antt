@@ -6,10 +6,6 @@ use Rattle.milp.specs.declared.Direction.{Direction}
 use Rattle.verdicts.specs.Certificate.{Certificate, Verdict}
 use Rattle.verdicts.specs.Certificate as kind
 use Rattle.verdicts.specs.Proves.{Proves}
-use Rattle.fraction.specs.declared.frac.NoFit.{NoFit}
-use Rattle.basis.specs.declared.Place.{Place}
-use Rattle.search_node.specs.declared.node.Node.{Node}
-use Rattle.branch_solve.specs.Solved.{IsNoFit, IsAtLimit}
 use Rattle.branch_solve.specs.declared.fault.SolveFault.{SolveFault}
 use Rattle.branch_solve.specs.declared.fault.SolveFault.TheVariants.{Node as AtSite, Part as AtPart, PivotLimit, NoMemory as SolveNoMemory}
 use Rattle.cert_check.specs.Outcome.{Acceptance as Accepting, outcome, trials}
@@ -33,7 +29,6 @@ use Rattle.glpsol_cli.specs.declared.answer.Answer.TheVariants.{Optimal, Infeasi
 use Rattle.glpsol_cli.specs.declared.answer.OverflowSite.TheVariants.{AtNode, InPart}
 use Rattle.glpsol_cli.specs.declared.answer.Reached.{Reached}
 use Rattle.glpsol_cli.specs.declared.answer.Reached.TheVariants.{Nothing, Executed, Size as SizeReached, Acceptance as AcceptanceReached, Verdict as VerdictReached}
-use Rattle.glpsol_cli.specs.declared.answer.Target.{Target}
 use Rattle.glpsol_cli.specs.declared.inputs.Inputs.{Inputs}
 use Rattle.glpsol_cli.specs.declared.found.Found.{Found}
 use Rattle.glpsol_cli.specs.declared.found.Finding.{Finding}

@@ -1,8 +1,6 @@
 -- What a run writes with each answer: the pieces of what it reached, or the first of them, and then the line of a fault or a part of it.
 use Rattle.std.specs.Prelude.{ℕ, List, [], codes}
-use Rattle.std.specs.declared.option.Option.{Option}
 use Rattle.solution_writer.specs.FaultLine.{named_line, overflow_line, usage_line, file_line, certificate_line, undecided_pivots_line, refused_line, no_memory_line}
-use Rattle.glpsol_cli.specs.Asked.{ToldNames}
 use Rattle.glpsol_cli.specs.Pieces.{Piece, Outside, IsWrittenInPart, Extent, Whole, UpTo, Part, WrittenTo}
 use Rattle.glpsol_cli.specs.Meaning.{OfPieces}
 use Rattle.glpsol_cli.specs.Cause.{reached_of}

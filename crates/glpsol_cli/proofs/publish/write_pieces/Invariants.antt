@@ -12,5 +12,5 @@ invariant-loop-piece g l = record {
   ends : (new : Outside) (r : Result (Unit {0}) PublishFault) → EndsWriting (pieces_of (into_iter_items l.piece-iterator)) (record { taken = g.O.Sink.taken l.out; told = g.S.Store.told l.files }) new r → EndsWriting (pieces_of l.fn.pieces.items) (record { taken = g.O.Sink.taken l.initial.out; told = g.S.Store.told l.initial.files }) new r;
   files_later : g.S.Store.faults l.initial.files ≤ g.S.Store.faults l.files;
   out_later : g.O.Sink.faults l.initial.out ≤ g.O.Sink.faults l.out;
-  left : into_iter_len l.piece-iterator ≡ length (into_iter_items l.piece-iterator)
+  left : into_iter_len l.piece-iterator ≡ length (into_iter_items l.piece-iterator);
 }

@@ -1,6 +1,5 @@
 use Rattle.std.proofs.Common.{map, string_bytes, arith}
 use Rattle.outside.specs.Causes.{Rose}
-use Rattle.glpsol_cli.specs.Pieces.{Outside}
 use Rattle.glpsol_cli.proofs.Writing.{failed_within}
 use Rattle.glpsol_cli.proofs.Carried.{stopped_cause, stopped_written, is_shown, found_cause, found_written, unpublished_cause, unpublished_written}
 use Rattle.glpsol_cli.proofs.work.carried_out.Goals as goal
