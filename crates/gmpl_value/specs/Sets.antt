@@ -1,6 +1,6 @@
 -- Sets of tuples as lists in the order of first insertion, and the operations on them.
 use Rattle.std.specs.Prelude.{ℕ, Bool, not, nat_lt, Result, Ok, Err, List, [], ◌∷◌, ◌++◌, length, map, filter, if◌then◌else◌}
-use Rattle.std.specs.List.{list_any, flat_map}
+use Rattle.std.specs.List.{list_any, list_all, flat_map}
 use Rattle.gmpl_value.specs.declared.symbol.Symbol.{Symbol}
 use Rattle.gmpl_value.specs.declared.fault.SetFault.{SetFault}
 use Rattle.gmpl_value.specs.declared.fault.SetFault.TheVariants.{TooMany}
@@ -12,6 +12,10 @@ Elements = List (List Symbol)
 
 abbrev pub is_member : Elements → List Symbol → Bool
 is_member elements tuple = list_any (tuple_eq tuple) elements
+
+-- each element of the first is one of the second
+abbrev pub is_within : Elements → Elements → Bool
+is_within first second = list_all (is_member second) first
 
 -- the most elements that a set has
 abbrev pub most_elements : ℕ

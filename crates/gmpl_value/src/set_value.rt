@@ -3,12 +3,12 @@ ghost use Rattle.std.specs.Prelude.{◌≡◌, [], not, IfOk, IfErr, OnOk, OnErr
 ghost use Rattle.std.specs.List.{IsDistinct};
 ghost use Rattle.gmpl_value.specs.SymbolEquality.{tuple_eq};
 ghost use Rattle.gmpl_value.specs.Follows.{Follows, Faults};
-ghost use Rattle.gmpl_value.specs.Sets.{is_member, with_element};
+ghost use Rattle.gmpl_value.specs.Sets.{is_member, is_within, with_element};
 
 use crate::fault::SetFault;
 use crate::tuple::Tuple;
 use indexmap::IndexSet;
-use std::alloc::Global;
+use std::alloc::{AllocError, Global};
 use std::marker::Model;
 
 /// A set of tuples, in the order in which they were first inserted. Clauses see the list.
@@ -58,6 +58,29 @@ impl SetValue {
         ensures { result ≡ is_member self.now tuple.now }
     {
         self.members.contains(tuple)
+    }
+
+    /// Whether each element is one of the other set.
+    pub fn is_within(&self, other: &SetValue) -> bool
+        ensures { result ≡ is_within self.now other.now }
+    {
+        for tuple in self.elements() {
+            if !other.contains(tuple) {
+                return false;
+            }
+        }
+        true
+    }
+
+    /// The same set again.
+    pub fn copied(&self, alloc: Global) -> Result<SetValue, AllocError>
+        ensures { IfOk result (λ made. made ≡ self.now) }
+    {
+        let mut members = IndexSet::new(alloc);
+        for tuple in self.elements() {
+            members.insert(tuple.copied(alloc)?)?;
+        }
+        Ok(SetValue { members })
     }
 
     /// Puts a tuple at the end, unless it is there, and tells whether it was new. `TooMany` exactly where
