@@ -6,7 +6,6 @@ mod operations;
 mod progression;
 mod set_value;
 mod symbol;
-mod text;
 mod tuple;
 
 pub use fault::SetFault;
@@ -14,5 +13,4 @@ pub use operations::{cross, diff, inter, symdiff, union};
 pub use progression::range;
 pub use set_value::SetValue;
 pub use symbol::Symbol;
-pub use text::Text;
 pub use tuple::Tuple;

@@ -73,7 +73,12 @@ fn add_all(alloc: Global, found: &mut SetValue, set: &SetValue) -> Result<(), Se
     Ok(())
 }
 
-fn add_without(alloc: Global, found: &mut SetValue, first: &SetValue, second: &SetValue) -> Result<(), SetFault>
+fn add_without(
+    alloc: Global,
+    found: &mut SetValue,
+    first: &SetValue,
+    second: &SetValue,
+) -> Result<(), SetFault>
     ensures { Follows result found.new (with_all found.old (without first.now second.now)) }
 {
     for tuple in first.elements() {
@@ -84,7 +89,12 @@ fn add_without(alloc: Global, found: &mut SetValue, first: &SetValue, second: &S
     Ok(())
 }
 
-fn add_joined(alloc: Global, found: &mut SetValue, tuple: &Tuple, second: &SetValue) -> Result<(), SetFault>
+fn add_joined(
+    alloc: Global,
+    found: &mut SetValue,
+    tuple: &Tuple,
+    second: &SetValue,
+) -> Result<(), SetFault>
     ensures { Follows result found.new (with_all found.old (joined_with second.now tuple.now)) }
 {
     for last in second.elements() {

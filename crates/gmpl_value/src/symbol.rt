@@ -3,8 +3,8 @@ ghost use Rattle.std.specs.Prelude.{◌≡◌, IfOk};
 ghost use Rattle.gmpl_value.specs.SymbolOrder.{symbol_order};
 ghost use Rattle.gmpl_value.specs.declared.symbol.Symbol.TheVariants.{Number, Word};
 
-use crate::text::Text;
 use fraction::Frac;
+use gmpl_text::Text;
 use std::alloc::{AllocError, Global};
 use std::cmp::Ordering;
 

@@ -7,7 +7,7 @@ pub returns-in_err-add_joined : goal.returns-in_err-add_joined
 returns-in_err-add_joined c =
     let f = c.in_err-add_joined.field-0.0 in
     let fails = joined_fails c.elements-tuple-items.result.now c.args.first.now c.args.second.now c.loop-tuple.found c.loop-tuple.tuple-index c.tuple-item.result f
-        c.elements-tuple-items.ensures.elements c.loop-tuple-test.true c.tuple-item.is c.in_err-add_joined.ensures in
+    c.elements-tuple-items.ensures.elements c.loop-tuple-test.true c.tuple-item.is c.in_err-add_joined.ensures in
     handed_on (λ s. s) c.from_residual.result f _ c.from_residual.ensures.1 (subst (Faults f) c.loop-tuple.invariant fails)
 
 pub loop-tuple-preserved : goal.loop-tuple-preserved

@@ -1,4 +1,4 @@
-use Rattle.std.proofs.Common.{◌≡◌, ◌≤◌, ◌∙◌, length, sym, ap, subst, []}
+use Rattle.std.proofs.Common.{◌≤◌, ◌∙◌, length, sym, ap, subst}
 use Rattle.std.proofs.lemmas.List.{drop_all}
 use Rattle.indexmap.specs.IndexSet.{insert_all}
 use Rattle.gmpl_value.specs.SymbolEquality.{tuple_eq}

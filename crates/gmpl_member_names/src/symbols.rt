@@ -1,9 +1,10 @@
 // The texts of symbols.
 ghost use Rattle.std.specs.Prelude.{◌≡◌, IfOk, OnOk, string_bytes, ◌++◌};
+ghost use Rattle.std.specs.List.{list_all};
 ghost use Rattle.fraction.specs.Text.{text_of};
 ghost use Rattle.gmpl_value.specs.declared.symbol.Symbol.TheVariants.{Number};
-ghost use Rattle.gmpl_names.specs.Names.{symbol_text, word_text, quoted, doubled, is_bare, begins_bare, goes_on_bare};
-ghost use Rattle.gmpl_names.specs.Narrow.{IsNarrow};
+ghost use Rattle.gmpl_member_names.specs.Names.{symbol_text, word_text, quoted, doubled, is_bare, begins_bare, goes_on_bare};
+ghost use Rattle.gmpl_member_names.specs.Narrow.{IsNarrow};
 
 use fraction::Frac;
 use gmpl_value::Symbol;
@@ -43,9 +44,20 @@ fn is_bare(text: &[u8]) -> bool
     ensures { result ≡ is_bare text.now }
 {
     match text {
-        [first, rest @ ..] => begins_bare(*first) && rest.iter().all(|c| goes_on_bare(*c)),
+        [first, rest @ ..] => begins_bare(*first) && all_go_on_bare(rest),
         [] => false,
     }
+}
+
+fn all_go_on_bare(text: &[u8]) -> bool
+    ensures { result ≡ list_all goes_on_bare text.now }
+{
+    for c in text {
+        if !goes_on_bare(*c) {
+            return false;
+        }
+    }
+    true
 }
 
 fn begins_bare(c: u8) -> bool

@@ -1,7 +1,7 @@
 // The names of members.
 ghost use Rattle.std.specs.Prelude.{◌≡◌, IfOk, OnOk, string_bytes, ◌++◌};
-ghost use Rattle.gmpl_names.specs.Names.{member_name, symbol_text, further};
-ghost use Rattle.gmpl_names.specs.Narrow.{IsNarrow, AreNarrow};
+ghost use Rattle.gmpl_member_names.specs.Names.{member_name, symbol_text, further};
+ghost use Rattle.gmpl_member_names.specs.Narrow.{IsNarrow, AreNarrow};
 
 use crate::symbols::symbol_text;
 use gmpl_value::{Symbol, Tuple};
