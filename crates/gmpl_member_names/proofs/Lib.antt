@@ -1,1 +1,4 @@
 mod Doubled
+mod NamesDiffer
+mod NumberTexts
+mod Split

@@ -1,7 +1,6 @@
 -- Numbers of at most 64 digits in numerator and denominator, as each fraction of 128 bits has.
-use Rattle.std.specs.Prelude.{ℕ, ◌<◌, ◌^◌, List, unsigned_abs}
+use Rattle.std.specs.Prelude.{◌<◌, ◌^◌, List, unsigned_abs}
 use Rattle.std.specs.List.{AllByRecursion}
-use Rattle.rational.specs.Rational.{Rational}
 use Rattle.gmpl_value.specs.declared.symbol.Symbol.{Symbol}
 use Rattle.gmpl_value.specs.declared.symbol.Symbol.TheVariants.{Number, Word}
 

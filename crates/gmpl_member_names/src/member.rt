@@ -17,7 +17,11 @@ pub fn member_name(alloc: Global, name: &str, subscripts: &Tuple) -> Result<Stri
     Ok(made)
 }
 
-fn push_subscripts(alloc: Global, made: &mut String, subscripts: &[Symbol]) -> Result<(), AllocError>
+fn push_subscripts(
+    alloc: Global,
+    made: &mut String,
+    subscripts: &[Symbol],
+) -> Result<(), AllocError>
     ensures name { OnOk result (string_bytes made.new ≡ member_name (string_bytes made.old) subscripts.now) }
     ensures narrow { OnOk result (AreNarrow subscripts.now) }
 {

@@ -1,4 +1,4 @@
-use Rattle.std.proofs.Common.{rules, arith, ◌≡◌, ◌<◌, ◌++◌, string_bytes}
+use Rattle.std.proofs.Common.{rules, arith, ◌<◌, ◌++◌, string_bytes}
 use Rattle.std.proofs.lemmas.Str.Pattern.{split_once_first}
 use Rattle.gmpl_member_names.specs.Names.{doubled}
 use Rattle.gmpl_member_names.proofs.Doubled.{part_doubled, last_doubled}
@@ -12,7 +12,7 @@ loop-before-preserved c =
     record {
       utf8 = search rules;
       made = part_doubled (string_bytes c.loop-before.made) (string_bytes c.push_str.new.self) (string_bytes c.push_str-in-Some.new.self) rest c.in-Some.before.now c.in-Some.after.now
-        (string_bytes c.args.made.now ++ doubled c.args.text.now) c.loop-before.invariant.made parts.0 parts.1 parts.2 c.in_ok-push_str.ensures.bytes c.in_ok-push_str-2.ensures.bytes
+          (string_bytes c.args.made.now ++ doubled c.args.text.now) c.loop-before.invariant.made parts.0 parts.1 parts.2 c.in_ok-push_str.ensures.bytes c.in_ok-push_str-2.ensures.bytes;
     }
 
 pub returns : goal.returns
