@@ -137,11 +137,20 @@ pub struct Indexing {
     pub condition: Option<Boxed<Expr>>,
 }
 
-/// An entry between braces: a set or an element, with the index before `in` where it has one. An index is a name alone, or a
-/// group.
+/// An entry between braces: a set or an element, with the components of the index before `in` where it has one.
 #[cycle(syntax)]
 #[derive(Drop)]
 pub struct Entry {
-    pub index: Option<Boxed<Expr>>,
+    pub index: Option<Items<Component>>,
     pub set: Expr,
+}
+
+/// A component of an index.
+#[cycle(syntax)]
+#[derive(Drop)]
+pub enum Component {
+    /// A name alone: a new index where the name means nothing else.
+    Name(Text),
+    /// Any other expression, which the element's component must equal.
+    Value(Expr),
 }

@@ -5,12 +5,14 @@
 
 mod expression;
 mod fault;
+mod index;
 mod statement;
 
 pub use expression::{
-    Entry, Expr, Function, Indexing, Iteration, Link, Operator, Relation, Sign, Suffix,
+    Component, Entry, Expr, Function, Indexing, Iteration, Link, Operator, Relation, Sign, Suffix,
 };
 pub use fault::{SyntaxFault, SyntaxFaultKind};
+pub use index::index_components;
 pub use statement::{
     Action, Attribute, Constraint, Declaration, Direction, Head, InputColumn, Numbered, Objective,
     OutputColumn, Statement, Statements, TableInput, TableOutput,
