@@ -1,5 +1,5 @@
 // Worked sums, products and quotients, with values from Python.
-use crate::Wide;
+use wide::Wide;
 
 const P: u128 = 170141183460469231731687303715884105727;
 
