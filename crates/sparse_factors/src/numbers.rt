@@ -4,26 +4,8 @@ ghost use Rattle.std.specs.Prelude.{◌≤◌, ◌<◌};
 use crate::stop::Stop;
 use fraction::Frac;
 
-/// a is 0.
-#[inline]
-pub(crate) fn is_zero(a: Frac) -> bool {
-    a.parts().0 == 0
-}
-
-/// a is above 0.
-#[inline]
-pub(crate) fn is_positive(a: Frac) -> bool {
-    a.parts().0 > 0
-}
-
-/// a is below 0.
-#[inline]
-pub(crate) fn is_negative(a: Frac) -> bool {
-    a.parts().0 < 0
-}
-
 /// The whole number n.
-pub(crate) fn whole(n: i128) -> Result<Frac, Stop> {
+pub fn whole(n: i128) -> Result<Frac, Stop> {
     if n == i128::MIN {
         return Err(Stop::NoFit);
     }
@@ -31,9 +13,9 @@ pub(crate) fn whole(n: i128) -> Result<Frac, Stop> {
 }
 
 /// a b
-pub(crate) fn product(a: Frac, b: Frac) -> Result<Frac, Stop> {
-    if is_zero(a) || is_zero(b) {
-        return Ok(Frac::whole(0));
+pub fn product(a: Frac, b: Frac) -> Result<Frac, Stop> {
+    if a.is_zero() || b.is_zero() {
+        return Ok(Frac::zero());
     }
     match a.mul(b) {
         Ok(c) => Ok(c),
@@ -42,8 +24,8 @@ pub(crate) fn product(a: Frac, b: Frac) -> Result<Frac, Stop> {
 }
 
 /// t a + b, exact where the value fits.
-pub(crate) fn fused(t: Frac, a: Frac, b: Frac) -> Result<Frac, Stop> {
-    if is_zero(t) || is_zero(a) {
+pub fn fused(t: Frac, a: Frac, b: Frac) -> Result<Frac, Stop> {
+    if t.is_zero() || a.is_zero() {
         return Ok(b);
     }
     match t.mul_add(a, b) {
@@ -53,24 +35,24 @@ pub(crate) fn fused(t: Frac, a: Frac, b: Frac) -> Result<Frac, Stop> {
 }
 
 /// a + b, exact where the value fits.
-pub(crate) fn sum(a: Frac, b: Frac) -> Result<Frac, Stop> {
-    if is_zero(a) {
+pub fn sum(a: Frac, b: Frac) -> Result<Frac, Stop> {
+    if a.is_zero() {
         return Ok(b);
     }
-    if is_zero(b) {
+    if b.is_zero() {
         return Ok(a);
     }
-    fused(Frac::whole(1), a, b)
+    fused(Frac::one(), a, b)
 }
 
 /// a - b, exact where the value fits.
-pub(crate) fn difference(a: Frac, b: Frac) -> Result<Frac, Stop> {
+pub fn difference(a: Frac, b: Frac) -> Result<Frac, Stop> {
     sum(a, b.neg())
 }
 
 /// a / b
-pub(crate) fn quotient(a: Frac, b: Frac) -> Result<Frac, Stop> {
-    if b.parts().0 == 0 {
+pub fn quotient(a: Frac, b: Frac) -> Result<Frac, Stop> {
+    if b.is_zero() {
         return Err(Stop::NoFit);
     }
     match a.div(b) {
@@ -80,7 +62,7 @@ pub(crate) fn quotient(a: Frac, b: Frac) -> Result<Frac, Stop> {
 }
 
 /// The logarithm of the size of a number that is not 0, to the base 2, in steps of 1/256.
-pub(crate) fn log(a: Frac) -> i32 {
+pub fn log(a: Frac) -> i32 {
     let (numerator, denominator) = a.parts();
     log_of(numerator.unsigned_abs()).saturating_sub(log_of(denominator.unsigned_abs()))
 }
@@ -111,7 +93,7 @@ fn after_top(n: u128, top: u32) -> u32
 }
 
 /// How many binary digits the numerator and the denominator have.
-pub(crate) fn digits(a: Frac) -> i32 {
+pub fn digits(a: Frac) -> i32 {
     let (numerator, denominator) = a.parts();
     let sum = length(numerator.unsigned_abs()) + length(denominator.unsigned_abs());
     sum as i32

@@ -1,17 +1,17 @@
 // The state of a search: a basis with its factors, the values and prices of all variables, and what guides the choices.
-use crate::factors::{Factored, Factors, factorise};
 use crate::model::{Bounds, Model};
-use crate::numbers::{difference, digits, is_negative, is_zero, log};
 use crate::scaling::units_of;
 use crate::start::Start;
-use crate::stop::Stop;
-use crate::vectors::{at, copied, filled, number_at, put, zeros};
 use fraction::Frac;
+use sparse_factors::{
+    Factored, Factors, Stop, at, copied, difference, digits, factorise, filled, log, number_at,
+    put, zeros,
+};
 use std::alloc::Global;
 
 /// Which variable is taken among those with equal ratios.
 #[derive(Clone, Copy, PartialEq, Eq)]
-pub(crate) enum TieRule {
+pub enum TieRule {
     /// The one with the largest entry.
     Largest,
     /// The one with the shortest number.
@@ -28,7 +28,7 @@ const STEPS_BETWEEN: usize = 60;
 
 /// A basis on the way, and what is known of it.
 #[derive(Drop)]
-pub(crate) struct State {
+pub struct State {
     pub model: Model,
     pub factors: Factors,
     // the variable of each slot, and the slot of each basic variable
@@ -57,14 +57,9 @@ pub(crate) struct State {
 
 impl State {
     /// The state at a basis, its values and prices not yet found.
-    pub(crate) fn at_basis(
-        alloc: Global,
-        model: Model,
-        start: Start,
-        steps: u32,
-    ) -> Result<State, Stop> {
+    pub fn at_basis(alloc: Global, model: Model, start: Start, steps: u32) -> Result<State, Stop> {
         let size = model.size();
-        let Factored { factors, slots } = factorise(alloc, &model, &start.basic)?;
+        let Factored { factors, slots } = factorise(alloc, &model.matrix, &start.basic)?;
         let mut state = State {
             factors,
             slots,
@@ -74,8 +69,8 @@ impl State {
             costs: copied(alloc, &model.costs)?,
             values: zeros(alloc, size)?,
             prices: zeros(alloc, size)?,
-            gaps: filled(alloc, model.rows, None)?,
-            weights: filled(alloc, model.rows, 0)?,
+            gaps: filled(alloc, model.matrix.rows, None)?,
+            weights: filled(alloc, model.matrix.rows, 0)?,
             units: units_of(alloc, &model)?,
             entries: zeros(alloc, size)?,
             touched: Vec::new(alloc),
@@ -102,60 +97,60 @@ impl State {
 
     /// Whether the variable is basic.
     #[inline]
-    pub(crate) fn is_basic(&self, v: usize) -> bool {
+    pub fn is_basic(&self, v: usize) -> bool {
         at(&self.places, v, None).is_some()
     }
 
     #[inline]
-    pub(crate) fn is_fixed(&self, v: usize) -> bool {
+    pub fn is_fixed(&self, v: usize) -> bool {
         at(&self.is_fixed, v, false)
     }
 
     #[inline]
-    pub(crate) fn rests_above(&self, v: usize) -> bool {
+    pub fn rests_above(&self, v: usize) -> bool {
         at(&self.at_upper, v, false)
     }
 
     #[inline]
-    pub(crate) fn unit_of(&self, v: usize) -> i32 {
+    pub fn unit_of(&self, v: usize) -> i32 {
         at(&self.units, v, 0)
     }
 
     #[inline]
-    pub(crate) fn value_of(&self, v: usize) -> Frac {
+    pub fn value_of(&self, v: usize) -> Frac {
         number_at(&self.values, v)
     }
 
     #[inline]
-    pub(crate) fn price_of(&self, v: usize) -> Frac {
+    pub fn price_of(&self, v: usize) -> Frac {
         number_at(&self.prices, v)
     }
 
     #[inline]
-    pub(crate) fn variable_at(&self, slot: usize) -> usize {
+    pub fn variable_at(&self, slot: usize) -> usize {
         at(&self.slots, slot, usize::MAX)
     }
 
     /// The resting variable may rise.
     #[inline]
-    pub(crate) fn may_rise(&self, bounds: Bounds, v: usize) -> bool {
+    pub fn may_rise(&self, bounds: Bounds, v: usize) -> bool {
         bounds.upper.is_none() || !self.rests_above(v)
     }
 
     /// The resting variable may fall.
     #[inline]
-    pub(crate) fn may_fall(&self, bounds: Bounds, v: usize) -> bool {
+    pub fn may_fall(&self, bounds: Bounds, v: usize) -> bool {
         bounds.lower.is_none() || self.rests_above(v)
     }
 
     /// The resting variable's price is wrong where it rests: it should move.
-    pub(crate) fn should_move(&self, v: usize) -> bool {
+    pub fn should_move(&self, v: usize) -> bool {
         let price = self.price_of(v);
-        if is_zero(price) || self.is_basic(v) || self.is_fixed(v) {
+        if price.is_zero() || self.is_basic(v) || self.is_fixed(v) {
             return false;
         }
         let bounds = self.model.bounds_of(v);
-        if is_negative(price) {
+        if price.is_negative() {
             self.may_rise(bounds, v)
         } else {
             self.may_fall(bounds, v)
@@ -163,13 +158,13 @@ impl State {
     }
 
     /// So many steps of length 0 came in a row that the least index is taken.
-    pub(crate) fn is_careful(&self) -> bool {
-        let patience = PATIENCE.saturating_add(self.model.rows.saturating_mul(2));
+    pub fn is_careful(&self) -> bool {
+        let patience = PATIENCE.saturating_add(self.model.matrix.rows.saturating_mul(2));
         self.stalls > patience
     }
 
     /// What ranks the entry a among equal ratios, its size in units of `unit`.
-    pub(crate) fn tie_key(&self, a: Frac, unit: i32) -> i32 {
+    pub fn tie_key(&self, a: Frac, unit: i32) -> i32 {
         match self.ties {
             TieRule::Largest => log(a).saturating_add(unit),
             TieRule::Shortest => 0i32.saturating_sub(digits(a)),
@@ -184,7 +179,7 @@ impl State {
     }
 
     /// One step is taken, if one is left.
-    pub(crate) fn count_step(&mut self) -> Result<(), Stop> {
+    pub fn count_step(&mut self) -> Result<(), Stop> {
         match self.steps_left.checked_sub(1) {
             Some(left) => {
                 self.steps_left = left;
@@ -195,7 +190,7 @@ impl State {
     }
 
     /// A step may have length 0.
-    pub(crate) fn count_stall(&mut self, is_stall: bool) {
+    pub fn count_stall(&mut self, is_stall: bool) {
         self.stalls = if is_stall {
             self.stalls.saturating_add(1)
         } else {
@@ -222,7 +217,7 @@ impl State {
     }
 
     /// Lets a variable rest at its bound, or at 0 where it has none.
-    pub(crate) fn rest(&mut self, v: usize) {
+    pub fn rest(&mut self, v: usize) {
         let bounds = self.model.bounds_of(v);
         let above = if self.rests_above(v) {
             bounds.upper.is_some()
@@ -231,11 +226,11 @@ impl State {
         };
         put(&mut self.at_upper, v, above);
         let bound = if above { bounds.upper } else { bounds.lower };
-        put(&mut self.values, v, bound.unwrap_or(Frac::whole(0)));
+        put(&mut self.values, v, bound.unwrap_or(Frac::zero()));
     }
 
     /// Lets a resting variable rest at its other bound.
-    pub(crate) fn flip(&mut self, v: usize) {
+    pub fn flip(&mut self, v: usize) {
         let above = self.rests_above(v);
         put(&mut self.at_upper, v, !above);
         self.rest(v);
@@ -244,13 +239,13 @@ impl State {
     // ---- gaps
 
     /// How far the variable of a slot is beyond a bound.
-    pub(crate) fn look_at(&mut self, slot: usize) {
+    pub fn look_at(&mut self, slot: usize) {
         let gap = self.gap_of(self.variable_at(slot));
         put(&mut self.gaps, slot, gap);
     }
 
     /// The same for all slots.
-    pub(crate) fn look_at_all(&mut self) {
+    pub fn look_at_all(&mut self) {
         for slot in 0..self.slots.len() {
             self.look_at(slot);
         }
@@ -270,7 +265,7 @@ impl State {
     }
 
     /// No bound is broken.
-    pub(crate) fn is_feasible(&self) -> bool {
+    pub fn is_feasible(&self) -> bool {
         for gap in &self.gaps {
             if gap.is_some() {
                 return false;
@@ -284,7 +279,7 @@ impl State {
     /// Factors the basis anew. Values and prices stay.
     fn refactor(&mut self, alloc: Global) -> Result<(), Stop> {
         let weights = self.weights_by_variable(alloc)?;
-        let Factored { factors, slots } = factorise(alloc, &self.model, &self.slots)?;
+        let Factored { factors, slots } = factorise(alloc, &self.model.matrix, &self.slots)?;
         self.factors = factors;
         self.slots = slots;
         self.settle();
@@ -293,7 +288,7 @@ impl State {
     }
 
     /// The same, but where its numbers do not fit the factors stay, for longer than before.
-    pub(crate) fn try_to_refactor(&mut self, alloc: Global) -> Result<(), Stop> {
+    pub fn try_to_refactor(&mut self, alloc: Global) -> Result<(), Stop> {
         match self.refactor(alloc) {
             Err(Stop::NoFit) => {
                 self.steps_between = self.steps_between.saturating_mul(2);
@@ -318,7 +313,7 @@ impl State {
     }
 
     /// Whether it is time to factor anew.
-    pub(crate) fn is_worn(&self) -> bool {
+    pub fn is_worn(&self) -> bool {
         self.factors.is_worn(self.steps_between)
     }
 }

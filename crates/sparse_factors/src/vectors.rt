@@ -6,7 +6,7 @@ use std::mem;
 
 /// The element at a place, or the other one where there is none.
 #[inline]
-pub(crate) fn at<T: Copy>(list: &[T], place: usize, other: T) -> T {
+pub fn at<T: Copy>(list: &[T], place: usize, other: T) -> T {
     if place < list.len() {
         list[place]
     } else {
@@ -16,7 +16,7 @@ pub(crate) fn at<T: Copy>(list: &[T], place: usize, other: T) -> T {
 
 /// Writes an element at a place, where there is one.
 #[inline]
-pub(crate) fn put<T: Copy>(list: &mut [T], place: usize, x: T) {
+pub fn put<T: Copy>(list: &mut [T], place: usize, x: T) {
     if place < list.len() {
         list[place] = x;
     }
@@ -24,17 +24,17 @@ pub(crate) fn put<T: Copy>(list: &mut [T], place: usize, x: T) {
 
 /// The number at a place, or 0.
 #[inline]
-pub(crate) fn number_at(list: &[Frac], place: usize) -> Frac {
+pub fn number_at(list: &[Frac], place: usize) -> Frac {
     if place < list.len() {
         list[place]
     } else {
-        Frac::whole(0)
+        Frac::zero()
     }
 }
 
 /// One more element at the end.
 #[inline]
-pub(crate) fn add<T: Drop>(list: &mut Vec<T>, x: T) -> Result<(), Stop> {
+pub fn add<T: Drop>(list: &mut Vec<T>, x: T) -> Result<(), Stop> {
     match list.push(x) {
         Ok(()) => Ok(()),
         Err(_) => Err(Stop::NoMemory),
@@ -42,7 +42,7 @@ pub(crate) fn add<T: Drop>(list: &mut Vec<T>, x: T) -> Result<(), Stop> {
 }
 
 /// One more element at the end of a list of lists' list.
-pub(crate) fn add_to<T: Copy>(lists: &mut [Vec<T>], place: usize, x: T) -> Result<(), Stop> {
+pub fn add_to<T: Copy>(lists: &mut [Vec<T>], place: usize, x: T) -> Result<(), Stop> {
     if place < lists.len() {
         add(&mut lists[place], x)
     } else {
@@ -67,7 +67,7 @@ pub(crate) fn put_list<T: Copy>(lists: &mut [Vec<T>], place: usize, list: Vec<T>
 }
 
 /// So many copies of a value.
-pub(crate) fn filled<T: Copy>(alloc: Global, count: usize, x: T) -> Result<Vec<T>, Stop> {
+pub fn filled<T: Copy>(alloc: Global, count: usize, x: T) -> Result<Vec<T>, Stop> {
     let mut list = Vec::with_capacity(alloc, count)?;
     for _ in 0..count {
         add(&mut list, x)?;
@@ -76,12 +76,12 @@ pub(crate) fn filled<T: Copy>(alloc: Global, count: usize, x: T) -> Result<Vec<T
 }
 
 /// So many zeros.
-pub(crate) fn zeros(alloc: Global, count: usize) -> Result<Vec<Frac>, Stop> {
-    filled(alloc, count, Frac::whole(0))
+pub fn zeros(alloc: Global, count: usize) -> Result<Vec<Frac>, Stop> {
+    filled(alloc, count, Frac::zero())
 }
 
 /// So many empty lists.
-pub(crate) fn empty_lists<T: Copy>(alloc: Global, count: usize) -> Result<Vec<Vec<T>>, Stop> {
+pub fn empty_lists<T: Copy>(alloc: Global, count: usize) -> Result<Vec<Vec<T>>, Stop> {
     let mut lists = Vec::with_capacity(alloc, count)?;
     for _ in 0..count {
         add(&mut lists, Vec::new(alloc))?;
@@ -90,7 +90,7 @@ pub(crate) fn empty_lists<T: Copy>(alloc: Global, count: usize) -> Result<Vec<Ve
 }
 
 /// A list, copied.
-pub(crate) fn copied<T: Copy>(alloc: Global, list: &[T]) -> Result<Vec<T>, Stop> {
+pub fn copied<T: Copy>(alloc: Global, list: &[T]) -> Result<Vec<T>, Stop> {
     let mut copy = Vec::with_capacity(alloc, list.len())?;
     for x in list {
         add(&mut copy, *x)?;
@@ -112,10 +112,10 @@ pub(crate) fn count_down(counts: &mut [usize], place: usize) -> usize {
 }
 
 /// The places of the numbers that are not 0.
-pub(crate) fn nonzero_places(alloc: Global, list: &[Frac]) -> Result<Vec<usize>, Stop> {
+pub fn nonzero_places(alloc: Global, list: &[Frac]) -> Result<Vec<usize>, Stop> {
     let mut places = Vec::new(alloc);
     for place in 0..list.len() {
-        if list[place].parts().0 != 0 {
+        if !list[place].is_zero() {
             add(&mut places, place)?;
         }
     }

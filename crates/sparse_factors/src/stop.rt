@@ -3,7 +3,7 @@ use std::alloc::AllocError;
 
 /// Why a search ends without an answer.
 #[derive(Clone, Copy, Debug, PartialEq, Eq)]
-pub(crate) enum Stop {
+pub enum Stop {
     /// A number does not fit, or something is not as it should be.
     NoFit,
     /// The steps are used up.

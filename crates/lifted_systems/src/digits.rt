@@ -1,6 +1,6 @@
 // Numbers of 384 bits, and the fraction that one stands for by a modulus. What passes 384 bits is cut off.
-use crate::numbers::{quotient, whole};
 use fraction::Frac;
+use sparse_factors::{quotient, whole};
 
 const WORDS: usize = 6;
 

@@ -1,20 +1,19 @@
 // The basis where a search starts.
 use crate::model::Model;
-use crate::stop::Stop;
-use crate::vectors::{add, at, filled};
 use basis::Place;
 use search_node::Basis;
+use sparse_factors::{Stop, add, at, filled};
 use std::alloc::Global;
 
 /// The basic variables, and whether each of the others rests at its upper bound.
 #[derive(Drop)]
-pub(crate) struct Start {
+pub struct Start {
     pub basic: Vec<usize>,
     pub at_upper: Vec<bool>,
 }
 
 /// The basis that is given, where it has a place for each variable, else that of the rows.
-pub(crate) fn start_of(alloc: Global, model: &Model, basis: Option<&Basis>) -> Result<Start, Stop> {
+pub fn start_of(alloc: Global, model: &Model, basis: Option<&Basis>) -> Result<Start, Stop> {
     match basis {
         Some(basis) if basis.as_slice().len() == model.size() => {
             given(alloc, model, basis.as_slice())
@@ -24,16 +23,16 @@ pub(crate) fn start_of(alloc: Global, model: &Model, basis: Option<&Basis>) -> R
 }
 
 fn rows(alloc: Global, model: &Model) -> Result<Start, Stop> {
-    let mut basic = Vec::with_capacity(alloc, model.rows)?;
-    for row in 0..model.rows {
-        add(&mut basic, model.variable_of(row))?;
+    let mut basic = Vec::with_capacity(alloc, model.matrix.rows)?;
+    for row in 0..model.matrix.rows {
+        add(&mut basic, model.matrix.variable_of(row))?;
     }
     let at_upper = filled(alloc, model.size(), false)?;
     Ok(Start { basic, at_upper })
 }
 
 fn given(alloc: Global, model: &Model, places: &[Place]) -> Result<Start, Stop> {
-    let mut basic = Vec::with_capacity(alloc, model.rows)?;
+    let mut basic = Vec::with_capacity(alloc, model.matrix.rows)?;
     let mut at_upper = Vec::with_capacity(alloc, places.len())?;
     for v in 0..places.len() {
         let place = places[v];
@@ -46,8 +45,8 @@ fn given(alloc: Global, model: &Model, places: &[Place]) -> Result<Start, Stop> 
 }
 
 /// Where a variable is said to rest if it is at its upper bound: that of a row is minus the row's value.
-pub(crate) fn upper_place(model: &Model, v: usize) -> Place {
-    if v < model.columns {
+pub fn upper_place(model: &Model, v: usize) -> Place {
+    if v < model.matrix.columns {
         Place::AtUpper
     } else {
         Place::AtLower
@@ -55,8 +54,8 @@ pub(crate) fn upper_place(model: &Model, v: usize) -> Place {
 }
 
 /// Where a variable is said to rest if it is at its lower bound.
-pub(crate) fn lower_place(model: &Model, v: usize) -> Place {
-    if v < model.columns {
+pub fn lower_place(model: &Model, v: usize) -> Place {
+    if v < model.matrix.columns {
         Place::AtLower
     } else {
         Place::AtUpper
@@ -64,7 +63,7 @@ pub(crate) fn lower_place(model: &Model, v: usize) -> Place {
 }
 
 /// The places of all variables.
-pub(crate) fn places_of(
+pub fn places_of(
     alloc: Global,
     model: &Model,
     slots: &[Option<usize>],

@@ -2,8 +2,8 @@
 // their pivots; the rows' own variables are unit columns and cost nothing.
 use crate::elimination::Elimination;
 use crate::lists::{Entry, Lists};
-use crate::model::Model;
-use crate::numbers::{fused, is_zero, product, quotient};
+use crate::matrix::Matrix;
+use crate::numbers::{fused, product, quotient};
 use crate::stop::Stop;
 use crate::vectors::{add, at, number_at, put};
 use fraction::Frac;
@@ -18,7 +18,7 @@ struct Change {
 
 /// The factors of a basis.
 #[derive(Drop)]
-pub(crate) struct Factors {
+pub struct Factors {
     order: Vec<usize>,
     inverses: Vec<Frac>,
     lower_columns: Lists,
@@ -32,17 +32,17 @@ pub(crate) struct Factors {
 
 /// The factors of a basis, and the variable of each slot.
 #[derive(Drop)]
-pub(crate) struct Factored {
+pub struct Factored {
     pub factors: Factors,
     pub slots: Vec<usize>,
 }
 
 /// Factors the basis that is made of these variables. Where their columns depend on each other, rows' own variables
 /// take the place of some of them.
-pub(crate) fn factorise(alloc: Global, model: &Model, basic: &[usize]) -> Result<Factored, Stop> {
-    let mut elimination = Elimination::start(alloc, model, basic)?;
+pub fn factorise(alloc: Global, matrix: &Matrix, basic: &[usize]) -> Result<Factored, Stop> {
+    let mut elimination = Elimination::start(alloc, matrix, basic)?;
     take_pivots(alloc, &mut elimination)?;
-    elimination.fill_up(model)?;
+    elimination.fill_up(matrix)?;
     let Elimination {
         slots,
         slack_rows,
@@ -52,9 +52,9 @@ pub(crate) fn factorise(alloc: Global, model: &Model, basic: &[usize]) -> Result
         upper,
         ..
     } = elimination;
-    let lower_rows = lower.turned(alloc, &order, model.rows)?;
-    let upper_rows = upper.turned(alloc, &order, model.rows)?;
-    let slots = all_slots(alloc, model, &slots)?;
+    let lower_rows = lower.turned(alloc, &order, matrix.rows)?;
+    let upper_rows = upper.turned(alloc, &order, matrix.rows)?;
+    let slots = all_slots(alloc, matrix, &slots)?;
     let factors = Factors {
         order,
         inverses,
@@ -79,12 +79,12 @@ fn take_pivots(alloc: Global, elimination: &mut Elimination) -> Result<(), Stop>
     Ok(())
 }
 
-fn all_slots(alloc: Global, model: &Model, slots: &[Option<usize>]) -> Result<Vec<usize>, Stop> {
+fn all_slots(alloc: Global, matrix: &Matrix, slots: &[Option<usize>]) -> Result<Vec<usize>, Stop> {
     let mut all = Vec::with_capacity(alloc, slots.len())?;
     for row in 0..slots.len() {
         match slots[row] {
             Some(v) => add(&mut all, v)?,
-            None => add(&mut all, model.variable_of(row))?,
+            None => add(&mut all, matrix.variable_of(row))?,
         }
     }
     Ok(all)
@@ -106,7 +106,7 @@ fn minus_products(x: &[Frac], entries: &[Entry], first: Frac) -> Result<Frac, St
     let mut sum = first;
     for entry in entries {
         let number = number_at(x, entry.at);
-        if !is_zero(number) {
+        if !number.is_zero() {
             sum = fused(number.neg(), entry.number, sum)?;
         }
     }
@@ -115,12 +115,12 @@ fn minus_products(x: &[Frac], entries: &[Entry], first: Frac) -> Result<Frac, St
 
 impl Factors {
     /// No change came since the basis was factored.
-    pub(crate) fn is_fresh(&self) -> bool {
+    pub fn is_fresh(&self) -> bool {
         self.changes.is_empty()
     }
 
     /// It is time to factor anew.
-    pub(crate) fn is_worn(&self, most: usize) -> bool {
+    pub fn is_worn(&self, most: usize) -> bool {
         let lower = self.lower_columns.entry_count();
         let upper = self.upper_columns.entry_count();
         let room = lower
@@ -130,8 +130,8 @@ impl Factors {
     }
 
     /// A column takes a slot: its numbers as slots give them, and the places of those that are not 0.
-    pub(crate) fn exchange(&mut self, slot: usize, x: &[Frac], used: &[usize]) -> Result<(), Stop> {
-        let inverse = quotient(Frac::whole(1), number_at(x, slot))?;
+    pub fn exchange(&mut self, slot: usize, x: &[Frac], used: &[usize]) -> Result<(), Stop> {
+        let inverse = quotient(Frac::one(), number_at(x, slot))?;
         add(&mut self.changes, Change { slot, inverse })?;
         for place in used {
             if *place != slot {
@@ -147,7 +147,7 @@ impl Factors {
     // ---- B x = a
 
     /// Solves B x = a, where a is given and x comes in its place, by slots.
-    pub(crate) fn solve_columns(&self, x: &mut [Frac]) -> Result<(), Stop> {
+    pub fn solve_columns(&self, x: &mut [Frac]) -> Result<(), Stop> {
         self.lower_forward(x)?;
         self.upper_backward(x)?;
         self.changes_forward(x)
@@ -158,7 +158,7 @@ impl Factors {
             let list = self.lower_columns.list(k);
             if !list.is_empty() {
                 let number = number_at(x, self.order[k]);
-                if !is_zero(number) {
+                if !number.is_zero() {
                     add_multiple(x, list, number.neg())?;
                 }
             }
@@ -170,7 +170,7 @@ impl Factors {
         for k in (0..self.order.len()).rev() {
             let row = at(&self.order, k, 0);
             let number = number_at(x, row);
-            if !is_zero(number) {
+            if !number.is_zero() {
                 let solved = product(number, number_at(&self.inverses, row))?;
                 put(x, row, solved);
                 add_multiple(x, self.upper_columns.list(k), solved.neg())?;
@@ -183,7 +183,7 @@ impl Factors {
         for k in 0..self.changes.len() {
             let change = self.changes[k];
             let number = number_at(x, change.slot);
-            if !is_zero(number) {
+            if !number.is_zero() {
                 let solved = product(number, change.inverse)?;
                 put(x, change.slot, solved);
                 add_multiple(x, self.change_entries.list(k), solved.neg())?;
@@ -195,7 +195,7 @@ impl Factors {
     // ---- y B = c
 
     /// Solves y B = c, where c is given by slots and y comes in its place, by rows.
-    pub(crate) fn solve_rows(&self, y: &mut [Frac]) -> Result<(), Stop> {
+    pub fn solve_rows(&self, y: &mut [Frac]) -> Result<(), Stop> {
         self.changes_backward(y)?;
         self.slacks_forward(y)?;
         self.upper_forward(y)?;
@@ -217,7 +217,7 @@ impl Factors {
     fn slacks_forward(&self, y: &mut [Frac]) -> Result<(), Stop> {
         for row in &self.slack_rows {
             let number = number_at(y, *row);
-            if !is_zero(number) {
+            if !number.is_zero() {
                 add_multiple(y, self.upper_rows.list(*row), number.neg())?;
             }
         }
@@ -227,7 +227,7 @@ impl Factors {
     fn upper_forward(&self, y: &mut [Frac]) -> Result<(), Stop> {
         for row in &self.order {
             let number = number_at(y, *row);
-            if !is_zero(number) {
+            if !number.is_zero() {
                 let solved = product(number, number_at(&self.inverses, *row))?;
                 put(y, *row, solved);
                 add_multiple(y, self.upper_rows.list(*row), solved.neg())?;
@@ -242,7 +242,7 @@ impl Factors {
             let list = self.lower_rows.list(row);
             if !list.is_empty() {
                 let number = number_at(y, row);
-                if !is_zero(number) {
+                if !number.is_zero() {
                     add_multiple(y, list, number.neg())?;
                 }
             }

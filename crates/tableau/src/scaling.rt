@@ -1,9 +1,6 @@
 // The units of the variables, as logarithms: so that sizes are compared fairly. They only guide.
-use crate::lists::Lists;
 use crate::model::Model;
-use crate::numbers::log;
-use crate::stop::Stop;
-use crate::vectors::{add, at, copied, filled};
+use sparse_factors::{Lists, Stop, add, at, copied, filled, log};
 use std::alloc::Global;
 
 // How often rows and columns are scaled in turn.
@@ -11,11 +8,11 @@ const ROUNDS: u32 = 3;
 
 /// The units of all variables, by a few rounds of geometric means of the largest and smallest entries.
 pub(crate) fn units_of(alloc: Global, model: &Model) -> Result<Vec<i32>, Stop> {
-    let mut rows = filled(alloc, model.rows, 0)?;
-    let mut columns = filled(alloc, model.columns, 0)?;
+    let mut rows = filled(alloc, model.matrix.rows, 0)?;
+    let mut columns = filled(alloc, model.matrix.columns, 0)?;
     for _ in 0..ROUNDS {
-        scale(&mut rows, &model.by_row, &columns);
-        scale(&mut columns, &model.by_column, &rows);
+        scale(&mut rows, &model.matrix.by_row, &columns);
+        scale(&mut columns, &model.matrix.by_column, &rows);
     }
     let mut units = copied(alloc, &columns)?;
     add_negatives(&mut units, &rows)?;

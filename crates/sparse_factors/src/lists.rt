@@ -6,21 +6,21 @@ use std::alloc::Global;
 
 /// A number, and the place that it belongs to.
 #[derive(Clone, Copy)]
-pub(crate) struct Entry {
+pub struct Entry {
     pub at: usize,
     pub number: Frac,
 }
 
 /// Lists of entries, one after the other.
 #[derive(Drop)]
-pub(crate) struct Lists {
+pub struct Lists {
     ends: Vec<usize>,
     entries: Vec<Entry>,
 }
 
 impl Lists {
     /// No lists.
-    pub(crate) fn new(alloc: Global) -> Lists {
+    pub fn new(alloc: Global) -> Lists {
         Lists {
             ends: Vec::new(alloc),
             entries: Vec::new(alloc),
@@ -28,18 +28,18 @@ impl Lists {
     }
 
     /// One more entry of the list that is open.
-    pub(crate) fn put(&mut self, entry: Entry) -> Result<(), Stop> {
+    pub fn put(&mut self, entry: Entry) -> Result<(), Stop> {
         add(&mut self.entries, entry)
     }
 
     /// Ends the list that is open.
-    pub(crate) fn close(&mut self) -> Result<(), Stop> {
+    pub fn close(&mut self) -> Result<(), Stop> {
         let end = self.entries.len();
         add(&mut self.ends, end)
     }
 
     /// One more list.
-    pub(crate) fn add_list(&mut self, entries: &[Entry]) -> Result<(), Stop> {
+    pub fn add_list(&mut self, entries: &[Entry]) -> Result<(), Stop> {
         for entry in entries {
             add(&mut self.entries, *entry)?;
         }
@@ -47,18 +47,18 @@ impl Lists {
     }
 
     /// How many lists there are.
-    pub(crate) fn count(&self) -> usize {
+    pub fn count(&self) -> usize {
         self.ends.len()
     }
 
     /// How many entries there are in all lists.
-    pub(crate) fn entry_count(&self) -> usize {
+    pub fn entry_count(&self) -> usize {
         self.entries.len()
     }
 
     /// The entries of a list.
     #[inline]
-    pub(crate) fn list(&self, k: usize) -> &[Entry] {
+    pub fn list(&self, k: usize) -> &[Entry] {
         let start = if k == 0 { 0 } else { at(&self.ends, k - 1, 0) };
         let end = at(&self.ends, k, start);
         if start <= end && end <= self.entries.len() {
@@ -69,17 +69,12 @@ impl Lists {
     }
 
     /// The same entries listed by what they belong to; each entry of the list k then belongs to `names[k]`.
-    pub(crate) fn turned(
-        &self,
-        alloc: Global,
-        names: &[usize],
-        count: usize,
-    ) -> Result<Lists, Stop> {
+    pub fn turned(&self, alloc: Global, names: &[usize], count: usize) -> Result<Lists, Stop> {
         let mut ends = self.counts(alloc, count)?;
         let mut next = running_sums(alloc, &mut ends)?;
         let nothing = Entry {
             at: 0,
-            number: Frac::whole(0),
+            number: Frac::zero(),
         };
         let mut entries = filled(alloc, self.entries.len(), nothing)?;
         for k in 0..self.ends.len() {

@@ -1,12 +1,11 @@
 // Systems that are solved by a prime, digit after digit, so that only the numbers of the answer have to fit.
 use crate::digits::{Long, fraction_of};
-use crate::lists::Entry;
-use crate::model::Model;
-use crate::numbers::{product, quotient, whole};
 use crate::residues::{PRIME, inverse, negative, plus, residue, times};
-use crate::stop::Stop;
-use crate::vectors::{add, add_to, at, copied, empty_lists, filled, number_at, put};
 use fraction::Frac;
+use sparse_factors::{
+    Entry, Matrix, Stop, add, add_to, at, copied, empty_lists, filled, number_at, product, put,
+    quotient, whole,
+};
 use std::alloc::Global;
 
 // So many digits are enough for any fraction that fits.
@@ -30,38 +29,38 @@ struct Equations {
 }
 
 /// Solves B x = a, where a is given by rows and x comes by slots.
-pub(crate) fn lifted_columns(
+pub fn lifted_columns(
     alloc: Global,
-    model: &Model,
+    matrix: &Matrix,
     slots: &[usize],
     a: &[Frac],
 ) -> Result<Vec<Frac>, Stop> {
     let mut left = empty_lists(alloc, slots.len())?;
     for slot in 0..slots.len() {
-        add_turned(&mut left, model, slots[slot], slot)?;
+        add_turned(&mut left, matrix, slots[slot], slot)?;
     }
     solved(alloc, &left, a)
 }
 
 /// Solves y B = c, where c is given by slots and y comes by rows.
-pub(crate) fn lifted_rows(
+pub fn lifted_rows(
     alloc: Global,
-    model: &Model,
+    matrix: &Matrix,
     slots: &[usize],
     c: &[Frac],
 ) -> Result<Vec<Frac>, Stop> {
     let mut left = empty_lists(alloc, slots.len())?;
     for slot in 0..slots.len() {
-        add_straight(&mut left, model, slots[slot], slot)?;
+        add_straight(&mut left, matrix, slots[slot], slot)?;
     }
     solved(alloc, &left, c)
 }
 
 // A variable's column, each entry in its row's equation.
-fn add_turned(left: &mut [Vec<Entry>], model: &Model, v: usize, slot: usize) -> Result<(), Stop> {
-    match model.row_of(v) {
-        Some(row) => add_to(left, row, entry(slot, Frac::whole(1))),
-        None => spread(left, model.by_column.list(v), slot),
+fn add_turned(left: &mut [Vec<Entry>], matrix: &Matrix, v: usize, slot: usize) -> Result<(), Stop> {
+    match matrix.row_of(v) {
+        Some(row) => add_to(left, row, entry(slot, Frac::one())),
+        None => spread(left, matrix.by_column.list(v), slot),
     }
 }
 
@@ -73,10 +72,15 @@ fn spread(left: &mut [Vec<Entry>], entries: &[Entry], slot: usize) -> Result<(),
 }
 
 // A variable's column as one equation.
-fn add_straight(left: &mut [Vec<Entry>], model: &Model, v: usize, slot: usize) -> Result<(), Stop> {
-    match model.row_of(v) {
-        Some(row) => add_to(left, slot, entry(row, Frac::whole(1))),
-        None => gather(left, model.by_column.list(v), slot),
+fn add_straight(
+    left: &mut [Vec<Entry>],
+    matrix: &Matrix,
+    v: usize,
+    slot: usize,
+) -> Result<(), Stop> {
+    match matrix.row_of(v) {
+        Some(row) => add_to(left, slot, entry(row, Frac::one())),
+        None => gather(left, matrix.by_column.list(v), slot),
     }
 }
 

@@ -1,30 +1,30 @@
 // Values, prices and the basis, as steps change them.
-use crate::lifting::{lifted_columns, lifted_rows};
-use crate::lists::Entry;
 use crate::model::Model;
-use crate::numbers::{difference, fused, is_zero, quotient, sum};
 use crate::state::State;
-use crate::stop::Stop;
-use crate::vectors::{add, at, copied, nonzero_places, number_at, put, zeros};
 use fraction::Frac;
+use lifted_systems::{lifted_columns, lifted_rows};
+use sparse_factors::{
+    Entry, Stop, add, at, copied, difference, fused, nonzero_places, number_at, put, quotient, sum,
+    zeros,
+};
 use std::alloc::Global;
 
 /// A column by slots: how the basic variables fall where its variable rises by 1.
 #[derive(Drop)]
-pub(crate) struct Solved {
+pub struct Solved {
     pub numbers: Vec<Frac>,
     pub used: Vec<usize>,
 }
 
 // Adds t times a variable's column.
 fn add_column(x: &mut [Frac], model: &Model, v: usize, t: Frac) -> Result<(), Stop> {
-    match model.row_of(v) {
+    match model.matrix.row_of(v) {
         Some(row) => {
             let old = number_at(x, row);
             put(x, row, sum(old, t)?);
             Ok(())
         }
-        None => add_entries(x, model.by_column.list(v), t),
+        None => add_entries(x, model.matrix.by_column.list(v), t),
     }
 }
 
@@ -39,9 +39,9 @@ fn add_entries(x: &mut [Frac], entries: &[Entry], t: Frac) -> Result<(), Stop> {
 
 // c minus the products of a column's entries with y.
 fn reduced(model: &Model, y: &[Frac], v: usize, cost: Frac) -> Result<Frac, Stop> {
-    match model.row_of(v) {
+    match model.matrix.row_of(v) {
         Some(row) => difference(cost, number_at(y, row)),
-        None => minus_products(model.by_column.list(v), y, cost),
+        None => minus_products(model.matrix.by_column.list(v), y, cost),
     }
 }
 
@@ -49,7 +49,7 @@ fn minus_products(entries: &[Entry], y: &[Frac], first: Frac) -> Result<Frac, St
     let mut rest = first;
     for entry in entries {
         let number = number_at(y, entry.at);
-        if !is_zero(number) {
+        if !number.is_zero() {
             rest = fused(number.neg(), entry.number, rest)?;
         }
     }
@@ -57,7 +57,7 @@ fn minus_products(entries: &[Entry], y: &[Frac], first: Frac) -> Result<Frac, St
 }
 
 /// The prices of all variables at these weights of rows, for the costs that are given.
-pub(crate) fn prices_at(
+pub fn prices_at(
     alloc: Global,
     model: &Model,
     y: &[Frac],
@@ -78,7 +78,7 @@ impl State {
         let mut x = copied(alloc, a)?;
         match self.factors.solve_columns(&mut x) {
             Ok(()) => Ok(x),
-            Err(Stop::NoFit) => lifted_columns(alloc, &self.model, &self.slots, a),
+            Err(Stop::NoFit) => lifted_columns(alloc, &self.model.matrix, &self.slots, a),
             Err(stop) => Err(stop),
         }
     }
@@ -88,7 +88,7 @@ impl State {
         let mut y = copied(alloc, c)?;
         match self.factors.solve_rows(&mut y) {
             Ok(()) => Ok(y),
-            Err(Stop::NoFit) => lifted_rows(alloc, &self.model, &self.slots, c),
+            Err(Stop::NoFit) => lifted_rows(alloc, &self.model.matrix, &self.slots, c),
             Err(stop) => Err(stop),
         }
     }
@@ -96,11 +96,11 @@ impl State {
     // ---- values and prices from the basis
 
     /// Finds the values of the basic variables anew.
-    pub(crate) fn find_values(&mut self, alloc: Global) -> Result<(), Stop> {
-        let mut x = zeros(alloc, self.model.rows)?;
+    pub fn find_values(&mut self, alloc: Global) -> Result<(), Stop> {
+        let mut x = zeros(alloc, self.model.matrix.rows)?;
         for v in 0..self.values.len() {
             let value = self.values[v];
-            if !is_zero(value) && !self.is_basic(v) {
+            if !value.is_zero() && !self.is_basic(v) {
                 add_column(&mut x, &self.model, v, value.neg())?;
             }
         }
@@ -118,7 +118,7 @@ impl State {
     }
 
     /// The weights of the rows at this basis, for the costs that are given.
-    pub(crate) fn row_weights(&self, alloc: Global, costs: &[Frac]) -> Result<Vec<Frac>, Stop> {
+    pub fn row_weights(&self, alloc: Global, costs: &[Frac]) -> Result<Vec<Frac>, Stop> {
         let mut y = Vec::with_capacity(alloc, self.slots.len())?;
         for v in &self.slots {
             add(&mut y, number_at(costs, *v))?;
@@ -127,11 +127,11 @@ impl State {
     }
 
     /// Finds the prices of all variables anew.
-    pub(crate) fn find_prices(&mut self, alloc: Global) -> Result<(), Stop> {
+    pub fn find_prices(&mut self, alloc: Global) -> Result<(), Stop> {
         let y = self.row_weights(alloc, &self.costs)?;
         for v in 0..self.prices.len() {
             self.prices[v] = if self.is_basic(v) {
-                Frac::whole(0)
+                Frac::zero()
             } else {
                 reduced(&self.model, &y, v, number_at(&self.costs, v))?
             };
@@ -142,26 +142,26 @@ impl State {
     // ---- rows and columns of the table
 
     /// The column of a variable by slots.
-    pub(crate) fn solved_column(&self, alloc: Global, v: usize) -> Result<Solved, Stop> {
-        let mut numbers = zeros(alloc, self.model.rows)?;
-        add_column(&mut numbers, &self.model, v, Frac::whole(1))?;
+    pub fn solved_column(&self, alloc: Global, v: usize) -> Result<Solved, Stop> {
+        let mut numbers = zeros(alloc, self.model.matrix.rows)?;
+        add_column(&mut numbers, &self.model, v, Frac::one())?;
         let numbers = self.solve_columns(alloc, &numbers)?;
         let used = nonzero_places(alloc, &numbers)?;
         Ok(Solved { numbers, used })
     }
 
     /// A slot's row of the inverse.
-    pub(crate) fn inverse_row(&self, alloc: Global, slot: usize) -> Result<Vec<Frac>, Stop> {
-        let mut y = zeros(alloc, self.model.rows)?;
-        put(&mut y, slot, Frac::whole(1));
+    pub fn inverse_row(&self, alloc: Global, slot: usize) -> Result<Vec<Frac>, Stop> {
+        let mut y = zeros(alloc, self.model.matrix.rows)?;
+        put(&mut y, slot, Frac::one());
         self.solve_rows(alloc, &y)
     }
 
     /// Finds the numbers of a slot's row from its row of the inverse, for the resting variables that may move.
-    pub(crate) fn find_entries(&mut self, y: &[Frac]) -> Result<(), Stop> {
+    pub fn find_entries(&mut self, y: &[Frac]) -> Result<(), Stop> {
         self.clear_entries();
         for row in 0..y.len() {
-            if !is_zero(y[row]) {
+            if !y[row].is_zero() {
                 self.touch_row(row, y[row])?;
             }
         }
@@ -171,15 +171,15 @@ impl State {
     fn clear_entries(&mut self) {
         for i in 0..self.touched.len() {
             let v = at(&self.touched, i, 0);
-            put(&mut self.entries, v, Frac::whole(0));
+            put(&mut self.entries, v, Frac::zero());
             put(&mut self.is_touched, v, false);
         }
         self.touched.clear();
     }
 
     fn touch_row(&mut self, row: usize, y: Frac) -> Result<(), Stop> {
-        let own = self.model.variable_of(row);
-        self.touch(own, y, Frac::whole(1))?;
+        let own = self.model.matrix.variable_of(row);
+        self.touch(own, y, Frac::one())?;
         let State {
             model,
             places,
@@ -189,7 +189,7 @@ impl State {
             is_touched,
             ..
         } = self;
-        for entry in model.by_row.list(row) {
+        for entry in model.matrix.by_row.list(row) {
             let v = entry.at;
             if v < entries.len() && at(places, v, None).is_none() && !at(is_fixed, v, false) {
                 entries[v] = fused(y, entry.number, entries[v])?;
@@ -218,8 +218,8 @@ impl State {
     // ---- a step
 
     /// A resting variable rises by t, and the basic ones follow.
-    pub(crate) fn move_by(&mut self, column: &Solved, t: Frac, q: usize) -> Result<(), Stop> {
-        if is_zero(t) {
+    pub fn move_by(&mut self, column: &Solved, t: Frac, q: usize) -> Result<(), Stop> {
+        if t.is_zero() {
             return Ok(());
         }
         let back = t.neg();
@@ -235,28 +235,28 @@ impl State {
     }
 
     /// Changes the prices where q becomes basic and the variable `out` rests.
-    pub(crate) fn update_prices(&mut self, q: usize, out: usize) -> Result<(), Stop> {
+    pub fn update_prices(&mut self, q: usize, out: usize) -> Result<(), Stop> {
         let price = self.price_of(q);
-        if is_zero(price) {
-            put(&mut self.prices, out, Frac::whole(0));
+        if price.is_zero() {
+            put(&mut self.prices, out, Frac::zero());
             return Ok(());
         }
         let factor = quotient(price, number_at(&self.entries, q))?.neg();
         for i in 0..self.touched.len() {
             let v = at(&self.touched, i, 0);
             let entry = number_at(&self.entries, v);
-            if v != q && !is_zero(entry) {
+            if v != q && !entry.is_zero() {
                 let changed = fused(factor, entry, self.price_of(v))?;
                 put(&mut self.prices, v, changed);
             }
         }
         put(&mut self.prices, out, factor);
-        put(&mut self.prices, q, Frac::whole(0));
+        put(&mut self.prices, q, Frac::zero());
         Ok(())
     }
 
     /// q takes the slot; the variable there rests.
-    pub(crate) fn exchange(
+    pub fn exchange(
         &mut self,
         alloc: Global,
         slot: usize,
@@ -279,8 +279,8 @@ impl State {
     }
 
     /// Lets resting variables rest at their other bounds; the basic ones follow.
-    pub(crate) fn flip_all(&mut self, alloc: Global, flips: &[usize]) -> Result<(), Stop> {
-        let mut x = zeros(alloc, self.model.rows)?;
+    pub fn flip_all(&mut self, alloc: Global, flips: &[usize]) -> Result<(), Stop> {
+        let mut x = zeros(alloc, self.model.matrix.rows)?;
         for v in flips {
             let old = self.value_of(*v);
             self.flip(*v);
@@ -293,7 +293,7 @@ impl State {
 
     fn add_values(&mut self, x: &[Frac]) -> Result<(), Stop> {
         for slot in 0..x.len() {
-            if !is_zero(x[slot]) {
+            if !x[slot].is_zero() {
                 let v = self.variable_at(slot);
                 let value = sum(self.value_of(v), x[slot])?;
                 put(&mut self.values, v, value);

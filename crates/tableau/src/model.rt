@@ -1,24 +1,21 @@
 // The linear program as the search sees it: each row is a variable too, A x + s = 0, and all variables have bounds.
-use crate::lists::{Entry, Lists};
-use crate::numbers::{is_zero, sum, whole};
-use crate::stop::Stop;
-use crate::vectors::{add, at, number_at, put, zeros};
 use certificate::{Side, Split};
 use fraction::Frac;
 use instance::{Column, Direction, Entry as FormEntry, Instance, Row};
 use search_node::SplitsTaken;
+use sparse_factors::{Entry, Lists, Matrix, Stop, add, at, number_at, put, sum, whole, zeros};
 use std::alloc::Global;
 
 /// The bounds of a variable.
 #[derive(Clone, Copy)]
-pub(crate) struct Bounds {
+pub struct Bounds {
     pub lower: Option<Frac>,
     pub upper: Option<Frac>,
 }
 
 impl Bounds {
     /// Both bounds are there and the same.
-    pub(crate) fn is_fixed(self) -> bool {
+    pub fn is_fixed(self) -> bool {
         match (self.lower, self.upper) {
             (Some(lower), Some(upper)) => lower == upper,
             _ => false,
@@ -26,7 +23,7 @@ impl Bounds {
     }
 
     /// Both bounds are there.
-    pub(crate) fn is_boxed(self) -> bool {
+    pub fn is_boxed(self) -> bool {
         self.lower.is_some() && self.upper.is_some()
     }
 
@@ -42,46 +39,31 @@ impl Bounds {
 /// A linear program that asks for a least value. The variables are the columns and then, for each row, minus its value,
 /// which has a cost of 0.
 #[derive(Drop)]
-pub(crate) struct Model {
-    pub rows: usize,
-    pub columns: usize,
-    pub by_column: Lists,
-    pub by_row: Lists,
+pub struct Model {
+    pub matrix: Matrix,
     pub bounds: Vec<Bounds>,
     pub costs: Vec<Frac>,
 }
 
 impl Model {
     /// How many variables there are.
-    pub(crate) fn size(&self) -> usize {
+    pub fn size(&self) -> usize {
         self.bounds.len()
-    }
-
-    /// The row of a variable that is no column.
-    #[inline]
-    pub(crate) fn row_of(&self, v: usize) -> Option<usize> {
-        v.checked_sub(self.columns)
-    }
-
-    /// The variable of a row.
-    #[inline]
-    pub(crate) fn variable_of(&self, row: usize) -> usize {
-        self.columns.saturating_add(row)
     }
 
     /// The bounds of a variable.
     #[inline]
-    pub(crate) fn bounds_of(&self, v: usize) -> Bounds {
+    pub fn bounds_of(&self, v: usize) -> Bounds {
         at(&self.bounds, v, FREE)
     }
 
     /// The cost of a variable.
-    pub(crate) fn cost_of(&self, v: usize) -> Frac {
+    pub fn cost_of(&self, v: usize) -> Frac {
         number_at(&self.costs, v)
     }
 
     /// No lower bound is above the upper one.
-    pub(crate) fn has_bounds_in_order(&self) -> bool {
+    pub fn has_bounds_in_order(&self) -> bool {
         for bounds in &self.bounds {
             if bounds.is_crossed() {
                 return false;
@@ -97,11 +79,7 @@ const FREE: Bounds = Bounds {
 };
 
 /// The linear program that the problem is below the splits, its columns taken as continuous.
-pub(crate) fn model_of(
-    alloc: Global,
-    problem: &Instance,
-    splits: &SplitsTaken,
-) -> Result<Model, Stop> {
+pub fn model_of(alloc: Global, problem: &Instance, splits: &SplitsTaken) -> Result<Model, Stop> {
     let columns = problem.columns().len();
     let rows = problem.rows().len();
     let by_row = forms(alloc, problem.rows())?;
@@ -115,11 +93,14 @@ pub(crate) fn model_of(
         problem.objective().as_slice(),
         problem.direction(),
     );
-    Ok(Model {
+    let matrix = Matrix {
         rows,
         columns,
         by_column,
         by_row,
+    };
+    Ok(Model {
+        matrix,
         bounds,
         costs,
     })
@@ -136,7 +117,7 @@ fn forms(alloc: Global, rows: &[Row]) -> Result<Lists, Stop> {
 // One more row, without the zeros in it.
 fn add_form(lists: &mut Lists, form: &[FormEntry]) -> Result<(), Stop> {
     for entry in form {
-        if !is_zero(entry.coefficient) {
+        if !entry.coefficient.is_zero() {
             lists.put(Entry {
                 at: entry.column as usize,
                 number: entry.coefficient,
@@ -190,7 +171,7 @@ fn narrow_by(bounds: &mut [Bounds], split: Split, side: Side) -> Result<(), Stop
     let old = at(bounds, column, FREE);
     let new = match side {
         Side::Low => below(old, limit),
-        Side::High => above(old, sum(limit, Frac::whole(1))?),
+        Side::High => above(old, sum(limit, Frac::one())?),
     };
     put(bounds, column, new);
     Ok(())

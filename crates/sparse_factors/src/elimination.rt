@@ -1,7 +1,7 @@
 // Which entries are pivots of a basis, and what is left of its columns meanwhile.
 use crate::lists::{Entry, Lists};
-use crate::model::Model;
-use crate::numbers::{digits, fused, is_zero, product, quotient};
+use crate::matrix::Matrix;
+use crate::numbers::{digits, fused, product, quotient};
 use crate::stop::Stop;
 use crate::vectors::{
     add, add_to, at, count_down, count_up, empty_lists, filled, put, put_list, take_list,
@@ -59,20 +59,20 @@ impl Elimination {
     /// The basis made of these variables, with nothing done yet.
     pub(crate) fn start(
         alloc: Global,
-        model: &Model,
+        matrix: &Matrix,
         basic: &[usize],
     ) -> Result<Elimination, Stop> {
-        let columns = columns_among(alloc, model, basic)?;
-        let slack_rows = rows_among(alloc, model, basic)?;
+        let columns = columns_among(alloc, matrix, basic)?;
+        let slack_rows = rows_among(alloc, matrix, basic)?;
         let count = columns.len();
         let mut elimination = Elimination {
-            slots: slots_of(alloc, model, &slack_rows)?,
+            slots: slots_of(alloc, matrix, &slack_rows)?,
             slack_rows,
             order: Vec::new(alloc),
-            inverses: filled(alloc, model.rows, Frac::whole(1))?,
+            inverses: filled(alloc, matrix.rows, Frac::one())?,
             lower: Lists::new(alloc),
             upper: Lists::new(alloc),
-            rows: empty_lists(alloc, model.rows)?,
+            rows: empty_lists(alloc, matrix.rows)?,
             above: empty_lists(alloc, count)?,
             in_rows: empty_lists(alloc, count)?,
             left: filled(alloc, count, 0)?,
@@ -84,16 +84,16 @@ impl Elimination {
             marks: filled(alloc, count, 0)?,
             columns,
         };
-        elimination.load_all(model)?;
+        elimination.load_all(matrix)?;
         elimination.list_columns()?;
-        elimination.list_rows(model.rows)?;
+        elimination.list_rows(matrix.rows)?;
         Ok(elimination)
     }
 
-    fn load_all(&mut self, model: &Model) -> Result<(), Stop> {
+    fn load_all(&mut self, matrix: &Matrix) -> Result<(), Stop> {
         for k in 0..self.columns.len() {
             let variable = at(&self.columns, k, 0);
-            self.load(k, model.by_column.list(variable))?;
+            self.load(k, matrix.by_column.list(variable))?;
         }
         Ok(())
     }
@@ -325,7 +325,7 @@ impl Elimination {
             Some(number) => number,
             None => return Err(Stop::NoFit),
         };
-        let inverse = quotient(Frac::whole(1), number)?;
+        let inverse = quotient(Frac::one(), number)?;
         let variable = at(&self.columns, pivot.column, 0);
         put(&mut self.slots, pivot.row, Some(variable));
         put(&mut self.inverses, pivot.row, inverse);
@@ -474,7 +474,7 @@ impl Elimination {
         let mut kept: usize = 0;
         for i in 0..other.len() {
             let entry = other[i];
-            if is_zero(entry.number) {
+            if entry.number.is_zero() {
                 self.forget(place, entry.at)?;
             } else {
                 put(other, kept, entry);
@@ -494,10 +494,10 @@ impl Elimination {
     }
 
     /// Where a row has no pivot, its own variable is basic.
-    pub(crate) fn fill_up(&mut self, model: &Model) -> Result<(), Stop> {
-        for row in 0..model.rows {
+    pub(crate) fn fill_up(&mut self, matrix: &Matrix) -> Result<(), Stop> {
+        for row in 0..matrix.rows {
             if !self.is_done(row) {
-                put(&mut self.slots, row, Some(model.variable_of(row)));
+                put(&mut self.slots, row, Some(matrix.variable_of(row)));
                 add(&mut self.order, row)?;
                 self.lower.close()?;
                 self.upper.close()?;
@@ -507,20 +507,20 @@ impl Elimination {
     }
 }
 
-fn columns_among(alloc: Global, model: &Model, basic: &[usize]) -> Result<Vec<usize>, Stop> {
+fn columns_among(alloc: Global, matrix: &Matrix, basic: &[usize]) -> Result<Vec<usize>, Stop> {
     let mut columns = Vec::new(alloc);
     for v in basic {
-        if *v < model.columns {
+        if *v < matrix.columns {
             add(&mut columns, *v)?;
         }
     }
     Ok(columns)
 }
 
-fn rows_among(alloc: Global, model: &Model, basic: &[usize]) -> Result<Vec<usize>, Stop> {
+fn rows_among(alloc: Global, matrix: &Matrix, basic: &[usize]) -> Result<Vec<usize>, Stop> {
     let mut rows = Vec::new(alloc);
     for v in basic {
-        match model.row_of(*v) {
+        match matrix.row_of(*v) {
             Some(row) => add(&mut rows, row)?,
             None => {}
         }
@@ -528,10 +528,10 @@ fn rows_among(alloc: Global, model: &Model, basic: &[usize]) -> Result<Vec<usize
     Ok(rows)
 }
 
-fn slots_of(alloc: Global, model: &Model, rows: &[usize]) -> Result<Vec<Option<usize>>, Stop> {
-    let mut slots = filled(alloc, model.rows, None)?;
+fn slots_of(alloc: Global, matrix: &Matrix, rows: &[usize]) -> Result<Vec<Option<usize>>, Stop> {
+    let mut slots = filled(alloc, matrix.rows, None)?;
     for row in rows {
-        put(&mut slots, *row, Some(model.variable_of(*row)));
+        put(&mut slots, *row, Some(matrix.variable_of(*row)));
     }
     Ok(slots)
 }
