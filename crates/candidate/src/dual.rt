@@ -1,7 +1,7 @@
 // The dual phase: steps until no bound is broken.
 use crate::ending::{Blocked, Step};
 use fraction::Frac;
-use sparse_factors::{Stop, add, at, difference, fused, log, number_at, put, quotient};
+use sparse_factors::{Stop, add, at, difference, fused, log, number_at, product, put, quotient};
 use std::alloc::Global;
 use tableau::{Solved, State};
 
@@ -43,9 +43,8 @@ pub(crate) fn dual_step(state: &mut State, alloc: Global) -> Result<Step, Stop> 
     };
     let broken = broken_bound(state, state.variable_at(slot))?;
     let above = broken.above;
-    let row = state.inverse_row(alloc, slot)?;
-    state.find_entries(&row)?;
-    match choice(state, alloc, &broken)? {
+    let row = state.find_row(alloc, slot)?;
+    match robust_choice(state, alloc, &broken)? {
         None => Ok(Step::Blocked(Blocked { above, row })),
         Some(entering) => {
             enter(state, alloc, slot, &broken, entering)?;
@@ -104,12 +103,27 @@ fn broken_bound(state: &State, v: usize) -> Result<Broken, Stop> {
 
 // ---- what enters
 
+// The same on the entries as they are, without their scale, where a number does not fit.
+fn robust_choice(
+    state: &mut State,
+    alloc: Global,
+    broken: &Broken,
+) -> Result<Option<Entering>, Stop> {
+    match choice(state, alloc, broken) {
+        Err(Stop::NoFit) => {
+            state.unscale()?;
+            choice(state, alloc, broken)
+        }
+        outcome => outcome,
+    }
+}
+
 // The variable that enters: the first price that would turn. Variables with two bounds are passed while the row
 // stays broken.
 fn choice(state: &State, alloc: Global, broken: &Broken) -> Result<Option<Entering>, Stop> {
     let mut open = offers(state, alloc, broken.above)?;
     let mut flips = Vec::new(alloc);
-    let mut rest = broken.far;
+    let mut rest = product(broken.far, state.scale).ok();
     for _ in 0..open.len() {
         let group = match first_group(state, &open, rest)? {
             Some(group) => group,
@@ -120,7 +134,7 @@ fn choice(state: &State, alloc: Global, broken: &Broken) -> Result<Option<Enteri
                 let variable = group.best.variable;
                 return Ok(Some(Entering { variable, flips }));
             }
-            Some(after) => rest = after,
+            Some(after) => rest = Some(after),
         }
         open = pass(alloc, &open, group.best.ratio, &mut flips)?;
     }
@@ -166,15 +180,14 @@ fn offered(state: &State, v: usize, entry: Frac) -> Result<Offer, Stop> {
 }
 
 // The offers with the least ratio.
-fn first_group(state: &State, open: &[Offer], far: Frac) -> Result<Option<Group>, Stop> {
+fn first_group(state: &State, open: &[Offer], far: Option<Frac>) -> Result<Option<Group>, Stop> {
     let best = match best_offer(state, open) {
         Some(best) => best,
         None => return Ok(None),
     };
-    let rest = if state.is_careful() {
-        None
-    } else {
-        rest_after(state, open, best.ratio, far)?
+    let rest = match far {
+        Some(far) if !state.is_careful() => rest_after(state, open, best.ratio, far)?,
+        _ => None,
     };
     Ok(Some(Group { best, rest }))
 }

@@ -212,21 +212,14 @@ fn replace(
     let bounds = state.model.bounds_of(out);
     let bound = if above { bounds.upper } else { bounds.lower };
     put(&mut state.values, out, bound.unwrap_or(Frac::zero()));
-    let row = state.inverse_row(alloc, slot)?;
-    state.find_entries(&row)?;
-    update_price_weights(state, weights, column, q, slot);
+    state.find_row(alloc, slot)?;
+    update_price_weights(state, weights, q, slot);
     state.update_prices(q, out)?;
     state.exchange(alloc, slot, q, above, column)
 }
 
-fn update_price_weights(
-    state: &State,
-    weights: &mut [i32],
-    column: &Solved,
-    q: usize,
-    slot: usize,
-) {
-    let pivot = log(number_at(&column.numbers, slot)).saturating_add(state.unit_of(q));
+fn update_price_weights(state: &State, weights: &mut [i32], q: usize, slot: usize) {
+    let pivot = log(number_at(&state.entries, q)).saturating_add(state.unit_of(q));
     let weight = at(weights, q, 0);
     for v in &state.touched {
         let entry = number_at(&state.entries, *v);
@@ -236,6 +229,8 @@ fn update_price_weights(
         }
     }
     let out = state.variable_at(slot);
-    let left = pivot.saturating_sub(state.unit_of(out));
+    let left = pivot
+        .saturating_sub(log(state.scale))
+        .saturating_sub(state.unit_of(out));
     put(weights, out, lowered_weight(weight, left));
 }

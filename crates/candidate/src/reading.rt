@@ -33,7 +33,7 @@ pub(crate) fn contradiction(
     state: &State,
     blocked: &Blocked,
 ) -> Result<Candidate, Stop> {
-    let y = turned(alloc, &blocked.row, blocked.above)?;
+    let y = turned(alloc, &blocked.row.numbers, blocked.above)?;
     let none = zeros(alloc, state.model.size())?;
     let prices = prices_at(alloc, &state.model, &y, &none)?;
     Ok(Candidate::Infeasible(weights(alloc, &state.model, &prices)?))

@@ -3,9 +3,10 @@
 use crate::elimination::Elimination;
 use crate::lists::{Entry, Lists};
 use crate::matrix::Matrix;
-use crate::numbers::{fused, product, quotient};
+use crate::numbers::quotient;
 use crate::stop::Stop;
-use crate::vectors::{add, at, number_at, put};
+use crate::unknowns::Unknowns;
+use crate::vectors::{add, at, number_at};
 use fraction::Frac;
 use std::alloc::Global;
 
@@ -90,29 +91,6 @@ fn all_slots(alloc: Global, matrix: &Matrix, slots: &[Option<usize>]) -> Result<
     Ok(all)
 }
 
-// Adds a multiple of the entries to the places that they belong to.
-fn add_multiple(x: &mut [Frac], entries: &[Entry], factor: Frac) -> Result<(), Stop> {
-    for entry in entries {
-        let place = entry.at;
-        if place < x.len() {
-            x[place] = fused(factor, entry.number, x[place])?;
-        }
-    }
-    Ok(())
-}
-
-// The sum of `first` and minus the entries times the numbers at their places.
-fn minus_products(x: &[Frac], entries: &[Entry], first: Frac) -> Result<Frac, Stop> {
-    let mut sum = first;
-    for entry in entries {
-        let number = number_at(x, entry.at);
-        if !number.is_zero() {
-            sum = fused(number.neg(), entry.number, sum)?;
-        }
-    }
-    Ok(sum)
-}
-
 impl Factors {
     /// No change came since the basis was factored.
     pub fn is_fresh(&self) -> bool {
@@ -147,47 +125,36 @@ impl Factors {
     // ---- B x = a
 
     /// Solves B x = a, where a is given and x comes in its place, by slots.
-    pub fn solve_columns(&self, x: &mut [Frac]) -> Result<(), Stop> {
+    pub fn solve_columns<U: Unknowns>(&self, x: &mut U) -> Result<(), Stop> {
         self.lower_forward(x)?;
         self.upper_backward(x)?;
         self.changes_forward(x)
     }
 
-    fn lower_forward(&self, x: &mut [Frac]) -> Result<(), Stop> {
+    fn lower_forward<U: Unknowns>(&self, x: &mut U) -> Result<(), Stop> {
         for k in 0..self.order.len() {
             let list = self.lower_columns.list(k);
             if !list.is_empty() {
-                let number = number_at(x, self.order[k]);
-                if !number.is_zero() {
-                    add_multiple(x, list, number.neg())?;
-                }
+                x.subtract_multiple(list, self.order[k])?;
             }
         }
         Ok(())
     }
 
-    fn upper_backward(&self, x: &mut [Frac]) -> Result<(), Stop> {
+    fn upper_backward<U: Unknowns>(&self, x: &mut U) -> Result<(), Stop> {
         for k in (0..self.order.len()).rev() {
             let row = at(&self.order, k, 0);
-            let number = number_at(x, row);
-            if !number.is_zero() {
-                let solved = product(number, number_at(&self.inverses, row))?;
-                put(x, row, solved);
-                add_multiple(x, self.upper_columns.list(k), solved.neg())?;
-            }
+            x.multiply(row, number_at(&self.inverses, row))?;
+            x.subtract_multiple(self.upper_columns.list(k), row)?;
         }
         Ok(())
     }
 
-    fn changes_forward(&self, x: &mut [Frac]) -> Result<(), Stop> {
+    fn changes_forward<U: Unknowns>(&self, x: &mut U) -> Result<(), Stop> {
         for k in 0..self.changes.len() {
             let change = self.changes[k];
-            let number = number_at(x, change.slot);
-            if !number.is_zero() {
-                let solved = product(number, change.inverse)?;
-                put(x, change.slot, solved);
-                add_multiple(x, self.change_entries.list(k), solved.neg())?;
-            }
+            x.multiply(change.slot, change.inverse)?;
+            x.subtract_multiple(self.change_entries.list(k), change.slot)?;
         }
         Ok(())
     }
@@ -195,57 +162,43 @@ impl Factors {
     // ---- y B = c
 
     /// Solves y B = c, where c is given by slots and y comes in its place, by rows.
-    pub fn solve_rows(&self, y: &mut [Frac]) -> Result<(), Stop> {
+    pub fn solve_rows<U: Unknowns>(&self, y: &mut U) -> Result<(), Stop> {
         self.changes_backward(y)?;
         self.slacks_forward(y)?;
         self.upper_forward(y)?;
         self.lower_backward(y)
     }
 
-    fn changes_backward(&self, y: &mut [Frac]) -> Result<(), Stop> {
+    fn changes_backward<U: Unknowns>(&self, y: &mut U) -> Result<(), Stop> {
         for k in (0..self.changes.len()).rev() {
             if k < self.changes.len() {
                 let change = self.changes[k];
-                let first = number_at(y, change.slot);
-                let sum = minus_products(y, self.change_entries.list(k), first)?;
-                put(y, change.slot, product(sum, change.inverse)?);
+                y.subtract_products(self.change_entries.list(k), change.slot)?;
+                y.multiply(change.slot, change.inverse)?;
             }
         }
         Ok(())
     }
 
-    fn slacks_forward(&self, y: &mut [Frac]) -> Result<(), Stop> {
+    fn slacks_forward<U: Unknowns>(&self, y: &mut U) -> Result<(), Stop> {
         for row in &self.slack_rows {
-            let number = number_at(y, *row);
-            if !number.is_zero() {
-                add_multiple(y, self.upper_rows.list(*row), number.neg())?;
-            }
+            y.subtract_multiple(self.upper_rows.list(*row), *row)?;
         }
         Ok(())
     }
 
-    fn upper_forward(&self, y: &mut [Frac]) -> Result<(), Stop> {
+    fn upper_forward<U: Unknowns>(&self, y: &mut U) -> Result<(), Stop> {
         for row in &self.order {
-            let number = number_at(y, *row);
-            if !number.is_zero() {
-                let solved = product(number, number_at(&self.inverses, *row))?;
-                put(y, *row, solved);
-                add_multiple(y, self.upper_rows.list(*row), solved.neg())?;
-            }
+            y.multiply(*row, number_at(&self.inverses, *row))?;
+            y.subtract_multiple(self.upper_rows.list(*row), *row)?;
         }
         Ok(())
     }
 
-    fn lower_backward(&self, y: &mut [Frac]) -> Result<(), Stop> {
+    fn lower_backward<U: Unknowns>(&self, y: &mut U) -> Result<(), Stop> {
         for k in (0..self.order.len()).rev() {
             let row = at(&self.order, k, 0);
-            let list = self.lower_rows.list(row);
-            if !list.is_empty() {
-                let number = number_at(y, row);
-                if !number.is_zero() {
-                    add_multiple(y, list, number.neg())?;
-                }
-            }
+            y.subtract_multiple(self.lower_rows.list(row), row)?;
         }
         Ok(())
     }

@@ -11,6 +11,6 @@ mod start;
 mod state;
 
 pub use model::{Bounds, Model, model_of};
-pub use moving::{Solved, prices_at};
+pub use moving::{Row, Solved, prices_at};
 pub use start::{Start, places_of, start_of};
 pub use state::{State, TieRule};

@@ -4,8 +4,8 @@ use crate::state::State;
 use fraction::Frac;
 use lifted_systems::{lifted_columns, lifted_rows};
 use sparse_factors::{
-    Entry, Stop, add, at, copied, difference, fused, nonzero_places, number_at, put, quotient, sum,
-    zeros,
+    Entry, Fractions, Scaled, Stop, add, at, copied, difference, fused, nonzero_places, number_at,
+    product, put, quotient, sum, whole, zeros,
 };
 use std::alloc::Global;
 
@@ -14,6 +14,13 @@ use std::alloc::Global;
 pub struct Solved {
     pub numbers: Vec<Frac>,
     pub used: Vec<usize>,
+}
+
+/// A slot's row of the inverse, times a scale that is above 0.
+#[derive(Drop)]
+pub struct Row {
+    pub numbers: Vec<Frac>,
+    pub scale: Frac,
 }
 
 // Adds t times a variable's column.
@@ -73,11 +80,26 @@ pub fn prices_at(
 impl State {
     // ---- systems of the basis
 
-    // Solves B x = a. Where numbers on the way do not fit, they are lifted.
+    // Solves B x = a: over one denominator, else in fractions. Where numbers on the way do not fit, they are lifted.
     fn solve_columns(&self, alloc: Global, a: &[Frac]) -> Result<Vec<Frac>, Stop> {
-        let mut x = copied(alloc, a)?;
+        match self.columns_over_one(alloc, a) {
+            Err(Stop::NoFit) => self.columns_in_fractions(alloc, a),
+            outcome => outcome,
+        }
+    }
+
+    fn columns_over_one(&self, alloc: Global, a: &[Frac]) -> Result<Vec<Frac>, Stop> {
+        let mut x = Scaled::of(alloc, a)?;
+        self.factors.solve_columns(&mut x)?;
+        x.fractions(alloc)
+    }
+
+    fn columns_in_fractions(&self, alloc: Global, a: &[Frac]) -> Result<Vec<Frac>, Stop> {
+        let mut x = Fractions {
+            numbers: copied(alloc, a)?,
+        };
         match self.factors.solve_columns(&mut x) {
-            Ok(()) => Ok(x),
+            Ok(()) => Ok(x.numbers),
             Err(Stop::NoFit) => lifted_columns(alloc, &self.model.matrix, &self.slots, a),
             Err(stop) => Err(stop),
         }
@@ -85,9 +107,25 @@ impl State {
 
     // Solves y B = c in the same way.
     fn solve_rows(&self, alloc: Global, c: &[Frac]) -> Result<Vec<Frac>, Stop> {
-        let mut y = copied(alloc, c)?;
+        match self.rows_over_one(alloc, c) {
+            Ok(y) => y.fractions(alloc),
+            Err(Stop::NoFit) => self.rows_in_fractions(alloc, c),
+            Err(stop) => Err(stop),
+        }
+    }
+
+    fn rows_over_one(&self, alloc: Global, c: &[Frac]) -> Result<Scaled, Stop> {
+        let mut y = Scaled::of(alloc, c)?;
+        self.factors.solve_rows(&mut y)?;
+        Ok(y)
+    }
+
+    fn rows_in_fractions(&self, alloc: Global, c: &[Frac]) -> Result<Vec<Frac>, Stop> {
+        let mut y = Fractions {
+            numbers: copied(alloc, c)?,
+        };
         match self.factors.solve_rows(&mut y) {
-            Ok(()) => Ok(y),
+            Ok(()) => Ok(y.numbers),
             Err(Stop::NoFit) => lifted_rows(alloc, &self.model.matrix, &self.slots, c),
             Err(stop) => Err(stop),
         }
@@ -150,19 +188,46 @@ impl State {
         Ok(Solved { numbers, used })
     }
 
-    /// A slot's row of the inverse.
-    pub fn inverse_row(&self, alloc: Global, slot: usize) -> Result<Vec<Frac>, Stop> {
-        let mut y = zeros(alloc, self.model.matrix.rows)?;
-        put(&mut y, slot, Frac::one());
-        self.solve_rows(alloc, &y)
+    /// Finds a slot's row of the inverse, and from it the numbers of its row of the table, for the resting variables that
+    /// may move. Both are times the row's scale.
+    pub fn find_row(&mut self, alloc: Global, slot: usize) -> Result<Row, Stop> {
+        match self.find_whole_row(alloc, slot) {
+            Err(Stop::NoFit) => self.find_plain_row(alloc, slot),
+            outcome => outcome,
+        }
     }
 
-    /// Finds the numbers of a slot's row from its row of the inverse, for the resting variables that may move.
-    pub fn find_entries(&mut self, y: &[Frac]) -> Result<(), Stop> {
+    fn find_whole_row(&mut self, alloc: Global, slot: usize) -> Result<Row, Stop> {
+        let y = self.rows_over_one(alloc, &self.unit(alloc, slot)?)?;
+        let row = Row {
+            scale: whole(y.scale)?,
+            numbers: y.whole_numbers(alloc)?,
+        };
+        self.find_entries(&row)?;
+        Ok(row)
+    }
+
+    fn find_plain_row(&mut self, alloc: Global, slot: usize) -> Result<Row, Stop> {
+        let row = Row {
+            scale: Frac::one(),
+            numbers: self.rows_in_fractions(alloc, &self.unit(alloc, slot)?)?,
+        };
+        self.find_entries(&row)?;
+        Ok(row)
+    }
+
+    fn unit(&self, alloc: Global, slot: usize) -> Result<Vec<Frac>, Stop> {
+        let mut unit = zeros(alloc, self.model.matrix.rows)?;
+        put(&mut unit, slot, Frac::one());
+        Ok(unit)
+    }
+
+    fn find_entries(&mut self, row: &Row) -> Result<(), Stop> {
         self.clear_entries();
-        for row in 0..y.len() {
-            if !y[row].is_zero() {
-                self.touch_row(row, y[row])?;
+        self.scale = row.scale;
+        for place in 0..row.numbers.len() {
+            if !row.numbers[place].is_zero() {
+                self.touch_row(place, row.numbers[place])?;
             }
         }
         Ok(())
@@ -241,7 +306,7 @@ impl State {
             put(&mut self.prices, out, Frac::zero());
             return Ok(());
         }
-        let factor = quotient(price, number_at(&self.entries, q))?.neg();
+        let factor = self.price_factor(price, q)?;
         for i in 0..self.touched.len() {
             let v = at(&self.touched, i, 0);
             let entry = number_at(&self.entries, v);
@@ -250,8 +315,37 @@ impl State {
                 put(&mut self.prices, v, changed);
             }
         }
-        put(&mut self.prices, out, factor);
+        put(&mut self.prices, out, product(factor, self.scale)?);
         put(&mut self.prices, q, Frac::zero());
+        Ok(())
+    }
+
+    // Minus the price by the entry: how the prices change with the entries. Where it does not fit, nor the leaving
+    // variable's price, the entries are taken as they are, without the scale.
+    fn price_factor(&mut self, price: Frac, q: usize) -> Result<Frac, Stop> {
+        match self.scaled_factor(price, q) {
+            Err(Stop::NoFit) => {
+                self.unscale()?;
+                self.scaled_factor(price, q)
+            }
+            outcome => outcome,
+        }
+    }
+
+    fn scaled_factor(&self, price: Frac, q: usize) -> Result<Frac, Stop> {
+        let factor = quotient(price, number_at(&self.entries, q))?.neg();
+        product(factor, self.scale)?;
+        Ok(factor)
+    }
+
+    /// Takes the scale off the numbers of the row.
+    pub fn unscale(&mut self) -> Result<(), Stop> {
+        for i in 0..self.touched.len() {
+            let v = at(&self.touched, i, 0);
+            let entry = quotient(number_at(&self.entries, v), self.scale)?;
+            put(&mut self.entries, v, entry);
+        }
+        self.scale = Frac::one();
         Ok(())
     }
 

@@ -24,7 +24,7 @@ pub enum TieRule {
 const PATIENCE: usize = 1000;
 
 // The basis is factored anew after so many steps.
-const STEPS_BETWEEN: usize = 60;
+const STEPS_BETWEEN: usize = 12;
 
 /// A basis on the way, and what is known of it.
 #[derive(Drop)]
@@ -44,7 +44,8 @@ pub struct State {
     pub gaps: Vec<Option<i32>>,
     pub weights: Vec<i32>,
     pub units: Vec<i32>,
-    // the numbers of a slot's row, by variable, and the variables that may have one
+    // the numbers of a slot's row times a scale, by variable, and the variables that may have one
+    pub scale: Frac,
     pub entries: Vec<Frac>,
     pub touched: Vec<usize>,
     pub is_touched: Vec<bool>,
@@ -72,6 +73,7 @@ impl State {
             gaps: filled(alloc, model.matrix.rows, None)?,
             weights: filled(alloc, model.matrix.rows, 0)?,
             units: units_of(alloc, &model)?,
+            scale: Frac::one(),
             entries: zeros(alloc, size)?,
             touched: Vec::new(alloc),
             is_touched: filled(alloc, size, false)?,
