@@ -1,12 +1,11 @@
 // What a phase comes to.
-use crate::moving::Solved;
-use fraction::Frac;
+use tableau::{Row, Solved};
 
 /// The row of the inverse at which the dual phase ends, and which bound of its variable is broken.
 #[derive(Drop)]
 pub(crate) struct Blocked {
     pub above: bool,
-    pub row: Vec<Frac>,
+    pub row: Row,
 }
 
 /// The column of a variable that moves without end.

@@ -1,0 +1,188 @@
+// A vector of whole numbers over one denominator, as systems are solved in it.
+use crate::lists::Entry;
+use crate::numbers::{product, quotient, whole};
+use crate::stop::Stop;
+use crate::unknowns::Unknowns;
+use crate::vectors::{add, at, put};
+use fraction::Frac;
+use std::alloc::Global;
+
+/// A vector times `scale`, all of whose numbers are whole. There is no greatest common divisor to find, but it fits less
+/// often than fractions do.
+#[derive(Drop)]
+pub struct Scaled {
+    pub numbers: Vec<i128>,
+    pub scale: i128,
+    // above it what all numbers have in common is looked for
+    room: i128,
+}
+
+// The scale above which what all numbers have in common is looked for, and how much it grows until that is done again.
+const ROOM: i128 = 1 << 40;
+
+impl Scaled {
+    /// These numbers.
+    pub fn of(alloc: Global, numbers: &[Frac]) -> Result<Scaled, Stop> {
+        let scale = common_denominator(numbers)?;
+        let factor = whole(scale)?;
+        let mut all = Vec::with_capacity(alloc, numbers.len())?;
+        for number in numbers {
+            add(&mut all, product(*number, factor)?.parts().0)?;
+        }
+        Ok(Scaled {
+            numbers: all,
+            scale,
+            room: ROOM,
+        })
+    }
+
+    /// The numbers as fractions.
+    pub fn fractions(&self, alloc: Global) -> Result<Vec<Frac>, Stop> {
+        let scale = whole(self.scale)?;
+        let mut fractions = Vec::with_capacity(alloc, self.numbers.len())?;
+        for number in &self.numbers {
+            add(&mut fractions, over(*number, scale)?)?;
+        }
+        Ok(fractions)
+    }
+
+    /// The whole numbers.
+    pub fn whole_numbers(&self, alloc: Global) -> Result<Vec<Frac>, Stop> {
+        let mut numbers = Vec::with_capacity(alloc, self.numbers.len())?;
+        for number in &self.numbers {
+            add(&mut numbers, whole(*number)?)?;
+        }
+        Ok(numbers)
+    }
+
+    // The number at a place, divided; all are scaled where it is not whole.
+    fn divided(&mut self, place: usize, divisor: i128) -> Result<i128, Stop> {
+        if divisor == 1 {
+            return Ok(at(&self.numbers, place, 0));
+        }
+        if self.scale > self.room {
+            self.reduce()?;
+        }
+        let number = at(&self.numbers, place, 0);
+        let (share, more) = quotient(whole(number)?, whole(divisor)?)?.parts();
+        if more != 1 {
+            self.scale_by(more)?;
+        }
+        Ok(share)
+    }
+
+    fn scale_by(&mut self, factor: i128) -> Result<(), Stop> {
+        self.scale = times(self.scale, factor)?;
+        for i in 0..self.numbers.len() {
+            let number = self.numbers[i];
+            if number != 0 {
+                self.numbers[i] = times(number, factor)?;
+            }
+        }
+        Ok(())
+    }
+
+    // Divides all numbers and the scale by what they have in common.
+    fn reduce(&mut self) -> Result<(), Stop> {
+        let common = self.common_divisor()?;
+        if common > 1 {
+            self.scale /= common;
+            for i in 0..self.numbers.len() {
+                let number = self.numbers[i];
+                if number != 0 {
+                    self.numbers[i] = number / common;
+                }
+            }
+        }
+        self.room = self.scale.saturating_mul(ROOM);
+        Ok(())
+    }
+
+    fn common_divisor(&self) -> Result<i128, Stop> {
+        let mut common = self.scale;
+        for number in &self.numbers {
+            if common == 1 {
+                return Ok(1);
+            }
+            if *number != 0 {
+                let (_, other) = quotient(whole(*number)?, whole(common)?)?.parts();
+                common /= other;
+            }
+        }
+        Ok(common)
+    }
+
+    // Takes an entry, times the number at a place, off the number at another one.
+    fn subtract(&mut self, entry: Frac, place: usize, from: usize) -> Result<(), Stop> {
+        let (numerator, denominator) = entry.parts();
+        let share = self.divided(place, denominator)?;
+        let rest = less(at(&self.numbers, from, 0), times(share, numerator)?)?;
+        put(&mut self.numbers, from, rest);
+        Ok(())
+    }
+}
+
+impl Unknowns for Scaled {
+    fn multiply(&mut self, place: usize, factor: Frac) -> Result<(), Stop> {
+        if at(&self.numbers, place, 0) == 0 {
+            return Ok(());
+        }
+        let (numerator, denominator) = factor.parts();
+        let share = self.divided(place, denominator)?;
+        put(&mut self.numbers, place, times(share, numerator)?);
+        Ok(())
+    }
+
+    fn subtract_multiple(&mut self, entries: &[Entry], place: usize) -> Result<(), Stop> {
+        if at(&self.numbers, place, 0) == 0 {
+            return Ok(());
+        }
+        for entry in entries {
+            self.subtract(entry.number, place, entry.at)?;
+        }
+        Ok(())
+    }
+
+    fn subtract_products(&mut self, entries: &[Entry], place: usize) -> Result<(), Stop> {
+        for entry in entries {
+            if at(&self.numbers, entry.at, 0) != 0 {
+                self.subtract(entry.number, entry.at, place)?;
+            }
+        }
+        Ok(())
+    }
+}
+
+/// The least common denominator of the numbers.
+pub fn common_denominator(numbers: &[Frac]) -> Result<i128, Stop> {
+    let mut common = 1;
+    for number in numbers {
+        let denominator = number.parts().1;
+        if denominator != 1 {
+            let (factor, _) = quotient(whole(denominator)?, whole(common)?)?.parts();
+            common = times(common, factor)?;
+        }
+    }
+    Ok(common)
+}
+
+fn over(number: i128, scale: Frac) -> Result<Frac, Stop> {
+    if number == 0 {
+        return Ok(Frac::zero());
+    }
+    quotient(whole(number)?, scale)
+}
+
+fn times(a: i128, b: i128) -> Result<i128, Stop> {
+    match a.checked_mul(b) {
+        Some(product) => Ok(product),
+        None => Err(Stop::NoFit),
+    }
+}
+
+fn less(a: i128, b: i128) -> Result<i128, Stop> {
+    match a.checked_sub(b) {
+        Some(difference) => Ok(difference),
+        None => Err(Stop::NoFit),
+    }
+}

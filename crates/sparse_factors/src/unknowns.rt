@@ -1,0 +1,16 @@
+// What a system's unknowns are for the factors that solve it.
+use crate::lists::Entry;
+use crate::stop::Stop;
+use fraction::Frac;
+
+/// The unknowns of a system while it is solved.
+pub trait Unknowns {
+    /// Multiplies the number at a place.
+    fn multiply(&mut self, place: usize, factor: Frac) -> Result<(), Stop>;
+
+    /// Takes the entries, times the number at a place, off the numbers at theirs.
+    fn subtract_multiple(&mut self, entries: &[Entry], place: usize) -> Result<(), Stop>;
+
+    /// Takes the products of the entries with the numbers at theirs off the number at a place.
+    fn subtract_products(&mut self, entries: &[Entry], place: usize) -> Result<(), Stop>;
+}
