@@ -139,8 +139,9 @@ pub struct Numbered {
 #[derive(Drop)]
 pub struct Statements {
     pub items: Items<Numbered>,
-    /// How many bytes of the text stand before the data section, where the last statement is `data`.
-    pub data: Option<usize>,
+    /// Where the last statement is `data`: how many bytes of the text stand before its semicolon, behind which the data section
+    /// begins.
+    pub data_at: Option<usize>,
     /// The first bad statement.
     pub fault: Option<SyntaxFault>,
 }

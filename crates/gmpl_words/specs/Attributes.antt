@@ -1,14 +1,12 @@
 -- What a token announces among the attributes of a set, a parameter or a variable, and which of them stand together (GNU
 -- MathProg Language Reference, chapter on statements: set, parameter and variable statement).
-use Rattle.std.specs.Prelude.{ℕ, Bool, true, false, List, [], ◌∷◌, Option, Some, None, if◌then◌else◌, codes}
+use Rattle.std.specs.Prelude.{ℕ, Bool, true, false, List, [], ◌∷◌, ◌++◌, Option, Some, None, if◌then◌else◌, codes}
 use Rattle.std.specs.Option.{option_map}
 use Rattle.std.specs.Str.{bytes_eq}
 use Rattle.gmpl_token.specs.declared.kind.TokenKind.{TokenKind}
 use Rattle.gmpl_token.specs.declared.kind.TokenKind.TheVariants as k
 use Rattle.gmpl_syntax.specs.declared.expression.Relation.{Relation}
 use Rattle.gmpl_syntax.specs.declared.expression.Relation.TheVariants as r
-use Rattle.gmpl_syntax.specs.declared.statement.Attribute.{Attribute}
-use Rattle.gmpl_syntax.specs.declared.statement.Attribute.TheVariants as a
 use Rattle.gmpl_words.specs.declared.attributes.Declared.{Declared}
 use Rattle.gmpl_words.specs.declared.attributes.Declared.TheVariants as d
 use Rattle.gmpl_words.specs.declared.attributes.AttributeWord.{AttributeWord}
@@ -85,17 +83,17 @@ excludes declared w.Symbolic w.Symbolic = true
 excludes declared (w.Restriction old) (w.Restriction new) = restrictions_exclude declared old new
 excludes declared _ _ = false
 
--- the word that announced an attribute
-abbrev pub word_of : Attribute → AttributeWord
-word_of (a.Dimension number) = w.Dimension
-word_of (a.Restriction relation expression) = w.Restriction relation
-word_of (a.Assigned expression) = w.Assigned
-word_of (a.Default expression) = w.Default
-word_of a.Integer = w.Integer
-word_of a.Binary = w.Binary
-word_of a.Symbolic = w.Symbolic
-
--- an attribute may stand behind these
-abbrev pub fits : Declared → List Attribute → AttributeWord → Bool
+-- an attribute may stand behind those that these words announced
+abbrev pub fits : Declared → List AttributeWord → AttributeWord → Bool
 fits declared [] new = true
-fits declared (old ∷ others) new = if excludes declared (word_of old) new then false else fits declared others new
+fits declared (old ∷ others) new = if excludes declared old new then false else fits declared others new
+
+-- what excludes nothing: a relation of a set or a parameter
+unfoldable pub may_repeat : Declared → AttributeWord → Bool
+may_repeat d.Var word = false
+may_repeat _ (w.Restriction relation) = true
+may_repeat _ _ = false
+
+-- the words behind which others have to fit, with one more attribute
+abbrev pub noted : Declared → List AttributeWord → AttributeWord → List AttributeWord
+noted declared words new = if may_repeat declared new then words else words ++ new ∷ []

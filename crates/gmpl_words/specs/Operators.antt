@@ -50,7 +50,7 @@ relation (Some kind) = relation_of kind
 relation None = None
 
 -- behind `not`
-abbrev pub denied_relation : Option TokenKind → Option Relation
+unfoldable pub denied_relation : Option TokenKind → Option Relation
 denied_relation (Some k.In) = Some r.NotIn
 denied_relation (Some k.Within) = Some r.NotWithin
 denied_relation _ = None

@@ -1,10 +1,12 @@
 // The attributes of sets, parameters and variables.
-ghost use Rattle.std.specs.Prelude.{◌≡◌};
+ghost use Rattle.std.specs.Prelude.{◌≡◌, OnOk};
 ghost use Rattle.gmpl_words.specs.Attributes as spec;
 
 use crate::operators::{bound_of, comparison};
-use gmpl_syntax::{Attribute, Relation};
+use gmpl_syntax::Relation;
 use gmpl_token::TokenKind;
+use sqlite_items::Items;
+use std::alloc::AllocError;
 
 /// The objects that attributes describe.
 #[derive(Clone, Copy, Debug, PartialEq, Eq)]
@@ -161,29 +163,40 @@ fn excludes(declared: Declared, old: AttributeWord, new: AttributeWord) -> bool
     }
 }
 
-// The word that announced an attribute.
-fn word_of(attribute: &Attribute) -> AttributeWord
-    ensures { result ≡ spec.word_of attribute.now }
+/// An attribute may stand behind those that these words announced.
+pub fn fits(declared: Declared, words: &[AttributeWord], new: AttributeWord) -> bool
+    ensures { result ≡ spec.fits declared words.now new }
 {
-    match attribute {
-        Attribute::Dimension(_) => AttributeWord::Dimension,
-        Attribute::Restriction(relation, _) => AttributeWord::Restriction(*relation),
-        Attribute::Assigned(_) => AttributeWord::Assigned,
-        Attribute::Default(_) => AttributeWord::Default,
-        Attribute::Integer => AttributeWord::Integer,
-        Attribute::Binary => AttributeWord::Binary,
-        Attribute::Symbolic => AttributeWord::Symbolic,
-    }
-}
-
-/// An attribute may stand behind these.
-pub fn fits(declared: Declared, found: &[Attribute], new: AttributeWord) -> bool
-    ensures { result ≡ spec.fits declared found.now new }
-{
-    for old in found {
-        if excludes(declared, word_of(old), new) {
+    for old in words {
+        if excludes(declared, *old, new) {
             return false;
         }
     }
     true
+}
+
+#[tactic(auto, unfolding(crate::specs::Attributes::may_repeat))]
+fn may_repeat(declared: Declared, word: AttributeWord) -> bool
+    ensures { result ≡ spec.may_repeat declared word }
+{
+    match (declared, word) {
+        (Declared::Var, _) => false,
+        (_, AttributeWord::Restriction(_)) => true,
+        _ => false,
+    }
+}
+
+/// Notes one more attribute among the words behind which others have to fit. These are few, since all but what excludes nothing
+/// stand once.
+pub fn note(
+    declared: Declared,
+    words: &mut Items<AttributeWord>,
+    new: AttributeWord,
+) -> Result<(), AllocError>
+    ensures { OnOk result (words.new ≡ spec.noted declared words.old new) }
+{
+    if !may_repeat(declared, new) {
+        words.push(new)?;
+    }
+    Ok(())
 }

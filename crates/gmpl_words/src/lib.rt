@@ -7,7 +7,7 @@ mod functions;
 mod operators;
 mod statements;
 
-pub use attributes::{AttributeWord, Declared, attribute_word, fits};
+pub use attributes::{AttributeWord, Declared, attribute_word, fits, note};
 pub use braces::is_domain;
 pub use functions::{fewest_more, function_word, iteration_word, most_more, suffix_word};
 pub use operators::{Level, bound_relation, denied_relation, may_follow, operator, relation};

@@ -79,6 +79,7 @@ pub fn relation(kind: Option<TokenKind>) -> Option<Relation>
 }
 
 /// The relation that a token is behind `not`.
+#[tactic(auto, unfolding(crate::specs::Operators::denied_relation))]
 pub fn denied_relation(kind: Option<TokenKind>) -> Option<Relation>
     ensures { result ≡ spec.denied_relation kind }
 {

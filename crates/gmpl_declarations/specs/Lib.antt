@@ -1,0 +1,4 @@
+pub mod Parts
+pub mod Attributes
+pub mod Declarations
+pub mod Tables

@@ -1,0 +1,119 @@
+// Statements that declare, behind their words.
+ghost use Rattle.std.specs.Prelude.{◌≡◌};
+ghost use Rattle.gmpl_input.specs.Rules.{Reads};
+ghost use Rattle.gmpl_declarations.specs.Declarations as spec;
+
+use crate::attributes::attributes;
+use crate::parts::head;
+use gmpl_expressions::Reader;
+use gmpl_input::{Cursor, ParseError};
+use gmpl_syntax::{Constraint, Declaration, Direction, Expr, Head, Objective, Relation};
+use gmpl_token::TokenKind;
+use gmpl_words::{Declared, bound_relation, may_follow};
+
+/// A set, a parameter or a variable.
+#[tactic(auto, unfolding(crate::specs::Declarations::declaration))]
+pub fn declaration(
+    reader: Reader,
+    tokens: &mut Cursor<'_>,
+    declared: Declared,
+) -> Result<Declaration, ParseError>
+    ensures { Reads (spec.declaration reader.depth declared tokens.old) result tokens.new }
+{
+    let head = head(reader, tokens)?;
+    let attributes = attributes(reader, tokens, declared)?;
+    tokens.expect(TokenKind::Semicolon)?;
+    Ok(Declaration { head, attributes })
+}
+
+#[tactic(auto, unfolding(crate::specs::Declarations::first_relation))]
+fn first_relation(tokens: &mut Cursor<'_>) -> Result<Relation, ParseError>
+    ensures { Reads (spec.first_relation tokens.old) result tokens.new }
+{
+    match bound_relation(tokens.peek()) {
+        Some(relation) => {
+            tokens.take();
+            Ok(relation)
+        }
+        None => Err(tokens.refuse()),
+    }
+}
+
+// The second relation with its side.
+#[tactic(auto, unfolding(crate::specs::Declarations::last_side))]
+fn last_side(reader: Reader, tokens: &mut Cursor<'_>, first: Relation) -> Result<Expr, ParseError>
+    ensures { Reads (spec.last_side reader.depth first tokens.old) result tokens.new }
+{
+    tokens.eat(TokenKind::Comma);
+    if !may_follow(first, tokens.peek()) {
+        return Err(tokens.refuse());
+    }
+    tokens.take();
+    reader.expression(tokens)
+}
+
+#[tactic(auto, unfolding(crate::specs::Declarations::optional_last_side))]
+fn optional_last_side(
+    reader: Reader,
+    tokens: &mut Cursor<'_>,
+    first: Relation,
+) -> Result<Option<Expr>, ParseError>
+    ensures { Reads (spec.optional_last_side reader.depth first tokens.old) result tokens.new }
+{
+    if tokens.sees(TokenKind::Semicolon) {
+        Ok(None)
+    } else {
+        Ok(Some(last_side(reader, tokens, first)?))
+    }
+}
+
+// The sides of a constraint with this head.
+#[tactic(auto, unfolding(crate::specs::Declarations::sides))]
+fn sides(reader: Reader, tokens: &mut Cursor<'_>, head: Head) -> Result<Constraint, ParseError>
+    ensures { Reads (spec.sides reader.depth head tokens.old) result tokens.new }
+{
+    let left = reader.expression(tokens)?;
+    tokens.eat(TokenKind::Comma);
+    let relation = first_relation(tokens)?;
+    let right = reader.expression(tokens)?;
+    let last = optional_last_side(reader, tokens, relation)?;
+    Ok(Constraint {
+        head,
+        left,
+        relation,
+        right,
+        last,
+    })
+}
+
+/// A constraint.
+#[tactic(auto, unfolding(crate::specs::Declarations::constraint))]
+pub fn constraint(reader: Reader, tokens: &mut Cursor<'_>) -> Result<Constraint, ParseError>
+    ensures { Reads (spec.constraint reader.depth tokens.old) result tokens.new }
+{
+    let head = head(reader, tokens)?;
+    tokens.expect(TokenKind::Colon)?;
+    let constraint = sides(reader, tokens, head)?;
+    tokens.expect(TokenKind::Semicolon)?;
+    Ok(constraint)
+}
+
+/// An objective.
+#[tactic(auto, unfolding(crate::specs::Declarations::objective))]
+pub fn objective(
+    reader: Reader,
+    tokens: &mut Cursor<'_>,
+    direction: Direction,
+) -> Result<Objective, ParseError>
+    ensures { Reads (spec.objective reader.depth direction tokens.old) result tokens.new }
+{
+    let head = head(reader, tokens)?;
+    tokens.expect(TokenKind::Colon)?;
+    let form = reader.expression(tokens)?;
+    tokens.expect(TokenKind::Semicolon)?;
+    Ok(Objective {
+        direction,
+        head,
+        form,
+    })
+}

@@ -1,0 +1,2 @@
+pub mod ScalingSteps
+pub mod SumSteps

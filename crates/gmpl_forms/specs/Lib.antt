@@ -1,0 +1,4 @@
+pub mod Amounts
+pub mod Linear
+pub mod Scalings
+pub mod Sums

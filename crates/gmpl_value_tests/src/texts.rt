@@ -1,0 +1,91 @@
+// How the tables write symbols, tuples and faults.
+use fraction::{Frac, NoFit, Op};
+use gmpl_fault::EvalFault;
+use gmpl_functions::plain_text;
+use gmpl_text::Text;
+use gmpl_value::{SetFault, Symbol, Tuple};
+use std::alloc::{AllocError, Global};
+
+/// A number, or a string behind a quote, in which `_` is a blank.
+pub(crate) fn symbol(alloc: Global, word: &str) -> Result<Symbol, AllocError> {
+    match word.strip_prefix('\'') {
+        Some(text) => Ok(Symbol::Word(Text::from(with_blanks(alloc, text)?))),
+        None => Ok(Symbol::Number(number(word))),
+    }
+}
+
+fn with_blanks(alloc: Global, text: &str) -> Result<String, AllocError> {
+    let mut made = String::new(alloc);
+    for c in text.chars() {
+        made.push(if c == '_' { ' ' } else { c })?;
+    }
+    Ok(made)
+}
+
+pub(crate) fn number(word: &str) -> Frac {
+    match Frac::read_canonical(word) {
+        Ok(number) => number,
+        Err(_) => Frac::whole(-9999),
+    }
+}
+
+/// Symbols with points between them.
+pub(crate) fn tuple(alloc: Global, text: &str) -> Result<Tuple, AllocError> {
+    let mut made = Tuple::new(alloc);
+    for word in text.split('.') {
+        made.push(symbol(alloc, word)?)?;
+    }
+    Ok(made)
+}
+
+/// A symbol as the tables write it.
+pub(crate) fn symbol_word(alloc: Global, symbol: &Symbol) -> Result<String, AllocError> {
+    let text = plain_text(alloc, symbol)?;
+    match symbol {
+        Symbol::Number(_) => Ok(text),
+        Symbol::Word(_) => format!(in alloc; "'{text}"),
+    }
+}
+
+pub(crate) fn tuple_word(alloc: Global, tuple: &Tuple) -> Result<String, AllocError> {
+    let mut made = String::new(alloc);
+    for symbol in tuple.symbols() {
+        if !made.is_empty() {
+            made.push('.')?;
+        }
+        made.push_str(symbol_word(alloc, symbol)?.as_str())?;
+    }
+    Ok(made)
+}
+
+pub(crate) fn set_fault_word(alloc: Global, fault: SetFault) -> Result<String, AllocError> {
+    fault_word(alloc, EvalFault::from(fault))
+}
+
+pub(crate) fn fault_word(alloc: Global, fault: EvalFault) -> Result<String, AllocError> {
+    let kind = match fault {
+        EvalFault::NoFit(no_fit) => return no_fit_word(alloc, no_fit),
+        EvalFault::NoValue => "NoValue",
+        EvalFault::OutOfDomain => "OutOfDomain",
+        EvalFault::DivZero => "DivZero",
+        EvalFault::NotWhole => "NotWhole",
+        EvalFault::NotANumber => "NotANumber",
+        EvalFault::Nonlinear => "Nonlinear",
+        EvalFault::TooMany => "TooMany",
+        EvalFault::NoMemory => "NoMemory",
+        _ => "?",
+    };
+    format!(in alloc; "!{kind}")
+}
+
+fn no_fit_word(alloc: Global, no_fit: NoFit) -> Result<String, AllocError> {
+    let op = match no_fit.op {
+        Op::Add => "+",
+        Op::Sub => "-",
+        Op::Mul => "*",
+        Op::Div => "/",
+    };
+    let first = no_fit.a.text(alloc)?;
+    let second = no_fit.b.text(alloc)?;
+    format!(in alloc; "!NoFit {first} {op} {second}")
+}
