@@ -158,15 +158,3 @@ module _ (p : Problem) (ds : List Derived) (sides : List Side) where
   number_base [] h j = zero_base
   number_base (v ∷ x) h zero = h.0
   number_base (v ∷ x) h (suc j) = number_base x h.1 j
-
--- ---- what a well-formed problem is
-
-pub row_entries : (n : ℕ) (rows : List Row) → list_all (λ (r : Row). are_entries_from 0 n r.entries) rows ≡ true → (i : ℕ) (r : Row) → slice_get rows i ≡ Some r → are_entries_from 0 n r.entries ≡ true
-row_entries n [] h i r at = absurd cc
-row_entries n (s ∷ rows) h zero r at =
-    let parts = and_parts (are_entries_from 0 n s.entries) (list_all (λ (r : Row). are_entries_from 0 n r.entries) rows) h in
-    let same : s ≡ r = cc in
-    subst (λ (t : Row). are_entries_from 0 n t.entries ≡ true) same parts.0
-row_entries n (s ∷ rows) h (suc i) r at =
-    let parts = and_parts (are_entries_from 0 n s.entries) (list_all (λ (r : Row). are_entries_from 0 n r.entries) rows) h in
-    row_entries n rows parts.1 i r at

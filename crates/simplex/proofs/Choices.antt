@@ -116,9 +116,6 @@ resting places q h e = record { known = h; not_basic = λ w. clash (sym (ap is_b
     clash : ¬ (true ≡ false)
     clash k = cc
 
-pub is_resting : (places : List Place) (q : ℕ) → q < length places → is_basic (place_of places q) ≡ false → IsResting places q
-is_resting places q h e = resting places q h e
-
 mend_false : (s : System) (x : ℕ → Rational) (q : ℕ) (p : Place) (b : Bounds) (a rate : Rational) → slice_get s.bounds q ≡ Some b → a ≡ x q → can_mend p b a rate ≡ false → ¬ (CanMend s x p q rate)
 mend_false s x q Basic b a rate e f h = λ k. k
 mend_false s x q AtLower b a rate e f h = raise_false s x q b a rate e f h
