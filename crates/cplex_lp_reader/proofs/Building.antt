@@ -1,11 +1,9 @@
 -- What a builder asks for, from what a draft keeps.
 use Rattle.std.proofs.Common.{◌≡◌, ◌∙◌, ℕ, suc, zero, ◌+◌, ◌<◌, ◌≤◌, false, List, [], ◌∷◌, ◌++◌, length, map, take, get_or, sym, ap, refl, arith}
-use Rattle.std.proofs.lemmas.List.{get_or-map, take-map, take_more, length-map}
-use Rattle.std.specs.List.{list_any}
-use Rattle.std.specs.Str.{bytes_eq}
+use Rattle.std.proofs.lemmas.List.{take_more}
 use Rattle.milp.specs.Problem.{Row}
 use Rattle.instance.specs.WellFormed.{has_row, entry_count as entries_of_rows}
-use Rattle.model_text.specs.Names.{is_name, AreNew}
+use Rattle.model_text.specs.Names.{AreNew}
 use Rattle.cplex_lp_reader.specs.Constraints.{entry_count}
 use Rattle.model_text.proofs.Laws.{new-at}
 use Rattle.instance.proofs.Laws.{entry_count-snoc}

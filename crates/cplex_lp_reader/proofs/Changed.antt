@@ -1,12 +1,12 @@
 -- The element at a place, changed.
-use Rattle.std.proofs.Common.{◌≡◌, ◌∙◌, ℕ, zero, suc, ◌+◌, ◌<◌, ◌≤◌, List, [], ◌∷◌, ◌++◌, length, map, get_or, set, slice_get, Some, sym, ap, refl, arith}
+use Rattle.std.proofs.Common.{◌≡◌, ◌∙◌, ℕ, zero, suc, ◌+◌, ◌<◌, ◌≤◌, List, [], ◌∷◌, length, get_or, set, slice_get, Some, sym, ap, refl, arith}
 use Rattle.std.proofs.lemmas.Option.{slice_get-get_or}
 use Rattle.std.specs.List.{All}
 use Rattle.std.proofs.lemmas.List.Elements.{All-cons, All-head, All-tail}
 use Rattle.milp.specs.Problem.{Row, Column}
 use Rattle.cplex_lp_reader.specs.declared.column_change.ColumnChange.{ColumnChange}
 use Rattle.cplex_lp_reader.specs.declared.column_change.ColumnChange.TheVariants.{Kept, Bounded, Freed, MadeInteger, MadeBinary}
-use Rattle.cplex_lp_reader.specs.declared.token.Relation.TheVariants.{AtMost, AtLeast, Exactly}
+use Rattle.cplex_lp_tokens.specs.declared.token.Relation.TheVariants.{AtMost, AtLeast, Exactly}
 use Rattle.cplex_lp_reader.specs.Declaration.{with_changed}
 use Rattle.cplex_lp_reader.specs.Bounds.{changed}
 use Rattle.cplex_lp_reader.specs.Constraints.{entry_count}

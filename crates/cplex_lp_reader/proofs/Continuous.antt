@@ -10,12 +10,12 @@ use Rattle.milp.specs.declared.Direction.TheVariants.{Min, Max}
 use Rattle.model_text.specs.declared.fault.FaultKind.TheVariants.{Twice, TooMany}
 use Rattle.model_text.specs.declared.fault.FileFault.{FileFault}
 use Rattle.model_text.specs.declared.profile.Profile.{Profile}
-use Rattle.cplex_lp_reader.specs.declared.token.Relation.{Relation}
-use Rattle.cplex_lp_reader.specs.declared.token.Relation.TheVariants.{AtMost, AtLeast, Exactly}
-use Rattle.cplex_lp_reader.specs.declared.token.Section.{Section}
-use Rattle.cplex_lp_reader.specs.declared.token.Section.TheVariants.{Minimize, Maximize, Constraints, Bounds, General, Binary, End}
-use Rattle.cplex_lp_reader.specs.declared.token.TokenKind.{TokenKind}
-use Rattle.cplex_lp_reader.specs.declared.token.TokenKind.TheVariants.{SectionWords, Word, Literal, Plus, Minus, Compared}
+use Rattle.cplex_lp_tokens.specs.declared.token.Relation.{Relation}
+use Rattle.cplex_lp_tokens.specs.declared.token.Relation.TheVariants.{AtMost, AtLeast, Exactly}
+use Rattle.cplex_lp_tokens.specs.declared.token.Section.{Section}
+use Rattle.cplex_lp_tokens.specs.declared.token.Section.TheVariants.{Minimize, Maximize, Constraints, Bounds, General, Binary, End}
+use Rattle.cplex_lp_tokens.specs.declared.token.TokenKind.{TokenKind}
+use Rattle.cplex_lp_tokens.specs.declared.token.TokenKind.TheVariants.{SectionWords, Word, Literal, Plus, Minus, Compared}
 use Rattle.cplex_lp_reader.specs.declared.expecting.Sign.{Sign}
 use Rattle.cplex_lp_reader.specs.declared.expecting.Sign.TheVariants.{Unsigned}
 use Rattle.cplex_lp_reader.specs.declared.expecting.Limit.{Limit}
@@ -27,11 +27,11 @@ use Rattle.cplex_lp_reader.specs.declared.expecting.Expecting.TheVariants as exp
 use Rattle.cplex_lp_reader.specs.declared.column_change.ColumnChange.{ColumnChange}
 use Rattle.cplex_lp_reader.specs.declared.column_change.ColumnChange.TheVariants.{Kept, Bounded, Freed}
 use Rattle.model_text.specs.Profile.{reader_profile}
-use Rattle.cplex_lp_reader.specs.Tokens.{Token, is_word, is_name, tokens_of}
+use Rattle.cplex_lp_tokens.specs.Tokens.{Token, is_word, is_name, tokens_of, is_colon, is_before_colon, is_before_name}
 use Rattle.model_text.specs.Columns.{new_column}
 use Rattle.model_text.specs.Steps.{then_do}
 use Rattle.cplex_lp_reader.specs.Steps.{fault_at, misplaced, fitting_at, number_of}
-use Rattle.cplex_lp_reader.specs.Grammar.{after_plus, after_minus, signed, is_colon, is_before_colon, is_before_name}
+use Rattle.cplex_lp_reader.specs.Grammar.{after_plus, after_minus, signed}
 use Rattle.cplex_lp_reader.specs.Declaration.{Declaration, nothing_declared, now_expecting, added, entries_of, column_place, mentioned, with_column, problem_of}
 use Rattle.cplex_lp_reader.specs.Objective.{objective_term, with_constant, objective_number, objective_begun, objective_factor, objective_done, in_objective, at_objective_start, at_objective_colon}
 use Rattle.cplex_lp_reader.specs.Constraints.{is_row, row_opened, default_name, unnamed_row, unnamed_row_at, row_term, row_begun, row_factor, may_follow, row_done, in_row_terms, at_row_name, at_row_start, at_row_colon, at_row_first, at_row_number, with_right, entry_count, row_closed, at_row_right}

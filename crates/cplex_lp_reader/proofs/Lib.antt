@@ -1,5 +1,4 @@
 pub mod CplexLpExamples
-pub mod Scanned
 pub mod Joined
 pub mod Terms
 pub mod Changed

@@ -6,10 +6,10 @@ use Rattle.rational.specs.Rational.{Rational, zero_ℚ, one_ℚ}
 use Rattle.milp.specs.Problem.{Column}
 use Rattle.model_text.specs.declared.fault.FileFault.{FileFault}
 use Rattle.model_text.specs.declared.profile.Profile.{Profile}
-use Rattle.cplex_lp_reader.specs.declared.token.Relation.{Relation}
-use Rattle.cplex_lp_reader.specs.declared.token.Relation.TheVariants.{AtMost, AtLeast, Exactly}
-use Rattle.cplex_lp_reader.specs.declared.token.TokenKind.{TokenKind}
-use Rattle.cplex_lp_reader.specs.declared.token.TokenKind.TheVariants.{Word, Literal, Plus, Minus, Compared}
+use Rattle.cplex_lp_tokens.specs.declared.token.Relation.{Relation}
+use Rattle.cplex_lp_tokens.specs.declared.token.Relation.TheVariants.{AtMost, AtLeast, Exactly}
+use Rattle.cplex_lp_tokens.specs.declared.token.TokenKind.{TokenKind}
+use Rattle.cplex_lp_tokens.specs.declared.token.TokenKind.TheVariants.{Word, Literal, Plus, Minus, Compared}
 use Rattle.cplex_lp_reader.specs.declared.column_change.ColumnChange.{ColumnChange}
 use Rattle.cplex_lp_reader.specs.declared.column_change.ColumnChange.TheVariants.{Kept, Bounded, Freed, MadeInteger, MadeBinary}
 use Rattle.cplex_lp_reader.specs.declared.expecting.Sign.{Sign}
@@ -18,7 +18,7 @@ use Rattle.cplex_lp_reader.specs.declared.expecting.Limit.{Limit}
 use Rattle.cplex_lp_reader.specs.declared.expecting.Limit.TheVariants.{MinusInfinity, Finite, PlusInfinity}
 use Rattle.cplex_lp_reader.specs.declared.expecting.Expecting.{Expecting}
 use Rattle.cplex_lp_reader.specs.declared.expecting.Expecting.TheVariants.{BoundStart, BoundLeft, BoundRelation, BoundName, BoundNamed, BoundCompared, BoundRight, Generals, Binaries}
-use Rattle.cplex_lp_reader.specs.Tokens.{Token, is_word}
+use Rattle.cplex_lp_tokens.specs.Tokens.{Token, is_word}
 use Rattle.model_text.specs.Steps.{then_do}
 use Rattle.cplex_lp_reader.specs.Steps.{misplaced, number_of}
 use Rattle.cplex_lp_reader.specs.Declaration.{Declaration, now_expecting, column_place, mentioned, with_column}

@@ -10,21 +10,21 @@ use Rattle.milp.specs.Problem.{Row}
 use Rattle.model_text.specs.declared.fault.FaultKind.TheVariants.{Twice, TooMany}
 use Rattle.model_text.specs.declared.fault.FileFault.{FileFault}
 use Rattle.model_text.specs.declared.profile.Profile.{Profile}
-use Rattle.cplex_lp_reader.specs.declared.token.Relation.{Relation}
-use Rattle.cplex_lp_reader.specs.declared.token.Relation.TheVariants.{AtMost, AtLeast, Exactly}
-use Rattle.cplex_lp_reader.specs.declared.token.TokenKind.{TokenKind}
-use Rattle.cplex_lp_reader.specs.declared.token.TokenKind.TheVariants.{Word, Literal, Plus, Minus, Compared}
+use Rattle.cplex_lp_tokens.specs.declared.token.Relation.{Relation}
+use Rattle.cplex_lp_tokens.specs.declared.token.Relation.TheVariants.{AtMost, AtLeast, Exactly}
+use Rattle.cplex_lp_tokens.specs.declared.token.TokenKind.{TokenKind}
+use Rattle.cplex_lp_tokens.specs.declared.token.TokenKind.TheVariants.{Word, Literal, Plus, Minus, Compared}
 use Rattle.cplex_lp_reader.specs.declared.expecting.Sign.{Sign}
 use Rattle.cplex_lp_reader.specs.declared.expecting.Sign.TheVariants.{Unsigned}
 use Rattle.cplex_lp_reader.specs.declared.expecting.TermPart.{TermPart}
 use Rattle.cplex_lp_reader.specs.declared.expecting.TermPart.TheVariants.{Begun, Factor, Done}
 use Rattle.cplex_lp_reader.specs.declared.expecting.Expecting.{Expecting}
 use Rattle.cplex_lp_reader.specs.declared.expecting.Expecting.TheVariants.{RowStart, RowColon, RowFirst, RowNumber, RowTerms, RowRight}
-use Rattle.cplex_lp_reader.specs.Tokens.{Token}
+use Rattle.cplex_lp_tokens.specs.Tokens.{Token, is_colon, is_before_colon}
 use Rattle.model_text.specs.Steps.{then_do}
 use Rattle.cplex_lp_reader.specs.Steps.{fault_at, misplaced, number_of}
 use Rattle.cplex_lp_reader.specs.Declaration.{OpenRow, new_row, Declaration, now_expecting, added, entries_of, column_place, mentioned, with_changed}
-use Rattle.cplex_lp_reader.specs.Grammar.{after_plus, after_minus, signed, is_colon, is_before_colon}
+use Rattle.cplex_lp_reader.specs.Grammar.{after_plus, after_minus, signed}
 
 -- ---- a row begins
 

@@ -6,17 +6,17 @@ use Rattle.milp.specs.declared.Direction.TheVariants.{Min, Max}
 use Rattle.model_text.specs.declared.fault.FaultKind.TheVariants.{BadLine, IntegersNotYet}
 use Rattle.model_text.specs.declared.fault.FileFault.{FileFault}
 use Rattle.model_text.specs.declared.profile.Profile.{Profile}
-use Rattle.cplex_lp_reader.specs.declared.token.TokenKind.{TokenKind}
-use Rattle.cplex_lp_reader.specs.declared.token.TokenKind.TheVariants.{SectionWords}
-use Rattle.cplex_lp_reader.specs.declared.token.Section.{Section}
-use Rattle.cplex_lp_reader.specs.declared.token.Section.TheVariants.{Minimize, Maximize, Constraints, Bounds, General, Binary, End}
+use Rattle.cplex_lp_tokens.specs.declared.token.TokenKind.{TokenKind}
+use Rattle.cplex_lp_tokens.specs.declared.token.TokenKind.TheVariants.{SectionWords}
+use Rattle.cplex_lp_tokens.specs.declared.token.Section.{Section}
+use Rattle.cplex_lp_tokens.specs.declared.token.Section.TheVariants.{Minimize, Maximize, Constraints, Bounds, General, Binary, End}
 use Rattle.cplex_lp_reader.specs.declared.expecting.Sign.TheVariants.{Unsigned}
 use Rattle.cplex_lp_reader.specs.declared.expecting.TermPart.TheVariants.{Begun, Done}
 use Rattle.cplex_lp_reader.specs.declared.expecting.Expecting.{Expecting}
 use Rattle.cplex_lp_reader.specs.declared.expecting.Expecting.TheVariants as expecting
 use Rattle.model_text.specs.Profile.{reader_profile}
 use Rattle.model_text.specs.Lines.{lines_of}
-use Rattle.cplex_lp_reader.specs.Tokens.{Token, tokens_of}
+use Rattle.cplex_lp_tokens.specs.Tokens.{Token, tokens_of}
 use Rattle.model_text.specs.Steps.{then_do}
 use Rattle.cplex_lp_reader.specs.Steps.{fault_at, misplaced}
 use Rattle.cplex_lp_reader.specs.Declaration.{Declaration, nothing_declared, now_expecting, problem_of}

@@ -1,5 +1,5 @@
 -- What a CPLEX LP text has declared so far.
-use Rattle.std.specs.Prelude.{ℕ, ◌==◌, nat_lt, nat_le, Bool, false, zero, suc, List, [], ◌∷◌, ◌++◌, length, not, filter, codes, Some, None, Result, Ok, if◌then◌else◌, take, drop}
+use Rattle.std.specs.Prelude.{ℕ, ◌==◌, nat_lt, nat_le, Bool, false, zero, suc, List, [], ◌∷◌, ◌++◌, length, not, filter, codes, None, Result, Ok, if◌then◌else◌, take, drop}
 use Rattle.std.specs.declared.option.Option.{Option}
 use Rattle.std.specs.List.{position_or_len}
 use Rattle.rational.specs.Rational.{Rational, zero_ℚ}
@@ -12,10 +12,10 @@ use Rattle.milp.specs.declared.Direction.TheVariants.{Min}
 use Rattle.model_text.specs.declared.fault.FaultKind.TheVariants.{TooMany}
 use Rattle.model_text.specs.declared.fault.FileFault.{FileFault}
 use Rattle.model_text.specs.declared.profile.Profile.{Profile}
-use Rattle.cplex_lp_reader.specs.declared.token.Relation.{Relation}
+use Rattle.cplex_lp_tokens.specs.declared.token.Relation.{Relation}
 use Rattle.cplex_lp_reader.specs.declared.expecting.Expecting.{Expecting}
 use Rattle.cplex_lp_reader.specs.declared.expecting.Expecting.TheVariants.{Start}
-use Rattle.cplex_lp_reader.specs.Tokens.{Token}
+use Rattle.cplex_lp_tokens.specs.Tokens.{Token}
 use Rattle.model_text.specs.Columns.{is_column_named, new_column}
 use Rattle.model_text.specs.Steps.{then_do}
 use Rattle.cplex_lp_reader.specs.Steps.{fault_at, fitting_at}

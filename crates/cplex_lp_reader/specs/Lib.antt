@@ -1,5 +1,3 @@
-pub mod Lexemes
-pub mod Tokens
 pub mod Steps
 pub mod Declaration
 pub mod Consistent

@@ -5,7 +5,7 @@ use Rattle.fraction.specs.Literal.{read_of}
 use Rattle.model_text.specs.declared.fault.FaultKind.{FaultKind}
 use Rattle.model_text.specs.declared.fault.FaultKind.TheVariants.{BadLine, TooWide}
 use Rattle.model_text.specs.declared.fault.FileFault.{FileFault}
-use Rattle.cplex_lp_reader.specs.Tokens.{Token}
+use Rattle.cplex_lp_tokens.specs.Tokens.{Token}
 
 -- a fault of this kind at a line
 abbrev pub fault_at : {A : Type 0} → ℕ → FaultKind → Result A FileFault

@@ -15,8 +15,7 @@ use crate::columns::mention_changed;
 use crate::draft::Draft;
 use crate::expecting::{Expecting, Limit, Sign};
 use crate::faults::{misplaced, number_of_token};
-use crate::section_words::is_word;
-use crate::token::{Relation, Token, TokenKind};
+use cplex_lp_tokens::{Relation, Token, TokenKind, is_word};
 use model_text::{FileFault, Profile, ReadError};
 
 // ---- limits

@@ -4,7 +4,7 @@ ghost use Rattle.cplex_lp_reader.specs.Declaration.{with_changed};
 ghost use Rattle.cplex_lp_reader.specs.Bounds.{bound_of, bounded, changed};
 
 use crate::expecting::Limit;
-use crate::token::Relation;
+use cplex_lp_tokens::Relation;
 use fraction::Frac;
 use model_text::{ColumnTable, DeclaredColumn};
 

@@ -9,7 +9,7 @@ use crate::column_change::ColumnChange;
 use crate::draft::Draft;
 use crate::expecting::Expecting;
 use crate::faults::fault_at;
-use crate::token::Token;
+use cplex_lp_tokens::Token;
 use model_text::{FaultKind, FileFault, Profile, ReadError};
 
 // A column is there, since its name is mentioned.

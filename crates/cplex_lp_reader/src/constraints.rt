@@ -16,7 +16,7 @@ use crate::columns::mention;
 use crate::draft::Draft;
 use crate::expecting::{Expecting, Sign, TermPart};
 use crate::faults::{fault_at, misplaced, number_of_token};
-use crate::token::{Relation, Token, TokenKind, is_before_colon};
+use cplex_lp_tokens::{Relation, Token, TokenKind, is_before_colon};
 use fraction::Frac;
 use model_text::{FaultKind, FileFault, Profile, ReadError};
 use std::alloc::{AllocError, Global};

@@ -19,7 +19,7 @@ use crate::form::Form;
 use crate::open_row::OpenRow;
 use crate::row::DeclaredRow;
 use crate::row_table::RowTable;
-use crate::token::Relation;
+use cplex_lp_tokens::Relation;
 use fraction::Frac;
 use instance::Entry;
 use milp::Direction;

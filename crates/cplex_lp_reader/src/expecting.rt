@@ -3,7 +3,7 @@ ghost use Rattle.std.specs.Prelude.{◌≡◌};
 ghost use Rattle.cplex_lp_reader.specs.Grammar.{after_plus, after_minus, signed};
 ghost use Rattle.cplex_lp_reader.specs.CplexLp.{ends_objective, ends_section, is_start, is_ended};
 
-use crate::token::Relation;
+use cplex_lp_tokens::Relation;
 use fraction::Frac;
 
 // The sign before a number, as far as it is read.

@@ -5,7 +5,7 @@ ghost use Rattle.model_text.specs.declared.error.ReadError.TheVariants.{Fault};
 ghost use Rattle.model_text.specs.Follows.{Reads};
 ghost use Rattle.cplex_lp_reader.specs.Steps.{number_of};
 
-use crate::token::Token;
+use cplex_lp_tokens::Token;
 use fraction::Frac;
 use model_text::{FaultKind, FileFault, ReadError};
 

@@ -11,18 +11,12 @@ mod faults;
 mod finish;
 mod form;
 mod laws;
-mod lexeme;
-mod lines;
 mod objective;
 mod open_row;
 mod read;
 mod row;
 mod row_table;
-mod scan;
-mod section_words;
 mod sections;
-mod token;
-mod tokens;
 
 pub use laws::declared_problems_are_continuous;
 pub use model_text::{FaultKind, FileFault, ReadError};

@@ -13,7 +13,7 @@ use crate::draft::Draft;
 use crate::expecting::{Expecting, Sign, TermPart};
 use crate::faults::{misplaced, number_of_token};
 use crate::form::sum_at;
-use crate::token::{Token, TokenKind, is_before_colon, is_before_name};
+use cplex_lp_tokens::{Token, TokenKind, is_before_colon, is_before_name};
 use fraction::Frac;
 use model_text::{FileFault, Profile, ReadError};
 

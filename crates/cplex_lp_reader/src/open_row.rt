@@ -7,7 +7,7 @@ ghost use Rattle.cplex_lp_reader.specs.Constraints.{left_set, right_set};
 ghost use Rattle.cplex_lp_reader.specs.Consistent.{are_terms};
 
 use crate::form::Form;
-use crate::token::Relation;
+use cplex_lp_tokens::Relation;
 use fraction::Frac;
 use instance::Entry;
 use model_text::{FileFault, ReadError};

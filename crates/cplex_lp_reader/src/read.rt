@@ -8,8 +8,7 @@ ghost use Rattle.cplex_lp_reader.specs.CplexLp.{declared, declared_from, declare
 use crate::draft::Draft;
 use crate::finish::finish;
 use crate::sections::{at_end, read_token};
-use crate::token::Token;
-use crate::tokens::tokens_of_lines;
+use cplex_lp_tokens::{Token, tokens_of_lines};
 use instance::Instance;
 use model_text::{FileFault, Profile, ReadError, lines_in, reader_profile};
 use std::alloc::Global;

@@ -15,7 +15,7 @@ use crate::draft::Draft;
 use crate::expecting::Expecting;
 use crate::faults::{fault_at, misplaced};
 use crate::objective::{at_objective_colon, at_objective_start, in_objective};
-use crate::token::{Section, Token, TokenKind};
+use cplex_lp_tokens::{Section, Token, TokenKind};
 use milp::Direction;
 use model_text::{FaultKind, FileFault, Profile, ReadError};
 use std::alloc::Global;

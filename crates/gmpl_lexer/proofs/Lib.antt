@@ -1,4 +1,3 @@
-pub mod Places
 pub mod Walks
 pub mod Texts
 pub mod Scanned

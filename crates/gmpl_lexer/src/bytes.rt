@@ -1,5 +1,5 @@
 // Bytes of a model text.
-ghost use Rattle.std.specs.Prelude.{◌≡◌, ◌≤◌, IsTrue, length, drop};
+ghost use Rattle.std.specs.Prelude.{◌≡◌, ◌≤◌, IsTrue, length};
 ghost use Rattle.std.specs.List.{position};
 ghost use Rattle.gmpl_lexer.specs.Bytes.{next_is, is_blank, is_quote, begins_name, is_no_name_byte, is_before_name, is_line_feed};
 
@@ -12,14 +12,6 @@ pub(crate) fn next_is(wanted: u8, text: &[u8]) -> bool
         [] => false,
         [first, ..] => *first == wanted,
     }
-}
-
-// What comes after so many bytes.
-pub(crate) fn after(text: &[u8], count: usize) -> &[u8]
-    requires { count ≤ length text.now }
-    ensures { result.now ≡ drop count text.now }
-{
-    &text[count..]
 }
 
 // Blank, tab, line feed.

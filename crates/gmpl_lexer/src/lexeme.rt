@@ -5,11 +5,12 @@ ghost use Rattle.std.specs.Str.{is_utf8};
 ghost use Rattle.gmpl_lexer.specs.Bytes.{is_no_name_byte};
 ghost use Rattle.gmpl_lexer.specs.Lexemes.{gap, token, bad, name_at, word_at, short_at, delimiter_at, literal_or_delimiter, string_of, string_at, comment_of, comment_or_other, line_end, lexeme_at};
 
-use crate::bytes::{after, begins_name, first_no_name_byte, is_blank, is_quote, next_is};
+use crate::bytes::{begins_name, first_no_name_byte, is_blank, is_quote, next_is};
 use crate::numbers::literal_length;
 use crate::strings::{closes_comment, comment_length, line_length, string_length};
 use crate::words::{long_delimiter, name_kind, short_delimiter};
 use gmpl_token::{LexFaultKind, TokenKind};
+use model_text::after;
 
 // How many bytes it takes, and what it is.
 #[derive(Clone, Copy)]

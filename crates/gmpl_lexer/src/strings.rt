@@ -3,7 +3,8 @@ ghost use Rattle.std.specs.Prelude.{◌≡◌, ◌≤◌, IsTrue, length};
 ghost use Rattle.gmpl_lexer.specs.Strings.{string_length, line_length, closes_comment, comment_length};
 ghost use Rattle.gmpl_lexer.specs.Steps.{string_step};
 
-use crate::bytes::{after, first_line_feed, next_is};
+use crate::bytes::{first_line_feed, next_is};
+use model_text::after;
 
 // How far a string goes on at a place: 0 at its end.
 fn string_step(quote: u8, text: &[u8]) -> usize

@@ -5,10 +5,11 @@ ghost use Rattle.fraction.specs.Literal.{read_of};
 ghost use Rattle.gmpl_lexer.specs.Bytes.{is_line_feed};
 ghost use Rattle.gmpl_lexer.specs.Tokens.{begins_behind, number_text, text_by_kind, token_text, tokens_of};
 
-use crate::bytes::{after, is_before_name};
+use crate::bytes::is_before_name;
 use crate::lexeme::{LexemeKind, lexeme_at};
 use fraction::{Frac, ReadFault};
 use gmpl_token::{LexFault, LexFaultKind, Token, TokenKind, Tokens};
+use model_text::after;
 use std::alloc::{AllocError, Global};
 
 // A statement may begin behind a token of this kind.

@@ -2,6 +2,7 @@ pub mod Bytes
 pub mod Columns
 pub mod KindText
 pub mod Lines
+pub mod Literals
 pub mod Names
 pub mod Profile
 pub mod Steps

@@ -1,5 +1,5 @@
-//! What the readers of model files share: the lines of a text, the names and columns that it declares, how far a
-//! reader goes, and how a fault is told.
+//! What the readers of model files share: the lines of a text, how long a number is, the names and columns that a text
+//! declares, how far a reader goes, and how a fault is told.
 #![tactic(auto)]
 
 mod build;
@@ -8,6 +8,7 @@ mod declared_column;
 mod error;
 mod fault;
 mod lines;
+mod literals;
 mod names;
 mod owned_names;
 mod profile;
@@ -18,6 +19,7 @@ pub use declared_column::DeclaredColumn;
 pub use error::ReadError;
 pub use fault::{FaultKind, FileFault};
 pub use lines::{as_text, lines_in};
+pub use literals::{after, digits, places_length, with_exponent};
 pub use names::Names;
 pub use owned_names::OwnedNames;
 pub use profile::{Profile, reader_profile};

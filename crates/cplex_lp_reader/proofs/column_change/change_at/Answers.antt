@@ -1,5 +1,5 @@
 -- The column in its place, changed.
-use Rattle.std.proofs.Common.{◌≡◌, ◌<◌, ◌≤◌, length, sym, rules}
+use Rattle.std.proofs.Common.{◌<◌, ◌≤◌, length, sym, rules}
 use Rattle.cplex_lp_reader.specs.Bounds.{changed}
 use Rattle.cplex_lp_reader.proofs.Changed.{changed-got, changed-past, changed-name}
 use Rattle.cplex_lp_reader.proofs.column_change.change_at.Goals as goal

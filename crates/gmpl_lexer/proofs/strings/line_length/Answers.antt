@@ -1,6 +1,6 @@
 -- Where no byte is another, all are counted.
 use Rattle.gmpl_lexer.specs.Bytes.{is_line_feed}
-use Rattle.gmpl_lexer.proofs.Places.{place-past}
+use Rattle.model_text.proofs.Laws.{place-past}
 use Rattle.gmpl_lexer.proofs.strings.line_length.Goals as goal
 
 pub returns-in-None-clause-value : goal.returns-in-None-clause-value

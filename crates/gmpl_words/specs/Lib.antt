@@ -1,0 +1,5 @@
+pub mod Operators
+pub mod Functions
+pub mod Attributes
+pub mod Statements
+pub mod Braces
