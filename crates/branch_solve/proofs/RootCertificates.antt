@@ -1,5 +1,5 @@
 -- The certificates of what the simplex method finds at the root: where their checks have faults, and what they prove.
-use Rattle.std.proofs.Common.{◌≡◌, ◌∙◌, refl, IfErr, length, sym, Option, IsTrue, IfSome, slice_get, List, [], ◌∷◌, Bool, true, false, Some, None, Result, Ok, Err, ap, subst}
+use Rattle.std.proofs.Common.{◌≡◌, ◌∙◌, refl, IfErr, sym, Option, IsTrue, IfSome, slice_get, List, [], ◌∷◌, Bool, true, false, Some, None, Result, Ok, Err, ap, subst}
 use Rattle.rational.specs.Rational.{Rational, ◌-ℚ◌}
 use Rattle.milp.specs.Form.{number_at}
 use Rattle.milp.specs.Problem.{Column, Problem}
@@ -20,7 +20,7 @@ use Rattle.cert_check.specs.Parts.{point_answer, ray_answer, node_answer}
 use Rattle.cert_check.specs.Parts as of
 use Rattle.search_node.specs.Faults.{IsSiteFault}
 use Rattle.branch_solve.specs.Leaves.{AreFormsAscending, node_setting}
-use Rattle.branch_solve.specs.Root.{NoneInteger, IsRootOptimum, IsRootCertificate}
+use Rattle.branch_solve.specs.Root.{NoneInteger, IsRootCertificate}
 use Rattle.branch_solve.specs.Solved.{IsWorkFault}
 use Rattle.simplex.proofs.Laws.{over_columns}
 use Rattle.branch_solve.proofs.NodeTests.{optimal_point_told, optimal_value_told, optimal_claim_told, bound_told, empty_told, endless_point_told, endless_ray_told, told_fault}
@@ -57,24 +57,20 @@ module _ (p : Problem) where
   IsFault e = IsWorkFault p [] [] e
 
   optimal_told : (x : List Rational) (w : Weights) (b : List Place) (d : Dictionary) (v : Rational) → IsOptimalRelaxation p [] [] x w b d → AreTold IsFault (trials p (leaf_certificate p Optimal (Some v) (Some x) (Bound w)))
-  optimal_told x w b d v h = (
-    tt,
-    of_fault (point_answer p (Some x)) IsFault (λ e is. IsWorkFault.in_point x w b d h is),
-    of_fault (of.value_answer p (Some x) (Some v)) IsFault (λ e is. IsWorkFault.in_claim x w b d v h is),
-    of_fault (node_answer (node_setting p [] []) (Some (v -ℚ p.constant)) (Bound w)) IsFault (λ e is. IsWorkFault.in_bound x w b d (Some (v -ℚ p.constant)) h is),
-    tt,
-  )
+  optimal_told x w b d v h =
+      let point = of_fault (point_answer p (Some x)) IsFault (λ e is. IsWorkFault.in_point x w b d h is) in
+      let claim = of_fault (of.value_answer p (Some x) (Some v)) IsFault (λ e is. IsWorkFault.in_claim x w b d v h is) in
+      let bound = of_fault (node_answer (node_setting p [] []) (Some (v -ℚ p.constant)) (Bound w)) IsFault (λ e is. IsWorkFault.in_bound x w b d (Some (v -ℚ p.constant)) h is) in
+      (tt, (point, (claim, (bound, tt))))
 
   infeasible_told : (w : Weights) → IsInfeasibleRelaxation p [] [] w → AreTold IsFault (trials p (leaf_certificate p Infeasible None None (Empty w)))
-  infeasible_told w h = (tt, of_fault (node_answer (node_setting p [] []) None (Empty w)) IsFault (λ e is. IsWorkFault.in_empty w None h is), tt)
+  infeasible_told w h = (tt, (of_fault (node_answer (node_setting p [] []) None (Empty w)) IsFault (λ e is. IsWorkFault.in_empty w None h is), tt))
 
   unbounded_told : (x ray : List Rational) → IsUnboundedRelaxation p [] [] x ray → AreTold IsFault (trials p (point_certificate p x ray))
-  unbounded_told x ray h = (
-    tt,
-    of_fault (point_answer p (Some x)) IsFault (λ e is. IsWorkFault.in_endless_point x ray h is),
-    of_fault (ray_answer p (Some ray)) IsFault (λ e is. IsWorkFault.in_ray x ray h is),
-    tt,
-  )
+  unbounded_told x ray h =
+      let point = of_fault (point_answer p (Some x)) IsFault (λ e is. IsWorkFault.in_endless_point x ray h is) in
+      let direction = of_fault (ray_answer p (Some ray)) IsFault (λ e is. IsWorkFault.in_ray x ray h is) in
+      (tt, (point, (direction, tt)))
 
   fault_of : (c : Certificate) (part : Part) (e : NoFit) → AreTold IsFault (trials p c) → outcome (trials p c) ≡ Fault part e → IsWorkFault p [] [] e
   fault_of c part e told is = subst (Admits IsFault) is (outcome_told IsFault (trials p c) told)

@@ -9,7 +9,7 @@ ghost use Rattle.branch_solve.specs.Solved.{IsAfterRun};
 
 use crate::fault::SolveFault;
 use crate::making::{of_contradiction, of_optimum, of_ray};
-use cert_check::{CheckFault, Checked, check};
+use cert_check::{Checked, check};
 use certificate::{Certificate, Weights};
 use fraction::{Frac, NoFit};
 use instance::{Instance, Point, value};
@@ -33,7 +33,7 @@ fn checked(
     match check(problem, &certificate) {
         Ok(Checked::Accepted) => Ok(certificate),
         Ok(Checked::Refused(_)) => unreachable!(),
-        Err(CheckFault { part: _, fault }) => Err(at_root(alloc, fault)),
+        Err(fault) => Err(at_root(alloc, fault.fault)),
     }
 }
 

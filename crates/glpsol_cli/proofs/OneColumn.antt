@@ -1,5 +1,5 @@
 -- The least x from 2 to 5: Bland's run ends where it starts, and no operation of the work on it fails to fit.
-use Rattle.std.proofs.Common.{◌≡◌, ◌∙◌, ℕ, zero, suc, ◌<◌, List, [], ◌∷◌, length, Bool, false, Option, Some, None, Result, Ok, Err, refl, sym, ap, subst, arith, inl, inr}
+use Rattle.std.proofs.Common.{◌≡◌, ◌∙◌, ℕ, zero, suc, ◌<◌, List, [], ◌∷◌, ◌++◌, length, false, Option, Some, None, Result, Ok, Err, refl, sym, ap, subst, arith, inl, inr}
 use Rattle.std.specs.Prelude.{pos, ◌*ℤ◌, ◌<ℤ◌, codes, IsOk}
 use Rattle.std.proofs.lemmas.Int.{ints}
 use Rattle.integer.specs.Gcd.{gcd, gcd_within}
@@ -9,7 +9,7 @@ use Rattle.milp.specs.Problem.{Problem}
 use Rattle.milp.specs.declared.Direction.TheVariants.{Min}
 use Rattle.fraction.specs.declared.frac.NoFit.{NoFit}
 use Rattle.instance.specs.Sums.{value_answer}
-use Rattle.verdicts.specs.Certificate.{Weights, Empty, Bound}
+use Rattle.verdicts.specs.Certificate.{Weights, Bound}
 use Rattle.basis.specs.System.{System, lower_of, upper_of, IsSystem}
 use Rattle.basis.specs.Dictionary.{place_of, IsBasic, Dictionary, IsDictionary, gain_of, IsBasicPoint}
 use Rattle.basis.specs.Bland.{first_place, start_dictionary, Improves, BlandStep, IsStart, IsRun}
@@ -19,7 +19,7 @@ use Rattle.basis.specs.Weights.{IsContradictory, items_at, nonzero}
 use Rattle.basis.specs.Relaxation.{IsOptimalRelaxation, IsInfeasibleRelaxation, IsUnboundedBasis}
 use Rattle.basis.specs.Operations.{IsRunOperation, IsNodeOperation}
 use Rattle.basis.specs.declared.Place.{Place}
-use Rattle.basis.specs.declared.Place.TheVariants.{Basic, AtLower, AtUpper, AtZero}
+use Rattle.basis.specs.declared.Place.TheVariants.{AtLower}
 use Rattle.basis.proofs.Laws.{neg_above, start_is_dictionary, same_gains}
 use Rattle.cert_check.specs.Parts.{point_answer, node_answer}
 use Rattle.cert_check.specs.Parts as of
@@ -133,15 +133,16 @@ no_err : {A : Type 0} (r : Result A NoFit) (e : NoFit) → IsOk r → r ≡ Err 
 no_err (Ok a) e h is = cc
 no_err (Err d) e h is = cc
 
+-- this number as the weight on the column, unless it is 0
+abbrev weighed : Rational → Weights
+weighed g = record { rows = []; columns = items_at 0 (nonzero g) ++ []; derived = [] }
+
 module _ (x : List Rational) (w : Weights) (b : List Place) (d : Dictionary) (h : IsOptimalRelaxation problem [] [] x w b d) where
   point_is : x ≡ whole (pos 2) ∷ []
   point_is = h.point ∙ ap (λ a. a ∷ []) (at_two h.values (at_first (λ c. IsBasicPoint s c h.values) b h.is_optimal.before h.is_optimal.is_run h.is_optimal.is_point))
 
   weights_are : w ≡ record { rows = []; columns = record { index = 0; weight = one_ℚ } ∷ []; derived = [] }
   weights_are = h.weights ∙ ap weighed (gain_one d (at_first (λ c. IsDictionary s c d) b h.is_optimal.before h.is_optimal.is_run h.is_optimal.is_dictionary))
-    where
-      abbrev weighed : Rational → Weights
-      weighed g = record { rows = []; columns = items_at 0 (nonzero g); derived = [] }
 
 value_fits : IsOk (value_answer problem (whole (pos 2) ∷ []))
 unfolding ◌+ℚ◌ ◌*ℚ◌ over gcd gcd_within

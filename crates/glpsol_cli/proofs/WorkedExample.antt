@@ -1,5 +1,5 @@
 -- The worked example: what its words and its text stand for, and that nothing stands in the way of its verdict.
-use Rattle.std.proofs.Common.{◌≡◌, ◌∙◌, ℕ, List, [], ◌∷◌, Some, None, Ok, refl, sym, ap, subst, arith}
+use Rattle.std.proofs.Common.{◌≡◌, ◌∙◌, List, [], ◌∷◌, Some, None, Ok, refl, sym, ap, subst, arith}
 use Rattle.std.specs.Prelude.{codes}
 use Rattle.std.specs.Str.{is_utf8, chars}
 use Rattle.std.specs.Char.{encode_utf8}
@@ -16,7 +16,7 @@ use Rattle.mps_reader.specs.FreeMps.{declared}
 use Rattle.outside.specs.Told.{Has}
 use Rattle.command_line.proofs.Laws.{plain_settings, plain_words}
 use Rattle.glpsol_cli.specs.Asked.{ToldNames}
-use Rattle.glpsol_cli.specs.Meaning.{Declared, end_of, IsAsked}
+use Rattle.glpsol_cli.specs.Meaning.{end_of, IsAsked}
 use Rattle.glpsol_cli.specs.Cause.{IsNodeOverflow, IsUndecided}
 use Rattle.glpsol_cli.specs.Complete.{IsComplete}
 use Rattle.glpsol_cli.specs.WorkedExample.{example_words, example_text}

@@ -24,6 +24,6 @@ pub fn written_certificates_are_accepted()
 /// The premises of completeness hold of a worked example, so that the clause `complete` of `run` says something: where the
 /// file is told with the example's text, and no count rose.
 pub fn the_example_is_complete()
-    ensures { (told : ToldNames) (files_rose out_rose : Type 0) → Has (told (codes "model")) example_text → (files_rose → ⊥)
-        → (out_rose → ⊥) → IsComplete example_words told files_rose out_rose }
+    ensures { (told : ToldNames) (files files' out out' : ℕ) → Has (told (codes "model")) example_text → (Rose files files' → ⊥)
+        → (Rose out out' → ⊥) → IsComplete example_words told (Rose files files') (Rose out out') }
 {}

@@ -56,7 +56,10 @@ fn each_call_on_the_store_fails(rt: HostRuntime) -> Result<(), Fail> {
         (7, "OPTIMAL\nobjective cost 2\ncolumn x 2\nwrite fault: r\n"),
         (8, "OPTIMAL\nobjective cost 2\ncolumn x 2\nwrite fault: c\n"),
         (9, "OPTIMAL\nobjective cost 2\ncolumn x 2\nwrite fault: c\n"),
-        (10, "OPTIMAL\nobjective cost 2\ncolumn x 2\nwrite fault: c\n"),
+        (
+            10,
+            "OPTIMAL\nobjective cost 2\ncolumn x 2\nwrite fault: c\n",
+        ),
         (11, REPORT),
     ] {
         let mut files = MemStore::new(alloc, vec![in alloc; k]?, 4096);

@@ -8,8 +8,8 @@ use Rattle.verdicts.specs.Proves.{lies_above, lies_below}
 use Rattle.rational.specs.Compare.{is_less}
 use Rattle.rational.proofs.Laws.{at_most_true, at_most_false, less_true, less_false}
 use Rattle.basis.specs.System.{Bounds, System, lower_of, upper_of, CanRise, CanFall}
-use Rattle.basis.specs.Dictionary.{place_of, IsResting, Dictionary, rate_of, gain_of}
-use Rattle.basis.specs.Bland.{IsOutside, HasPassed, CanRaise, CanMend, Mends, Improves}
+use Rattle.basis.specs.Dictionary.{place_of, IsResting, Dictionary, rate_of}
+use Rattle.basis.specs.Bland.{IsOutside, HasPassed, CanRaise, CanMend, Mends}
 use Rattle.basis.specs.declared.Place.{Place}
 use Rattle.basis.specs.declared.Place.TheVariants.{Basic, AtLower, AtUpper, AtZero}
 use Rattle.basis.proofs.Laws.{basic_known}

@@ -7,7 +7,7 @@ use Rattle.milp.specs.Form.{number_at}
 use Rattle.rational.specs.Compare.{is_less}
 use Rattle.rational.proofs.Laws.{less_true, less_false}
 use Rattle.verdicts.proofs.Laws.{minus_one-mul}
-use Rattle.basis.specs.System.{Bounds, System, size, lower_of, upper_of}
+use Rattle.basis.specs.System.{Bounds, System, size}
 use Rattle.basis.specs.Dictionary.{IsBasic, IsResting, RestsAt, rate_of, gain_of}
 use Rattle.basis.specs.Bland.{exchanged, IsOutside, HasPassed, IsLeast, Improves, MendStep, ImproveStep, IsHeading, IsDirection, Reaches, ReachesNone, BlandStep, IsOptimalBasis}
 use Rattle.basis.specs.Operations.{IsBoundAt, IsRunOperation}

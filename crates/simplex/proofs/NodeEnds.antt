@@ -1,20 +1,13 @@
 -- What the ends of a run tell of a node.
-use Rattle.std.proofs.Common.{◌≡◌, ◌∙◌, ℕ, ◌<◌, ◌≤◌, ◌≢◌, List, length, refl, sym, ap, subst, arith, ◌⊎◌, inl, inr}
-use Rattle.std.specs.Prelude.{pos, negsuc, Bool, true, false, Result, Ok, Err, IfErr, IsErrAnd}
-use Rattle.std.proofs.Math.Decide.{ℕ_discrete}
-use Rattle.std.proofs.lemmas.List.{take_all}
-use Rattle.rational.specs.Rational.{Rational, one_ℚ, whole, ◌*ℚ◌}
-use Rattle.rational.proofs.Laws as Q
-use Rattle.verdicts.proofs.Laws.{minus_one-mul}
+use Rattle.std.proofs.Common.{◌≡◌, ◌∙◌, ℕ, ◌≤◌, List, length, sym, ap, subst, arith}
+use Rattle.std.specs.Prelude.{Bool, Result, Ok, Err, IfErr, IsErrAnd}
+use Rattle.rational.specs.Rational.{Rational}
 use Rattle.milp.specs.Form.{number_at}
 use Rattle.milp.specs.Problem.{Column, Problem}
 use Rattle.verdicts.specs.Certificate.{Side, Weights, Derived}
 use Rattle.basis.specs.System.{System, size}
-use Rattle.basis.specs.Dictionary.{place_of, IsBasic, rate_of}
-use Rattle.basis.specs.Bland.{IsHeading}
-use Rattle.basis.specs.Node.{system_of, integer_at}
-use Rattle.rational.specs.Denominators.{common_denominator}
-use Rattle.basis.specs.Weights.{weights_of, contradiction_weights, numbers_from, IsContradictory, IsDirectionOfRun}
+use Rattle.basis.specs.Node.{system_of}
+use Rattle.basis.specs.Weights.{weights_of, contradiction_weights, numbers_from, IsContradictory}
 use Rattle.basis.specs.Operations.{IsNodeOperation}
 use Rattle.basis.specs.Relaxation.{IsBlocked, IsOptimalRelaxation, IsInfeasibleRelaxation, IsUnboundedRelaxation}
 use Rattle.basis.specs.declared.Place.{Place}
@@ -24,7 +17,7 @@ use Rattle.fraction.specs.declared.frac.NoFit.{NoFit}
 use Rattle.dictionary.specs.Table.{Table, dictionary_of, operation_of}
 use Rattle.simplex.specs.Ratio.{along}
 use Rattle.simplex.specs.Narrowed.{AreSplitFaults}
-use Rattle.simplex.specs.Rays.{IsFault, IsRayFault, numbers_to_be_whole, whole_ray}
+use Rattle.simplex.specs.Rays.{IsFault, IsRayFault, whole_ray}
 use Rattle.simplex.specs.Sources.{weights_from}
 use Rattle.simplex.specs.Run.{IsEnded, IsFaultOf}
 use Rattle.simplex.specs.Answer.{IsNodeFault, IsNodeStop, source_of, stop_of}
@@ -35,8 +28,6 @@ use Rattle.simplex.specs.declared.runs.RunFault.{RunFault}
 use Rattle.simplex.specs.declared.runs.RunFault.TheVariants as R
 use Rattle.simplex.specs.declared.weights.Source.{Source}
 use Rattle.simplex.specs.declared.weights.Source.TheVariants as W
-use Rattle.simplex.proofs.Choices.{is_resting}
-use Rattle.dictionary.proofs.Laws.{basic_test}
 
 -- ---- faults on their way
 

@@ -1,7 +1,7 @@
 -- States of a run: the first one, and what a step makes of one.
-use Rattle.std.proofs.Common.{◌≡◌, ◌∙◌, ℕ, ◌+◌, ◌<◌, ◌≢◌, List, [], ◌∷◌, length, refl, sym, ap, subst, arith, Bool, false, Option, Some, None, IfSome, slice_get, inl, inr}
-use Rattle.std.specs.Prelude.{pos, option_map, Result, Ok, Err, IfOk, IfErr, IsErrAnd}
-use Rattle.std.proofs.lemmas.Option.{slice_get-map, slice_get_within}
+use Rattle.std.proofs.Common.{◌≡◌, ◌∙◌, ℕ, ◌+◌, ◌<◌, ◌≢◌, List, [], ◌∷◌, length, refl, sym, ap, subst, arith, false, Option, Some, None, IfSome, slice_get, inl, inr}
+use Rattle.std.specs.Prelude.{pos, Result, Ok, Err, IfOk, IfErr, IsErrAnd}
+use Rattle.std.proofs.lemmas.Option.{slice_get_within}
 use Rattle.rational.specs.Rational.{Rational, one_ℚ, ◌+ℚ◌, ◌*ℚ◌}
 use Rattle.milp.specs.Form.{Entry, value_at, number_at}
 use Rattle.verdicts.specs.WeightedSums.{AllBelow}
@@ -28,7 +28,7 @@ use Rattle.simplex.specs.declared.decision.Step.{Step}
 use Rattle.simplex.specs.declared.runs.RunFault.{RunFault}
 use Rattle.simplex.specs.declared.runs.RunFault.TheVariants.{NoFit as NotFitting, PivotLimit, NoMemory}
 use Rattle.simplex.proofs.DecisionLemmas.{if_err}
-use Rattle.dictionary.proofs.Laws.{is_direction, entry_below, is_over_resting}
+use Rattle.dictionary.proofs.Laws.{is_direction, is_over_resting}
 
 pub failed : {X : Type 0} (r : Result X RunFault) (f : RunFault) (P : RunFault → Type 0) → IsErrAnd r (λ d. d ≡ f) → P f → IfErr r P
 failed (Ok u) f P h p = tt

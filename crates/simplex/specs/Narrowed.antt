@@ -1,5 +1,5 @@
 -- Bounds under splits.
-use Rattle.std.specs.Prelude.{ℕ, ◌<◌, ◌≡◌, pos, ◌+ℤ◌, false, List, get_or, Some, None, IfSome, slice_get}
+use Rattle.std.specs.Prelude.{ℕ, ◌<◌, ◌≡◌, pos, ◌+ℤ◌, List, get_or, Some, None, IfSome, slice_get}
 use Rattle.rational.specs.Rational.{Rational, one_ℚ, whole}
 use Rattle.verdicts.specs.Certificate.{Side, Low, High}
 use Rattle.verdicts.specs.Proves.{lesser, greater}

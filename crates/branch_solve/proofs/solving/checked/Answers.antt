@@ -12,4 +12,4 @@ unreachable-requires c =
 
 pub returns-in-Err-clause-fault : goal.returns-in-Err-clause-fault
 returns-in-Err-clause-fault c =
-    at_root c.args.problem.now c.in-Err.fault c.at_root.result c.at_root.ensures (root_faults c.args.problem.now c.args.certificate c.requires.made (part_of c.in-Err.part) c.in-Err.fault (sym c.in-Err.ensures.exact))
+    at_root c.args.problem.now c.in-Err.fault.fault c.at_root.result c.at_root.ensures (root_faults c.args.problem.now c.args.certificate c.requires.made (part_of c.in-Err.fault.part) c.in-Err.fault.fault (sym c.in-Err.ensures.exact))
