@@ -1,6 +1,6 @@
 // What a phase comes to.
-use crate::moving::Solved;
 use fraction::Frac;
+use tableau::Solved;
 
 /// The row of the inverse at which the dual phase ends, and which bound of its variable is broken.
 #[derive(Drop)]

@@ -1,14 +1,13 @@
 // What is proposed.
 use crate::ending::End;
-use crate::model::model_of;
 use crate::reading::{contradiction, endless_ray, optimum};
-use crate::start::start_of;
-use crate::state::State;
-use crate::stop::Stop;
+use crate::search::run;
 use certificate::Weights;
 use instance::{Instance, Point};
 use search_node::{Basis, SplitsTaken};
+use sparse_factors::Stop;
 use std::alloc::{AllocError, Global};
+use tableau::{State, model_of, start_of};
 
 /// A point, weights that may show that none is better, and the basis that both were read from.
 #[derive(Drop)]
@@ -66,7 +65,7 @@ fn searched(
     }
     let start = start_of(alloc, &model, start)?;
     let mut state = State::at_basis(alloc, model, start, steps)?;
-    match state.run(alloc)? {
+    match run(&mut state, alloc)? {
         End::Optimal => optimum(alloc, &state),
         End::Infeasible(blocked) => contradiction(alloc, &state, &blocked),
         End::Unbounded(endless) => endless_ray(alloc, &state, &endless),

@@ -3,18 +3,14 @@ ghost use Rattle.std.specs.Prelude.{◌≤◌, ◌<◌, ◌+◌, ◌*◌, OnOk};
 ghost use Rattle.certificate.specs.Written.{count_max, next_rank};
 
 use crate::ending::{Blocked, Endless};
-use crate::model::Model;
-use crate::moving::prices_at;
 use crate::proposal::{Candidate, ProposedOptimum, ProposedRay};
-use crate::start::places_of;
-use crate::state::State;
-use crate::stop::Stop;
-use crate::vectors::{add, number_at, put, zeros};
 use certificate::{Item, Items, Weights};
 use fraction::Frac;
 use instance::Point;
 use search_node::Basis;
+use sparse_factors::{Stop, add, number_at, put, zeros};
 use std::alloc::{AllocError, Global};
+use tableau::{Model, State, places_of, prices_at};
 
 /// The point, the weights for the true costs, and the basis.
 pub(crate) fn optimum(alloc: Global, state: &State) -> Result<Candidate, Stop> {
@@ -49,8 +45,8 @@ pub(crate) fn endless_ray(
     state: &State,
     endless: &Endless,
 ) -> Result<Candidate, Stop> {
-    let mut ray = zeros(alloc, state.model.columns)?;
-    let one = Frac::whole(1);
+    let mut ray = zeros(alloc, state.model.matrix.columns)?;
+    let one = Frac::one();
     put(
         &mut ray,
         endless.variable,
@@ -73,8 +69,8 @@ fn follow(ray: &mut [Frac], state: &State, endless: &Endless) {
 }
 
 fn point(alloc: Global, state: &State) -> Result<Point, Stop> {
-    let mut numbers = Vec::with_capacity(alloc, state.model.columns)?;
-    for v in 0..state.model.columns {
+    let mut numbers = Vec::with_capacity(alloc, state.model.matrix.columns)?;
+    for v in 0..state.model.matrix.columns {
         add(&mut numbers, state.value_of(v))?;
     }
     Ok(Point::from_vec(numbers))
@@ -91,9 +87,9 @@ fn turned(alloc: Global, row: &[Frac], keep: bool) -> Result<Vec<Frac>, Stop> {
 
 // The weights that the prices of all variables are: of a row minus the price, since its variable is minus its value.
 fn weights(alloc: Global, model: &Model, prices: &[Frac]) -> Result<Weights, Stop> {
-    let row_count = count_of(model.rows)?;
-    let column_count = count_of(model.columns)?;
-    let rows = items(alloc, prices, model.columns, row_count, true)?;
+    let row_count = count_of(model.matrix.rows)?;
+    let column_count = count_of(model.matrix.columns)?;
+    let rows = items(alloc, prices, model.matrix.columns, row_count, true)?;
     let columns = items(alloc, prices, 0, column_count, false)?;
     Ok(Weights::new(rows, columns, Items::new(alloc)))
 }

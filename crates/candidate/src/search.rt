@@ -1,126 +1,124 @@
 // The search from a basis to an end.
+use crate::dual::dual_step;
 use crate::ending::{End, Step};
-use crate::numbers::difference;
-use crate::state::{State, TieRule};
-use crate::stop::Stop;
-use crate::vectors::{add, copied, filled, number_at, put};
+use crate::primal::primal_step;
 use fraction::Frac;
+use sparse_factors::{Stop, add, copied, difference, filled, number_at, put};
 use std::alloc::Global;
+use tableau::{State, TieRule};
 
 // How often a search whose numbers did not fit is taken up again.
 const TRIES: u32 = 6;
 
-impl State {
-    /// From this basis to an end. Where a number does not fit, the basis is factored anew and ties are broken by the next
-    /// rule, a few times.
-    pub(crate) fn run(&mut self, alloc: Global) -> Result<End, Stop> {
-        for _ in 0..TRIES {
-            match self.run_once(alloc) {
-                Err(Stop::NoFit) => {}
-                outcome => return outcome,
-            }
-            self.ties = next_rule(self.ties);
-            self.steps_between = (self.steps_between / 2).max(4);
-            self.try_to_refactor(alloc)?;
+/// From this basis to an end. Where a number does not fit, the basis is factored anew and ties are broken by the next
+/// rule, a few times.
+pub(crate) fn run(state: &mut State, alloc: Global) -> Result<End, Stop> {
+    for _ in 0..TRIES {
+        match run_once(state, alloc) {
+            Err(Stop::NoFit) => {}
+            outcome => return outcome,
         }
-        self.run_once(alloc)
+        state.ties = next_rule(state.ties);
+        state.steps_between = (state.steps_between / 2).max(4);
+        state.try_to_refactor(alloc)?;
     }
+    run_once(state, alloc)
+}
 
-    fn run_once(&mut self, alloc: Global) -> Result<End, Stop> {
-        self.stalls = 0;
-        self.costs = copied(alloc, &self.model.costs)?;
-        self.costs_are_shifted = false;
-        self.find_prices(alloc)?;
-        let wrong = self.wrong_prices(alloc)?;
-        if self.are_boxed(&wrong) {
-            self.flip_resting(&wrong)?;
-            self.find_values(alloc)?;
-        } else {
-            self.find_values(alloc)?;
-            if !self.is_feasible() {
-                self.shift_costs(&wrong)?;
-            }
-        }
-        match self.dual_phase(alloc)? {
-            Some(end) => Ok(end),
-            None => self.finish(alloc),
+fn run_once(state: &mut State, alloc: Global) -> Result<End, Stop> {
+    state.stalls = 0;
+    state.costs = copied(alloc, &state.model.costs)?;
+    state.costs_are_shifted = false;
+    state.find_prices(alloc)?;
+    let wrong = wrong_prices(state, alloc)?;
+    if are_boxed(state, &wrong) {
+        flip_resting(state, &wrong)?;
+        state.find_values(alloc)?;
+    } else {
+        state.find_values(alloc)?;
+        if !state.is_feasible() {
+            shift_costs(state, &wrong)?;
         }
     }
+    match dual_phase(state, alloc)? {
+        Some(end) => Ok(end),
+        None => finish(state, alloc),
+    }
+}
 
-    // With the true costs to the best point.
-    fn finish(&mut self, alloc: Global) -> Result<End, Stop> {
-        if self.costs_are_shifted {
-            self.costs = copied(alloc, &self.model.costs)?;
-            self.costs_are_shifted = false;
-            self.find_prices(alloc)?;
-            self.stalls = 0;
-        }
-        self.primal_phase(alloc)
+// With the true costs to the best point.
+fn finish(state: &mut State, alloc: Global) -> Result<End, Stop> {
+    if state.costs_are_shifted {
+        state.costs = copied(alloc, &state.model.costs)?;
+        state.costs_are_shifted = false;
+        state.find_prices(alloc)?;
+        state.stalls = 0;
     }
+    primal_phase(state, alloc)
+}
 
-    // The variables whose prices are wrong where they rest.
-    fn wrong_prices(&self, alloc: Global) -> Result<Vec<usize>, Stop> {
-        let mut wrong = Vec::new(alloc);
-        for v in 0..self.prices.len() {
-            if self.should_move(v) {
-                add(&mut wrong, v)?;
-            }
+// The variables whose prices are wrong where they rest.
+fn wrong_prices(state: &State, alloc: Global) -> Result<Vec<usize>, Stop> {
+    let mut wrong = Vec::new(alloc);
+    for v in 0..state.prices.len() {
+        if state.should_move(v) {
+            add(&mut wrong, v)?;
         }
-        Ok(wrong)
     }
+    Ok(wrong)
+}
 
-    fn are_boxed(&self, variables: &[usize]) -> bool {
-        for v in variables {
-            if !self.model.bounds_of(*v).is_boxed() {
-                return false;
-            }
+fn are_boxed(state: &State, variables: &[usize]) -> bool {
+    for v in variables {
+        if !state.model.bounds_of(*v).is_boxed() {
+            return false;
         }
-        true
     }
+    true
+}
 
-    fn flip_resting(&mut self, variables: &[usize]) -> Result<(), Stop> {
-        for v in variables {
-            self.count_step()?;
-            self.flip(*v);
-        }
-        Ok(())
+fn flip_resting(state: &mut State, variables: &[usize]) -> Result<(), Stop> {
+    for v in variables {
+        state.count_step()?;
+        state.flip(*v);
     }
+    Ok(())
+}
 
-    // Sets the wrong prices to 0, by other costs for now.
-    fn shift_costs(&mut self, wrong: &[usize]) -> Result<(), Stop> {
-        self.costs_are_shifted = true;
-        for v in wrong {
-            let cost = difference(number_at(&self.costs, *v), self.price_of(*v))?;
-            put(&mut self.costs, *v, cost);
-            put(&mut self.prices, *v, Frac::whole(0));
-        }
-        Ok(())
+// Sets the wrong prices to 0, by other costs for now.
+fn shift_costs(state: &mut State, wrong: &[usize]) -> Result<(), Stop> {
+    state.costs_are_shifted = true;
+    for v in wrong {
+        let cost = difference(number_at(&state.costs, *v), state.price_of(*v))?;
+        put(&mut state.costs, *v, cost);
+        put(&mut state.prices, *v, Frac::zero());
     }
+    Ok(())
+}
 
-    fn dual_phase(&mut self, alloc: Global) -> Result<Option<End>, Stop> {
-        for _ in 0..u64::from(self.steps_left) + 1 {
-            match self.dual_step(alloc)? {
-                Step::Taken => {}
-                Step::Done => return Ok(None),
-                Step::Blocked(blocked) => return Ok(Some(End::Infeasible(blocked))),
-                Step::Endless(endless) => return Ok(Some(End::Unbounded(endless))),
-            }
+fn dual_phase(state: &mut State, alloc: Global) -> Result<Option<End>, Stop> {
+    for _ in 0..u64::from(state.steps_left) + 1 {
+        match dual_step(state, alloc)? {
+            Step::Taken => {}
+            Step::Done => return Ok(None),
+            Step::Blocked(blocked) => return Ok(Some(End::Infeasible(blocked))),
+            Step::Endless(endless) => return Ok(Some(End::Unbounded(endless))),
         }
-        Err(Stop::Steps)
     }
+    Err(Stop::Steps)
+}
 
-    fn primal_phase(&mut self, alloc: Global) -> Result<End, Stop> {
-        let mut weights = filled(alloc, self.values.len(), 0)?;
-        for _ in 0..u64::from(self.steps_left) + 1 {
-            match self.primal_step(alloc, &mut weights)? {
-                Step::Taken => {}
-                Step::Done => return Ok(End::Optimal),
-                Step::Blocked(blocked) => return Ok(End::Infeasible(blocked)),
-                Step::Endless(endless) => return Ok(End::Unbounded(endless)),
-            }
+fn primal_phase(state: &mut State, alloc: Global) -> Result<End, Stop> {
+    let mut weights = filled(alloc, state.values.len(), 0)?;
+    for _ in 0..u64::from(state.steps_left) + 1 {
+        match primal_step(state, alloc, &mut weights)? {
+            Step::Taken => {}
+            Step::Done => return Ok(End::Optimal),
+            Step::Blocked(blocked) => return Ok(End::Infeasible(blocked)),
+            Step::Endless(endless) => return Ok(End::Unbounded(endless)),
         }
-        Err(Stop::Steps)
     }
+    Err(Stop::Steps)
 }
 
 fn next_rule(rule: TieRule) -> TieRule {

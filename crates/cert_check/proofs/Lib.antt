@@ -1,4 +1,3 @@
-mod Elements
 mod Walk
 mod Products
 mod ItemOrder

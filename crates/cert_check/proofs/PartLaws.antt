@@ -1,19 +1,17 @@
 -- Where all operations fit, the answer of each part is its test.
-use Rattle.std.proofs.Common.{◌≡◌, ◌∙◌, ℕ, ◌&&◌, cond, if◌then◌else◌, Bool, true, false, List, [], ◌∷◌, ◌++◌, length, Option, Some, None, is_some, Result, Ok, IfOk, refl, sym, ap, arith}
-use Rattle.std.specs.Prelude.{ℤ, pos, negsuc, neg_ℤ, ◌+ℤ◌, ◌*ℤ◌}
+use Rattle.std.proofs.Common.{◌≡◌, ◌∙◌, ℕ, ◌&&◌, cond, if◌then◌else◌, Bool, true, false, List, [], ◌∷◌, ◌++◌, length, Option, Some, None, is_some, Result, Ok, IfOk, refl, sym, ap}
+use Rattle.std.specs.Prelude.{pos, negsuc, neg_ℤ, ◌+ℤ◌}
 use mathlib.Core.Path.{ap₂}
-use Rattle.std.proofs.lemmas.Int.{ints}
-use Rattle.std.proofs.lemmas.Bool.Decides.{nat_tests}
 use Rattle.rational.specs.Rational.{Rational, zero_ℚ, whole, ◌+ℚ◌, ◌*ℚ◌, ◌-ℚ◌}
 use Rattle.rational.proofs.Laws as Q
 use Rattle.rational.proofs.Laws.{value_same, value_self}
-use Rattle.milp.specs.Form.{Entry, sum_at, number_at}
+use Rattle.milp.specs.Form.{Entry, sum_at}
 use Rattle.milp.specs.Problem.{Row, Problem}
 use Rattle.milp.specs.Points.{sign_of, objective_value}
 use Rattle.fraction.specs.declared.frac.NoFit.{NoFit}
 use Rattle.fraction.specs.Answers.{add_answer}
 use Rattle.rational.specs.Compare.{is_zero, is_less, is_at_most, is_same}
-use Rattle.instance.specs.Sums.{and_then, step_answer, sum_answer, rows_answer}
+use Rattle.instance.specs.Sums.{and_then, sum_answer, rows_answer}
 use Rattle.instance.proofs.Laws.{sum_fits_ok, and_rest, rows_ok}
 use Rattle.verdicts.specs.WeightedSums.{Weighted, scaled, combined, combined_bound, coefficient_of}
 use Rattle.verdicts.specs.Certificate.{Weights, Side as SideOf, FormSplit, Proof, Plain, BySplit, Derived, TreeNode, Branch, Empty, Bound}

@@ -1,5 +1,5 @@
 -- Steps of the loop over the nodes.
-use Rattle.std.proofs.Common.{◌≡◌, ◌∙◌, ℕ, zero, suc, ◌+◌, ◌-◌, ◌<◌, ◌≤◌, true, false, Bool, Option, List, ◌∷◌, ◌++◌, length, get_or, take, drop, reverse, drop_of_length-le, sym, ap, arith, Result, Ok, Err}
+use Rattle.std.proofs.Common.{◌≡◌, ◌∙◌, ℕ, zero, suc, ◌+◌, ◌-◌, ◌<◌, ◌≤◌, true, false, Bool, Option, List, ◌∷◌, ◌++◌, length, get_or, take, drop, reverse, drop_of_length-le, sym, ap, arith, Result, Ok, Err, add-one}
 use Rattle.rational.specs.Rational.{Rational}
 use Rattle.fraction.specs.declared.frac.NoFit.{NoFit}
 use Rattle.milp.specs.Problem.{Problem}
@@ -10,9 +10,12 @@ use Rattle.verdicts.proofs.Laws.{ways_step}
 use Rattle.certificate.specs.Written.{open_after}
 use Rattle.certificate.specs.Ways.{way}
 use Rattle.cert_check.specs.Parts.{node_answer}
-use Rattle.cert_check.specs.Outcome.{Outcome, Acceptance, Refusal, Fault, judged, outcome, node_trials}
-use Rattle.cert_check.proofs.Elements.{back}
+use Rattle.cert_check.specs.Outcome.{Outcome, Refusal, Fault, judged, outcome, node_trials}
+use Rattle.certificate.proofs.Laws.{back}
 use Rattle.cert_check.proofs.Products.{next}
+
+next_back : (nodes : List TreeNode) (k : ℕ) (node : TreeNode) → k < length nodes → node ≡ get_or nodes k node → reverse (take (k + 1) nodes) ≡ node ∷ reverse (take k nodes)
+next_back nodes k node h is = rw (add-one k) (back nodes k node h is)
 
 abbrev pub left : Problem → Option Rational → List Derived → List TreeNode → ℕ → ℕ → Outcome
 left p goal ds nodes k open_places = outcome (node_trials p goal ds (k + 1) (ways_to (reverse (take k nodes)) 0 open_places) (drop k nodes))
@@ -36,7 +39,7 @@ node_holds p goal ds nodes k (suc m) more node all h is inv some pass e =
     let after : outcome (node_trials p goal ds (k + 1 + 1) (below node (way_to b 0) ++ ways_to b 1 m) (drop (k + 1) nodes)) ≡ all = tested p goal ds nodes k m node (Ok true) all h is inv pass in
     let one : suc m - 1 ≡ m = omega arith in
     let count : more ≡ length (below node (way_to b 0)) + m = e ∙ ap (open_after node) one ∙ opened node (way_to b 0) m in
-    let places : ways_to (reverse (take (k + 1) nodes)) 0 more ≡ below node (way_to b 0) ++ ways_to b 1 m = ap (λ xs. ways_to xs 0 more) (back nodes k node h is) ∙ ap (λ n. ways_to (node ∷ b) 0 n) count ∙ sym (ways_step node b m) in
+    let places : ways_to (reverse (take (k + 1) nodes)) 0 more ≡ below node (way_to b 0) ++ ways_to b 1 m = ap (λ xs. ways_to xs 0 more) (next_back nodes k node h is) ∙ ap (λ n. ways_to (node ∷ b) 0 n) count ∙ sym (ways_step node b m) in
     ap (λ ps. outcome (node_trials p goal ds (k + 1 + 1) ps (drop (k + 1) nodes))) places ∙ after
 
 pub node_fails : (p : Problem) (goal : Option Rational) (ds : List Derived) (nodes : List TreeNode) (k open_places : ℕ) (node : TreeNode) (all : Outcome) → k < length nodes → node ≡ get_or nodes k node → left p goal ds nodes k open_places ≡ all → 0 < open_places → Ok false ≡ node_answer (record { problem = p; derived = ds; sides = way nodes k }) goal node → Refusal (Node (k + 1)) ≡ all

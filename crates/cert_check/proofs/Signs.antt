@@ -1,8 +1,7 @@
 -- Signs of numbers.
 use Rattle.std.proofs.Common.{◌≡◌, sym}
-use Rattle.std.specs.Prelude.{negsuc, neg_ℤ, ℤ}
-use Rattle.rational.specs.Rational.{Rational, ◌*ℚ◌, neg_ℚ, one_ℚ, whole}
-use Rattle.rational.proofs.Laws as Q
+use Rattle.std.specs.Prelude.{neg_ℤ, ℤ}
+use Rattle.rational.specs.Rational.{neg_ℚ, whole}
 use Rattle.rational.proofs.Laws.{neg_whole}
 
 pub whole_negative : (t : ℤ) → neg_ℚ (whole t) ≡ whole (neg_ℤ t)

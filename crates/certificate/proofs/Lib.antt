@@ -1,2 +1,4 @@
+pub mod Elements
 pub mod ItemOrder
+pub mod Laws
 pub mod Turns

@@ -1,7 +1,6 @@
 -- The branch above a place: what it says of the way, and how it is found from those of the places before.
-use Rattle.std.proofs.Common.{◌≡◌, ◌∙◌, ℕ, zero, suc, ◌+◌, ◌<◌, ◌≤◌, List, [], ◌∷◌, ◌++◌, length, map, get_or, take, reverse, Bool, true, false, Option, Some, None, refl, sym, ap, subst, arith, take-suc}
-use Rattle.std.proofs.lemmas.List.{reverse-append, length-reverse, length-take-le, length-map}
-use Rattle.std.proofs.Math.ListN.{get_or-map}
+use Rattle.std.proofs.Common.{◌≡◌, ◌∙◌, ℕ, zero, suc, ◌<◌, ◌≤◌, List, [], ◌∷◌, length, get_or, take, reverse, Bool, true, false, Option, Some, None, refl, sym, ap, subst, arith}
+use Rattle.std.proofs.lemmas.List.{length-reverse, length-take-le}
 use Rattle.verdicts.specs.Certificate.{TreeNode, Branch, Empty, Bound, Split}
 use Rattle.verdicts.specs.Preorder.{way_to}
 use Rattle.certificate.specs.declared.split.Side.{Side}
@@ -10,21 +9,11 @@ use Rattle.certificate.specs.declared.tree.Parent.{Parent}
 use Rattle.certificate.specs.declared.split.Turn.{Turn}
 use Rattle.certificate.specs.Ways.{side_of, way, IsLastTurn}
 use Rattle.certificate.specs.Parents.{turn_under, parent_to, parent_of}
+use Rattle.certificate.proofs.Elements.{back, element_at}
 
 -- the nodes before a place, the latest first
 abbrev before : List TreeNode → ℕ → List TreeNode
 before nodes place = reverse (take place nodes)
-
--- the last element comes first
-back : {X : Type 0} (xs : List X) (n : ℕ) (x : X) → n < length xs → x ≡ get_or xs n x → reverse (take (suc n) xs) ≡ x ∷ reverse (take n xs)
-back xs n x h e =
-    let taken : take (suc n) xs ≡ take n xs ++ (x ∷ []) = take-suc xs n x h ∙ ap (λ y. take n xs ++ (y ∷ [])) (sym e) in
-    ap reverse taken ∙ reverse-append (take n xs) (x ∷ [])
-
-element_at : {X : Type 0} (xs : List X) (n : ℕ) → n < length xs → (x : X) × (x ≡ get_or xs n x)
-element_at [] n h = absurd (omega arith)
-element_at (y ∷ ys) zero h = (y, refl)
-element_at (y ∷ ys) (suc n) h = element_at ys n (omega arith)
 
 before_length : (nodes : List TreeNode) (n : ℕ) → n ≤ length nodes → length (before nodes n) ≡ n
 before_length nodes n h = length-reverse (take n nodes) ∙ length-take-le n nodes h
@@ -144,9 +133,3 @@ turn_is nodes n p x t h e is turn =
     subst (IsLastTurn nodes n) made (all.0, all.3)
 
 -- ---- what the nodes stand for
-
-pub stands_for : {A B : Type 0} → (f : A → B) (xs : List A) (ys : List B) (n : ℕ) (x : A) → map f xs ≡ ys → x ≡ get_or xs n x → f x ≡ get_or ys n (f x)
-stands_for f xs ys n x e is = subst (λ zs. f x ≡ get_or zs n (f x)) e (ap f is ∙ sym (get_or-map f xs n x))
-
-pub same_length : {A B : Type 0} → (f : A → B) (xs : List A) (ys : List B) → map f xs ≡ ys → length ys ≡ length xs
-same_length f xs ys e = sym (ap length e) ∙ length-map xs f

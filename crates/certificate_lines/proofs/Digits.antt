@@ -1,5 +1,5 @@
 -- Digits, clipped at the end of counts.
-use Rattle.std.proofs.Common.{if◌then◌else◌, length, get_or, drop, drop-cons, add-one, ◌≡◌, ◌∙◌, ℕ, ◌+◌, ◌-◌, ◌*◌, ◌^◌, ◌<◌, ◌≤◌, List, [], ◌∷◌, Option, Some, None, Bool, true, false, min, refl, sym, ap, arith}
+use Rattle.std.proofs.Common.{if◌then◌else◌, length, get_or, drop, drop-cons, add-one, ◌≡◌, ◌∙◌, ℕ, ◌+◌, ◌-◌, ◌*◌, ◌<◌, List, [], ◌∷◌, Option, Some, None, Bool, true, false, min, refl, sym, ap, arith}
 use Rattle.std.specs.Option.{option_map}
 use Rattle.std.specs.Char.{is_ascii_digit}
 use Rattle.fraction.specs.Literal.{digits_on}

@@ -1,11 +1,11 @@
 -- The loops over the fields of a line.
-use Rattle.std.proofs.Common.{◌≡◌, ◌∙◌, ℕ, zero, suc, ◌+◌, ◌*◌, ◌-◌, ◌≤◌, ◌<◌, List, [], ◌∷◌, ◌++◌, length, get_or, drop, drop-cons, add-one, map, Bool, true, false, Result, Ok, Err, refl, sym, ap, arith}
+use Rattle.std.proofs.Common.{◌≡◌, ◌∙◌, ℕ, zero, suc, ◌+◌, ◌-◌, ◌≤◌, ◌<◌, List, [], ◌∷◌, ◌++◌, length, get_or, drop, drop-cons, add-one, map, true, false, Result, Ok, Err, refl, sym, ap, arith}
 use Rattle.std.proofs.lemmas.List.{append-nil, drop_all}
 use Rattle.std.specs.Borrow.{Bor}
 use Rattle.rational.specs.Rational.{Rational}
 use Rattle.certificate_lines.specs.declared.fault.FaultKind.{FaultKind}
 use Rattle.certificate_lines.specs.declared.fault.FaultKind.TheVariants.{BadLine}
-use Rattle.certificate_lines.specs.Fields.{◌>>=◌, number_of, numbers_of, entry_of, form_of, item_of, is_of, items_of}
+use Rattle.certificate_lines.specs.Fields.{number_of, numbers_of, entry_of, form_of, item_of, is_of, items_of}
 use Rattle.certificate.specs.Written.{rank_of}
 use Rattle.milp.specs.Form.{Entry}
 use Rattle.verdicts.specs.Certificate.{Item}

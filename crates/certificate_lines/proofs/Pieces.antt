@@ -1,11 +1,11 @@
 -- The pieces of a text between line feeds.
-use Rattle.std.proofs.Common.{◌≡◌, ◌∙◌, ℕ, zero, suc, ◌+◌, ◌≤◌, ◌<◌, List, [], ◌∷◌, ◌++◌, length, get_or, take, drop, Bool, true, false, refl, sym, ap, arith, if◌then◌else◌, ◌==◌}
+use Rattle.std.proofs.Common.{◌≡◌, ◌∙◌, ℕ, suc, ◌+◌, ◌≤◌, ◌<◌, List, [], ◌∷◌, length, get_or, take, drop, Bool, true, false, refl, sym, ap, arith, if◌then◌else◌, ◌==◌}
 use Rattle.std.proofs.Math.Dec.{eqb-suc-zero}
-use Rattle.std.specs.List.{slice_split, onto_first, position_or_len, before_first, after_first}
+use Rattle.std.specs.List.{slice_split, onto_first, position_or_len}
 use Rattle.std.proofs.lemmas.List.Sums.{position_or_len_is}
 use Rattle.std.proofs.lemmas.List.Splits.{slice_split_first}
-use Rattle.certificate_lines.specs.Lines.{Rest, Line, is_feed, is_nil, is_over, pieces_left, next_of, next_from, line_of}
-use Rattle.std.proofs.Common.{subst, Ok, not, ◌&&◌}
+use Rattle.certificate_lines.specs.Lines.{Rest, is_feed, is_nil, is_over, pieces_left, next_of, next_from, line_of}
+use Rattle.std.proofs.Common.{Ok}
 
 pub pieces_at : (bytes : List ℕ) (i : ℕ) → i < length bytes → ((k : ℕ) → k < i → is_feed (get_or bytes k 0) ≡ false) → is_feed (get_or bytes i 0) ≡ true → slice_split is_feed bytes ≡ take i bytes ∷ slice_split is_feed (drop (i + 1) bytes)
 pieces_at bytes i lt before at =

@@ -1,20 +1,16 @@
 -- What is read of a field is what the field writes.
-use Rattle.std.proofs.Common.{◌≡◌, ◌∙◌, ℕ, ℤ, pos, zero, suc, ◌+◌, ◌*◌, ◌-◌, ◌^◌, ◌≤◌, ◌<◌, List, [], ◌∷◌, ◌++◌, length, get_or, drop, map, Bool, true, false, nat_le, not, ◌&&◌, Option, Some, None, Result, Ok, Err, IsTrue, refl, sym, ap, subst, arith, if◌then◌else◌}
-use Rattle.std.specs.Fmt.{decimal}
+use Rattle.std.proofs.Common.{◌≡◌, ◌∙◌, ℕ, ◌+◌, ◌-◌, ◌≤◌, ◌<◌, List, [], ◌∷◌, Bool, true, false, nat_le, not, ◌&&◌, Option, Some, None, Result, Ok, Err, refl, ap, subst, arith, if◌then◌else◌}
 use Rattle.std.specs.List.{before_first, after_first}
-use Rattle.std.proofs.lemmas.Bool.{leb-true, le-leb, ltb-true, lt-ltb}
-use Rattle.rational.specs.Rational.{Rational, whole}
-use Rattle.fraction.specs.Text.{text_of}
+use Rattle.std.proofs.lemmas.Bool.{leb-true, le-leb, lt-ltb}
+use Rattle.rational.specs.Rational.{Rational}
 use Rattle.fraction.specs.Canonical.{plain_digits_of}
-use Rattle.fraction.specs.Fits.{fits, num_fits}
 use Rattle.milp.specs.Form.{Entry}
 use Rattle.rational.specs.Compare.{is_zero}
-use Rattle.instance.specs.WellFormed.{are_entries, are_entries_from}
-use Rattle.verdicts.specs.Certificate.{Item, Weights}
+use Rattle.instance.specs.WellFormed.{are_entries_from}
 use Rattle.certificate_lines.specs.declared.fault.FaultKind.{FaultKind}
-use Rattle.certificate_lines.specs.declared.fault.FaultKind.TheVariants.{BadLine, TooWide}
-use Rattle.certificate.specs.Written.{count_max, rank_of, IsItem, AreItemsFrom, AreWeights}
-use Rattle.certificate_lines.specs.Fields.{◌>>=◌, expect, counted, count_of, index_of, number_of, is_some, some_number_of, whole_of, is_colon, entry_of, form_of, item_of}
+use Rattle.certificate_lines.specs.declared.fault.FaultKind.TheVariants.{TooWide}
+use Rattle.certificate.specs.Written.{count_max}
+use Rattle.certificate_lines.specs.Fields.{◌>>=◌, expect, counted, count_of, index_of, number_of, is_some, some_number_of, is_colon, entry_of, form_of}
 
 -- the value of a step that did not fail
 pub bind_ok : {A B E : Type 0} (r : Result A E) (f : A → Result B E) (y : B) → (r >>= f) ≡ Ok y → (x : A) × (r ≡ Ok x) × (f x ≡ Ok y)

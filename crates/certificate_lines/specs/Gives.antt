@@ -1,6 +1,5 @@
 -- What the code returns, beside what a definition reads: the same, or want of memory.
-use Rattle.std.specs.Prelude.{◌≡◌, ℕ, Bool, List, map, Result, Ok, Err, if◌then◌else◌}
-use Rattle.std.specs.Borrow.{Bor}
+use Rattle.std.specs.Prelude.{◌≡◌, ℕ, Bool, Result, Ok, Err, if◌then◌else◌}
 use Rattle.certificate_lines.specs.declared.fault.FaultKind.{FaultKind}
 use Rattle.certificate_lines.specs.declared.fault.FaultKind.TheVariants.{BadLine}
 use Rattle.certificate_lines.specs.declared.fault.CertFault.{CertFault}
@@ -8,7 +7,7 @@ use Rattle.certificate_lines.specs.declared.fault.LineError.{LineError}
 use Rattle.certificate_lines.specs.declared.fault.LineError.TheVariants as line_error
 use Rattle.certificate_lines.specs.declared.fault.CertError.{CertError}
 use Rattle.certificate_lines.specs.declared.fault.CertError.TheVariants as cert_error
-use Rattle.certificate_lines.specs.Lines.{Rest, Line}
+use Rattle.certificate_lines.specs.Lines.{Rest}
 
 -- of a call that takes no memory
 abbrev pub Takes : {X Y : Type 0} → (X → Y) → Result X FaultKind → Result Y FaultKind → Type 0

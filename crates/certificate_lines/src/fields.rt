@@ -1,7 +1,6 @@
 // The fields of a line: words, numbers, forms and weights.
 ghost use Rattle.std.specs.Prelude.{◌≡◌, ◌≢◌, ℕ, ◌+◌, ◌*◌, ◌<◌, ◌≤◌, ◌==◌, length, drop, map, pos, IfOk, IsTrue, min, [], Ok, Some, None, if◌then◌else◌};
 ghost use Rattle.std.specs.Option.{option_map};
-ghost use Rattle.std.specs.Str.{is_utf8};
 ghost use Rattle.std.specs.List.{before_first, after_first, position_or_len};
 ghost use Rattle.fraction.specs.Literal.{digits_of};
 ghost use Rattle.fraction.specs.Canonical.{plain_digits_of};
@@ -16,6 +15,7 @@ use crate::fault::LineError;
 use certificate::{Item, Items, Weights, WholeNumber, parts_fit};
 use fraction::{Frac, ReadFault};
 use instance::{Entries, Entry, Point};
+use model_text::as_text;
 use std::alloc::{AllocError, Global};
 
 /// One past the greatest count or index.
@@ -78,16 +78,6 @@ pub fn index(field: &[u8]) -> Result<u32, FaultKind>
         return Err(FaultKind::BadLine);
     }
     Ok(written - 1)
-}
-
-// The field as text.
-fn as_text(field: &[u8]) -> Option<&str>
-    ensures { option_map (λ t. t.now) result ≡ (if is_utf8 field.now then Some field.now else None) }
-{
-    match str::from_utf8(field) {
-        Ok(text) => Some(text),
-        Err(_) => None,
-    }
 }
 
 fn line_fault(read: Result<Frac, ReadFault>) -> Result<Frac, FaultKind>

@@ -1,11 +1,12 @@
 // Worked certificates that are accepted, and their twins that are refused at a part.
-use crate::problems::{endless, odd_difference, thirds, two_rows};
+ghost use Rattle.model_text.specs.Profile.{IsWithinInstance};
+
 use crate::rows::written;
 use cert_check::{CheckFault, Checked, check};
 use certificate_reader::{CertError, read};
-use fraction::Frac;
+use cplex_lp_reader::read_within;
 use instance::Instance;
-use milp::Direction;
+use model_text::{FileFault, Profile, ReadError, reader_profile};
 use std::alloc::{AllocError, Global};
 use std::process::Abort;
 use std::test::Fail;
@@ -28,15 +29,29 @@ fn answer_text(alloc: Global, problem: &Instance, text: &str) -> Result<String, 
     }
 }
 
+// The problem of a CPLEX LP text, in which `/` is a line feed.
+fn problem_of(alloc: Global, row: &str) -> Result<Instance, ReadError<FileFault>> {
+    let mut text = String::new(alloc);
+    for c in row.chars() {
+        text.push(if c == '/' { '\n' } else { c })?;
+    }
+    read_within(alloc, &with_integers(), text.as_bytes())
+}
+
+// The readers' profile, where integer columns are taken.
+fn with_integers() -> Profile
+    ensures { IsWithinInstance result }
+{
+    Profile {
+        takes_integers: true,
+        ..reader_profile()
+    }
+}
+
 // Each row of a table is the answer that is wanted, and a text; a row after `#` says what the next one tries.
-fn check_table(
-    rt: &impl Abort,
-    alloc: Global,
-    problem: Option<Instance>,
-    table: &str,
-) -> Result<(), Fail> {
-    let Some(problem) = problem else {
-        panic!(rt; "a problem");
+fn check_table(rt: &impl Abort, alloc: Global, problem: &str, table: &str) -> Result<(), Fail> {
+    let Ok(problem) = problem_of(alloc, problem) else {
+        panic!(rt; "a problem: {problem}");
     };
     for row in table.lines() {
         if !row.starts_with('#') {
@@ -79,7 +94,8 @@ Refused:Node(1) cert 1|size 1 2|verdict infeasible|derived 0|tree|bound|end|
 
 #[test]
 fn derived_rows(rt: HostRuntime) -> Result<(), Fail> {
-    check_table(&rt, rt.alloc(), odd_difference(rt.alloc()), DERIVED_ROWS)
+    let problem = "min/st/ r: 2 x - 2 y = 1/general/ x y/end";
+    check_table(&rt, rt.alloc(), problem, DERIVED_ROWS)
 }
 
 // Of 1 <= 3 x <= 2 in whole numbers.
@@ -105,7 +121,8 @@ NoFit:Point cert 1|size 1 1|verdict optimal|value 0|point 1701411834604692317316
 
 #[test]
 fn branches(rt: HostRuntime) -> Result<(), Fail> {
-    check_table(&rt, rt.alloc(), thirds(rt.alloc(), true), BRANCHES)
+    let problem = "min/st/ r: 1 <= 3 x <= 2/general/ x/end";
+    check_table(&rt, rt.alloc(), problem, BRANCHES)
 }
 
 // A branch on a column that takes all numbers.
@@ -114,12 +131,8 @@ const BRANCH_OF_ANY_NUMBERS: &str =
 
 #[test]
 fn branch_of_any_numbers(rt: HostRuntime) -> Result<(), Fail> {
-    check_table(
-        &rt,
-        rt.alloc(),
-        thirds(rt.alloc(), false),
-        BRANCH_OF_ANY_NUMBERS,
-    )
+    let problem = "min/st/ r: 1 <= 3 x <= 2/end";
+    check_table(&rt, rt.alloc(), problem, BRANCH_OF_ANY_NUMBERS)
 }
 
 // Of the greatest x + y, where 2 x + y is at most 4 and x + 3 y at most 5.
@@ -136,7 +149,8 @@ Refused:Size cert 1|size 2 3|verdict optimal|value 13/5|point 7/5 6/5 0|derived 
 
 #[test]
 fn best_points(rt: HostRuntime) -> Result<(), Fail> {
-    check_table(&rt, rt.alloc(), two_rows(rt.alloc(), Frac::whole(0)), BEST)
+    let problem = "max/ x + y/st/ 2 x + y <= 4/ x + 3 y <= 5/end";
+    check_table(&rt, rt.alloc(), problem, BEST)
 }
 
 // The same with 10 more.
@@ -147,12 +161,8 @@ Refused:Value @bound r1:-2/5 r2:-1/5|end|
 
 #[test]
 fn best_points_with_a_constant(rt: HostRuntime) -> Result<(), Fail> {
-    check_table(
-        &rt,
-        rt.alloc(),
-        two_rows(rt.alloc(), Frac::whole(10)),
-        BEST_AND_TEN,
-    )
+    let problem = "max/ x + y + 10/st/ 2 x + y <= 4/ x + 3 y <= 5/end";
+    check_table(&rt, rt.alloc(), problem, BEST_AND_TEN)
 }
 
 // Of the greatest whole x, at least 0.
@@ -169,22 +179,19 @@ Refused:Point cert 1|size 0 1|verdict unbounded|point -1|ray 1|end|
 
 #[test]
 fn whole_rays(rt: HostRuntime) -> Result<(), Fail> {
-    let problem = endless(rt.alloc(), Direction::Max, true);
-    check_table(&rt, rt.alloc(), problem, WHOLE_RAYS)
+    check_table(&rt, rt.alloc(), "max x/st/general/ x/end", WHOLE_RAYS)
 }
 
 // Of the greatest x, at least 0.
 #[test]
 fn rays_of_any_numbers(rt: HostRuntime) -> Result<(), Fail> {
-    let problem = endless(rt.alloc(), Direction::Max, false);
     let row = "Accepted cert 1|size 0 1|verdict unbounded|point 1|ray 1/2|end|";
-    check_table(&rt, rt.alloc(), problem, row)
+    check_table(&rt, rt.alloc(), "max x/st/end", row)
 }
 
 // Of the least x, at least 0: the ray makes it worse.
 #[test]
 fn rays_of_the_other_direction(rt: HostRuntime) -> Result<(), Fail> {
-    let problem = endless(rt.alloc(), Direction::Min, false);
     let row = "Refused:Ray cert 1|size 0 1|verdict unbounded|point 0|ray 1|end|";
-    check_table(&rt, rt.alloc(), problem, row)
+    check_table(&rt, rt.alloc(), "min x/st/end", row)
 }

@@ -5,8 +5,6 @@
 #[cfg(test)]
 mod checks;
 #[cfg(test)]
-mod problems;
-#[cfg(test)]
 mod rows;
 #[cfg(test)]
 mod texts;

@@ -10,8 +10,6 @@ mod frac;
 mod fused;
 mod laws;
 mod read;
-#[cfg(test)]
-mod tests;
 mod wide_quotient;
 
 pub use denominators::common_denominator;

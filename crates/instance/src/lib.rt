@@ -10,8 +10,6 @@ mod point;
 mod points;
 mod problem;
 mod signs;
-#[cfg(test)]
-mod tests;
 
 pub use bounds::{greater, lesser};
 pub use builder::{BuildFault, Builder, MAX_COLUMNS, MAX_ENTRIES, MAX_ROWS};

@@ -1,10 +1,8 @@
 // Texts with the problems that they declare, or with their first faults.
 ghost use Rattle.model_text.specs.Profile.{IsWithinInstance};
 
+use crate::answers::{answer_text, with_integers};
 use cplex_lp_reader::{read_lp, read_within};
-use fraction::Frac;
-use instance::{Column, Entry, Instance, Row};
-use milp::Direction;
 use model_text::{FaultKind, Profile, ReadError, reader_profile};
 use std::alloc::{AllocError, Global};
 use std::process::Abort;
@@ -12,9 +10,6 @@ use std::test::Fail;
 
 // ---- tables: what a text declares, and the text, in which `/` is a line feed
 
-// Of a problem: direction, name and constant of the objective, its entries by number of column; each row after `|`, with
-// its lower and upper bound and its entries; each column after `;`, with its bounds and `int` where it is integer. `-`
-// is no bound.
 const PROBLEMS: &str = "\
 min obj 0 <- min/st
 min obj 0 <- MINIMIZE/SUBJECT TO/END
@@ -67,7 +62,6 @@ min obj 0; semis 0 -; x 0 - <- min/st/bounds/ semis/ x
 min obj 0 0:1 | r.1 1 - 2:1; y 0 -; z 0 7; x 0 - <- min y + 0 z/st/ x >= 1/bounds/ z <= 7
 ";
 
-// Of a fault: its line and kind.
 const FAULTS: &str = "\
 1 BadLine <-\x20
 2 BadLine <- min
@@ -158,76 +152,6 @@ min obj 0; x 0 1 int; y 3 - int <- min/st/bounds/ x >= 3 y >= 3/bin x/int/ y y/b
 4 BadLine <- min x/st/binary/ x free >= 1
 ";
 
-// ---- what is read, as the tables write it
-
-fn bound_text(alloc: Global, bound: Option<Frac>) -> Result<String, AllocError> {
-    match bound {
-        Some(value) => value.text(alloc),
-        None => "-".to_string(alloc),
-    }
-}
-
-fn entry_text(alloc: Global, entry: &Entry) -> Result<String, AllocError> {
-    let coefficient = entry.coefficient.text(alloc)?;
-    format!(in alloc; " {}:{coefficient}", entry.column)
-}
-
-fn form_text(alloc: Global, form: &[Entry]) -> Result<String, AllocError> {
-    let mut text = String::new(alloc);
-    for entry in form {
-        text.push_str(entry_text(alloc, entry)?.as_str())?;
-    }
-    Ok(text)
-}
-
-fn row_text(alloc: Global, row: &Row) -> Result<String, AllocError> {
-    let lower = bound_text(alloc, row.lower())?;
-    let upper = bound_text(alloc, row.upper())?;
-    let form = form_text(alloc, row.entries().as_slice())?;
-    format!(in alloc; " | {} {lower} {upper}{form}", row.name().as_str())
-}
-
-fn column_text(alloc: Global, column: &Column) -> Result<String, AllocError> {
-    let lower = bound_text(alloc, column.lower())?;
-    let upper = bound_text(alloc, column.upper())?;
-    let integer = if column.integer() { " int" } else { "" };
-    format!(in alloc; "; {} {lower} {upper}{integer}", column.name().as_str())
-}
-
-fn objective_text(alloc: Global, problem: &Instance) -> Result<String, AllocError> {
-    let direction = match problem.direction() {
-        Direction::Min => "min",
-        Direction::Max => "max",
-    };
-    let constant = problem.constant().text(alloc)?;
-    let form = form_text(alloc, problem.objective().as_slice())?;
-    let name = problem.objective_name().as_str();
-    format!(in alloc; "{direction} {name} {constant}{form}")
-}
-
-fn problem_text(alloc: Global, problem: &Instance) -> Result<String, AllocError> {
-    let mut text = objective_text(alloc, problem)?;
-    for row in problem.rows() {
-        text.push_str(row_text(alloc, row)?.as_str())?;
-    }
-    for column in problem.columns() {
-        text.push_str(column_text(alloc, column)?.as_str())?;
-    }
-    Ok(text)
-}
-
-fn answer_text(alloc: Global, profile: &Profile, text: &str) -> Result<String, AllocError>
-    requires { IsWithinInstance profile.now }
-{
-    match read_within(alloc, profile, text.as_bytes()) {
-        Ok(problem) => problem_text(alloc, &problem),
-        Err(ReadError::Fault(fault)) => {
-            format!(in alloc; "{} {}", fault.line, fault.kind.as_str())
-        }
-        Err(ReadError::NoMemory) => Err(AllocError),
-    }
-}
-
 // ---- the tables are true
 
 // A text as a table writes it.
@@ -250,7 +174,7 @@ fn check_table(rt: &impl Abort, alloc: Global, profile: &Profile, table: &str) -
             panic!(rt; "an answer and a text: {row}");
         };
         let text = written(alloc, text)?;
-        let found = answer_text(alloc, profile, text.as_str())?;
+        let found = answer_text(alloc, read_within(alloc, profile, text.as_bytes()))?;
         assert_eq!(rt; found.as_str(), want, "at {row}");
     }
     Ok(())
@@ -279,11 +203,7 @@ fn texts_past_limits(rt: HostRuntime) -> Result<(), Fail> {
 
 #[test]
 fn texts_with_integers(rt: HostRuntime) -> Result<(), Fail> {
-    let with_integers = Profile {
-        takes_integers: true,
-        ..reader_profile()
-    };
-    check_table(&rt, rt.alloc(), &with_integers, WITH_INTEGERS)
+    check_table(&rt, rt.alloc(), &with_integers(), WITH_INTEGERS)
 }
 
 // A comment holds any bytes, and nothing else does.

@@ -77,7 +77,7 @@ fn add(items: &mut Items, index: u32, weight: Frac) -> Result<(), AllocError>
     ensures added { OnOk result (items.new ≡ items.old ++ items_at index (nonzero weight)) }
     ensures order { OnOk result (next_rank 0 items.new ≤ 2 * index + 2) }
 {
-    if weight.parts().0 == 0 {
+    if weight.is_zero() {
         return Ok(());
     }
     items.push(Item { index, weight })

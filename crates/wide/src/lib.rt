@@ -2,8 +2,6 @@
 #![tactic(auto)]
 
 mod division;
-#[cfg(test)]
-mod tests;
 mod wide;
 mod words;
 

@@ -1,4 +1,4 @@
-use Rattle.std.proofs.Common.{◌≡◌, ◌∙◌, sym, ap, subst, Ok, lit≤}
+use Rattle.std.proofs.Common.{◌∙◌, sym, ap, subst, Ok, lit≤}
 use Rattle.std.specs.Prelude.{pos, unsigned_abs, ◌≤◌}
 use Rattle.rational.specs.Rational.{whole}
 use Rattle.fraction.specs.Fits.{part_max}

@@ -4,7 +4,7 @@ use Rattle.certificate.specs.Values.{node_of}
 use Rattle.certificate.specs.Written.{open_after}
 use Rattle.certificate.specs.Ways.{way}
 use Rattle.cert_check.specs.Parts.{node_answer}
-use Rattle.cert_check.proofs.Elements.{stands_for, same_length, element_at}
+use Rattle.certificate.proofs.Laws.{stands_for, same_length, element_at}
 use Rattle.cert_check.proofs.Places.{node_holds, node_fails, node_faults, tree_full, tree_short}
 use Rattle.cert_check.proofs.nodes.check_nodes.Goals as goal
 
@@ -26,7 +26,7 @@ returns-in-Err c =
     let nodes = c.args.tree.now in
     let size = same_length node_of c.as_slice-nodes.result.now nodes c.as_slice-nodes.ensures.nodes in
     let here : c.loop-k.k < length nodes = omega (arith, size, c.loop-k-test.true) in
-    let node = stands_for node_of c.as_slice-nodes.result.now nodes c.loop-k.k c.index-nodes-k.result c.as_slice-nodes.ensures.nodes here c.index-nodes-k.is in
+    let node = stands_for node_of c.as_slice-nodes.result.now nodes c.loop-k.k c.index-nodes-k.result c.as_slice-nodes.ensures.nodes c.index-nodes-k.is in
     let some : 0 < c.loop-k.places = omega (arith, c.if-places-eq0.false) in
     let answer : Err c.in-Err.fault ≡ node_answer (record { problem = c.args.problem.now; derived = c.args.derived.now; sides = way nodes c.loop-k.k }) c.args.goal.now (node_of c.index-nodes-k.result) = search rules in
     node_faults c.args.problem.now c.args.goal.now c.args.derived.now nodes c.loop-k.k c.loop-k.places (node_of c.index-nodes-k.result) c.in-Err.fault _ here node c.loop-k.invariant.same some answer
@@ -36,7 +36,7 @@ returns-in-Ok-false c =
     let nodes = c.args.tree.now in
     let size = same_length node_of c.as_slice-nodes.result.now nodes c.as_slice-nodes.ensures.nodes in
     let here : c.loop-k.k < length nodes = omega (arith, size, c.loop-k-test.true) in
-    let node = stands_for node_of c.as_slice-nodes.result.now nodes c.loop-k.k c.index-nodes-k.result c.as_slice-nodes.ensures.nodes here c.index-nodes-k.is in
+    let node = stands_for node_of c.as_slice-nodes.result.now nodes c.loop-k.k c.index-nodes-k.result c.as_slice-nodes.ensures.nodes c.index-nodes-k.is in
     let some : 0 < c.loop-k.places = omega (arith, c.if-places-eq0.false) in
     let answer : Ok false ≡ node_answer (record { problem = c.args.problem.now; derived = c.args.derived.now; sides = way nodes c.loop-k.k }) c.args.goal.now (node_of c.index-nodes-k.result) = search rules in
     node_fails c.args.problem.now c.args.goal.now c.args.derived.now nodes c.loop-k.k c.loop-k.places (node_of c.index-nodes-k.result) _ here node c.loop-k.invariant.same some answer
@@ -46,7 +46,7 @@ loop-k-preserved c =
     let nodes = c.args.tree.now in
     let size = same_length node_of c.as_slice-nodes.result.now nodes c.as_slice-nodes.ensures.nodes in
     let here : c.loop-k.k < length nodes = omega (arith, size, c.loop-k-test.true) in
-    let node = stands_for node_of c.as_slice-nodes.result.now nodes c.loop-k.k c.index-nodes-k.result c.as_slice-nodes.ensures.nodes here c.index-nodes-k.is in
+    let node = stands_for node_of c.as_slice-nodes.result.now nodes c.loop-k.k c.index-nodes-k.result c.as_slice-nodes.ensures.nodes c.index-nodes-k.is in
     let some : 0 < c.loop-k.places = omega (arith, c.if-places-eq0.false) in
     let answer : Ok true ≡ node_answer (record { problem = c.args.problem.now; derived = c.args.derived.now; sides = way nodes c.loop-k.k }) c.args.goal.now (node_of c.index-nodes-k.result) = search rules in
     record {

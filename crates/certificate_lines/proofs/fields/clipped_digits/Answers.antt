@@ -1,4 +1,4 @@
-use Rattle.std.proofs.Common.{◌≡◌, ◌∙◌, ◌+◌, ◌-◌, ◌*◌, ◌^◌, min, get_or, true, arith, sym, ap, ℕ}
+use Rattle.std.proofs.Common.{◌≡◌, ◌∙◌, ◌+◌, ◌*◌, min, get_or, true, arith, sym, ap, ℕ}
 use Rattle.std.specs.Char.{is_ascii_digit}
 use Rattle.certificate_lines.proofs.Digits.{clipped_step}
 use Rattle.certificate_lines.proofs.fields.clipped_digits.Goals as goal

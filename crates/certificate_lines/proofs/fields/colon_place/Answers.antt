@@ -1,4 +1,4 @@
-use Rattle.std.proofs.Common.{◌≡◌, ◌<◌, ◌≤◌, sym, length, arith, below_more}
+use Rattle.std.proofs.Common.{◌≡◌, sym, length, arith, below_more}
 use Rattle.std.proofs.lemmas.Bool.{ne_eqb, eq-eqb}
 use Rattle.std.proofs.lemmas.List.Sums.{position_or_len_is}
 use Rattle.certificate_lines.specs.Fields.{is_colon}

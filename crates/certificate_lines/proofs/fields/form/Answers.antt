@@ -1,10 +1,7 @@
-use Rattle.std.proofs.Common.{◌≡◌, ◌∙◌, ◌++◌, ◌∷◌, [], sym, ◌+◌, ap, ℕ, List, IsTrue}
+use Rattle.std.proofs.Common.{◌≡◌, ◌∙◌, [], sym, ap}
 use Rattle.std.proofs.lemmas.Result.{err_from_is_err_and}
 use Rattle.milp.specs.Form.{Entry}
-use Rattle.instance.specs.WellFormed.{are_entries}
-use Rattle.certificate.specs.Written.{count_max}
 use Rattle.certificate_lines.specs.Fields.{form_of}
-use Rattle.certificate_lines.proofs.Fronts.{with_front}
 use Rattle.certificate_lines.proofs.Loops.{texts, form_more, form_fault, form_all}
 use Rattle.certificate_lines.proofs.Taken.{form_entries}
 use Rattle.certificate_lines.proofs.fields.form.Goals as goal

@@ -1,9 +1,8 @@
-use Rattle.std.proofs.Common.{◌≡◌, ◌∙◌, ◌++◌, ◌∷◌, [], sym, ◌+◌, ap, drop, length, List, ℕ}
+use Rattle.std.proofs.Common.{◌≡◌, ◌∙◌, [], sym, ◌+◌, ap, ℕ}
 use Rattle.std.proofs.lemmas.Result.{err_from_is_err_and}
 use Rattle.verdicts.specs.Certificate.{Item}
-use Rattle.certificate.specs.Written.{rank_of, next_rank}
+use Rattle.certificate.specs.Written.{rank_of}
 use Rattle.certificate_lines.specs.Fields.{items_of, item_of}
-use Rattle.certificate_lines.proofs.Fronts.{with_front_of}
 use Rattle.certificate_lines.proofs.Loops.{texts, items_more, items_fault, items_other, items_all}
 use Rattle.certificate_lines.proofs.fields.items.Goals as goal
 

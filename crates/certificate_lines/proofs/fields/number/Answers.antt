@@ -1,4 +1,4 @@
-use Rattle.std.proofs.Common.{◌≡◌, ◌∙◌, Bool, true, false, if◌then◌else◌, Some, None, Option, Err, List, ℕ, refl, ap, sym}
+use Rattle.std.proofs.Common.{◌≡◌, ◌∙◌, Bool, true, false, if◌then◌else◌, Some, None, Option, Err, List, ℕ, refl, ap}
 use Rattle.fraction.specs.Canonical.{read_canonical_of}
 use Rattle.certificate_lines.specs.declared.fault.FaultKind.TheVariants.{BadLine}
 use Rattle.certificate_lines.specs.Fields.{numbered}

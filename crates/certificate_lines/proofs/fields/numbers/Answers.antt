@@ -1,4 +1,4 @@
-use Rattle.std.proofs.Common.{◌≡◌, ◌++◌, ◌∷◌, [], arith, sym}
+use Rattle.std.proofs.Common.{[], arith, sym}
 use Rattle.std.proofs.lemmas.Result.{err_from_is_err_and}
 use Rattle.certificate_lines.proofs.Loops.{texts, numbers_more, numbers_fault, numbers_surplus, numbers_missing, numbers_all}
 use Rattle.certificate_lines.specs.Fields.{numbers_of}

@@ -1,6 +1,5 @@
-use Rattle.std.proofs.Common.{◌≡◌, ◌∙◌, ◌<◌, ◌≤◌, ◌+◌, ◌∷◌, sym, length, take, drop, arith, below_more, List, ℕ}
+use Rattle.std.proofs.Common.{below_more}
 use Rattle.std.proofs.lemmas.Bool.{ne_eqb, eq-eqb}
-use Rattle.certificate_lines.specs.Lines.{is_feed}
 use Rattle.certificate_lines.proofs.Pieces.{pieces_at, pieces_none}
 use Rattle.certificate_lines.proofs.lines.split_line.Goals as goal
 

@@ -1,7 +1,8 @@
 use Rattle.std.proofs.Common.{◌≡◌, length, arith}
 use Rattle.std.specs.Vec.{vec_len}
 use Rattle.certificate.specs.Values.{node_of}
-use Rattle.certificate.proofs.Turns.{no_turn, turn_is, parent_before, stands_for, same_length}
+use Rattle.certificate.proofs.Elements.{stands_for, same_length}
+use Rattle.certificate.proofs.Turns.{no_turn, turn_is, parent_before}
 use Rattle.certificate.proofs.tree.Tree.last_turn.Goals as goal
 
 pub index-requires : goal.index-requires

@@ -1,0 +1,6 @@
+//! Why an expression of a MathProg model has no value.
+#![tactic(auto)]
+
+mod fault;
+
+pub use fault::EvalFault;

@@ -1,0 +1,4 @@
+mod Doubled
+mod NamesDiffer
+mod NumberTexts
+mod Split

@@ -1,0 +1,5 @@
+pub mod Follows
+pub mod Range
+pub mod Sets
+pub mod SymbolEquality
+pub mod SymbolOrder

@@ -1,0 +1,252 @@
+// Factors of a basis, B = L U, with a list of the columns that were exchanged since. Slots are named by the rows of
+// their pivots; the rows' own variables are unit columns and cost nothing.
+use crate::elimination::Elimination;
+use crate::lists::{Entry, Lists};
+use crate::matrix::Matrix;
+use crate::numbers::{fused, product, quotient};
+use crate::stop::Stop;
+use crate::vectors::{add, at, number_at, put};
+use fraction::Frac;
+use std::alloc::Global;
+
+// A column that took a slot: 1 over its number there.
+#[derive(Clone, Copy)]
+struct Change {
+    slot: usize,
+    inverse: Frac,
+}
+
+/// The factors of a basis.
+#[derive(Drop)]
+pub struct Factors {
+    order: Vec<usize>,
+    inverses: Vec<Frac>,
+    lower_columns: Lists,
+    lower_rows: Lists,
+    upper_columns: Lists,
+    upper_rows: Lists,
+    slack_rows: Vec<usize>,
+    changes: Vec<Change>,
+    change_entries: Lists,
+}
+
+/// The factors of a basis, and the variable of each slot.
+#[derive(Drop)]
+pub struct Factored {
+    pub factors: Factors,
+    pub slots: Vec<usize>,
+}
+
+/// Factors the basis that is made of these variables. Where their columns depend on each other, rows' own variables
+/// take the place of some of them.
+pub fn factorise(alloc: Global, matrix: &Matrix, basic: &[usize]) -> Result<Factored, Stop> {
+    let mut elimination = Elimination::start(alloc, matrix, basic)?;
+    take_pivots(alloc, &mut elimination)?;
+    elimination.fill_up(matrix)?;
+    let Elimination {
+        slots,
+        slack_rows,
+        order,
+        inverses,
+        lower,
+        upper,
+        ..
+    } = elimination;
+    let lower_rows = lower.turned(alloc, &order, matrix.rows)?;
+    let upper_rows = upper.turned(alloc, &order, matrix.rows)?;
+    let slots = all_slots(alloc, matrix, &slots)?;
+    let factors = Factors {
+        order,
+        inverses,
+        lower_columns: lower,
+        lower_rows,
+        upper_columns: upper,
+        upper_rows,
+        slack_rows,
+        changes: Vec::new(alloc),
+        change_entries: Lists::new(alloc),
+    };
+    Ok(Factored { factors, slots })
+}
+
+fn take_pivots(alloc: Global, elimination: &mut Elimination) -> Result<(), Stop> {
+    for _ in 0..elimination.columns.len() {
+        match elimination.next_pivot() {
+            Some(pivot) => elimination.take(alloc, pivot)?,
+            None => return Ok(()),
+        }
+    }
+    Ok(())
+}
+
+fn all_slots(alloc: Global, matrix: &Matrix, slots: &[Option<usize>]) -> Result<Vec<usize>, Stop> {
+    let mut all = Vec::with_capacity(alloc, slots.len())?;
+    for row in 0..slots.len() {
+        match slots[row] {
+            Some(v) => add(&mut all, v)?,
+            None => add(&mut all, matrix.variable_of(row))?,
+        }
+    }
+    Ok(all)
+}
+
+// Adds a multiple of the entries to the places that they belong to.
+fn add_multiple(x: &mut [Frac], entries: &[Entry], factor: Frac) -> Result<(), Stop> {
+    for entry in entries {
+        let place = entry.at;
+        if place < x.len() {
+            x[place] = fused(factor, entry.number, x[place])?;
+        }
+    }
+    Ok(())
+}
+
+// The sum of `first` and minus the entries times the numbers at their places.
+fn minus_products(x: &[Frac], entries: &[Entry], first: Frac) -> Result<Frac, Stop> {
+    let mut sum = first;
+    for entry in entries {
+        let number = number_at(x, entry.at);
+        if !number.is_zero() {
+            sum = fused(number.neg(), entry.number, sum)?;
+        }
+    }
+    Ok(sum)
+}
+
+impl Factors {
+    /// No change came since the basis was factored.
+    pub fn is_fresh(&self) -> bool {
+        self.changes.is_empty()
+    }
+
+    /// It is time to factor anew.
+    pub fn is_worn(&self, most: usize) -> bool {
+        let lower = self.lower_columns.entry_count();
+        let upper = self.upper_columns.entry_count();
+        let room = lower
+            .saturating_add(upper)
+            .saturating_add(self.inverses.len());
+        self.changes.len() >= most || self.change_entries.entry_count() / 2 > room
+    }
+
+    /// A column takes a slot: its numbers as slots give them, and the places of those that are not 0.
+    pub fn exchange(&mut self, slot: usize, x: &[Frac], used: &[usize]) -> Result<(), Stop> {
+        let inverse = quotient(Frac::one(), number_at(x, slot))?;
+        add(&mut self.changes, Change { slot, inverse })?;
+        for place in used {
+            if *place != slot {
+                self.change_entries.put(Entry {
+                    at: *place,
+                    number: number_at(x, *place),
+                })?;
+            }
+        }
+        self.change_entries.close()
+    }
+
+    // ---- B x = a
+
+    /// Solves B x = a, where a is given and x comes in its place, by slots.
+    pub fn solve_columns(&self, x: &mut [Frac]) -> Result<(), Stop> {
+        self.lower_forward(x)?;
+        self.upper_backward(x)?;
+        self.changes_forward(x)
+    }
+
+    fn lower_forward(&self, x: &mut [Frac]) -> Result<(), Stop> {
+        for k in 0..self.order.len() {
+            let list = self.lower_columns.list(k);
+            if !list.is_empty() {
+                let number = number_at(x, self.order[k]);
+                if !number.is_zero() {
+                    add_multiple(x, list, number.neg())?;
+                }
+            }
+        }
+        Ok(())
+    }
+
+    fn upper_backward(&self, x: &mut [Frac]) -> Result<(), Stop> {
+        for k in (0..self.order.len()).rev() {
+            let row = at(&self.order, k, 0);
+            let number = number_at(x, row);
+            if !number.is_zero() {
+                let solved = product(number, number_at(&self.inverses, row))?;
+                put(x, row, solved);
+                add_multiple(x, self.upper_columns.list(k), solved.neg())?;
+            }
+        }
+        Ok(())
+    }
+
+    fn changes_forward(&self, x: &mut [Frac]) -> Result<(), Stop> {
+        for k in 0..self.changes.len() {
+            let change = self.changes[k];
+            let number = number_at(x, change.slot);
+            if !number.is_zero() {
+                let solved = product(number, change.inverse)?;
+                put(x, change.slot, solved);
+                add_multiple(x, self.change_entries.list(k), solved.neg())?;
+            }
+        }
+        Ok(())
+    }
+
+    // ---- y B = c
+
+    /// Solves y B = c, where c is given by slots and y comes in its place, by rows.
+    pub fn solve_rows(&self, y: &mut [Frac]) -> Result<(), Stop> {
+        self.changes_backward(y)?;
+        self.slacks_forward(y)?;
+        self.upper_forward(y)?;
+        self.lower_backward(y)
+    }
+
+    fn changes_backward(&self, y: &mut [Frac]) -> Result<(), Stop> {
+        for k in (0..self.changes.len()).rev() {
+            if k < self.changes.len() {
+                let change = self.changes[k];
+                let first = number_at(y, change.slot);
+                let sum = minus_products(y, self.change_entries.list(k), first)?;
+                put(y, change.slot, product(sum, change.inverse)?);
+            }
+        }
+        Ok(())
+    }
+
+    fn slacks_forward(&self, y: &mut [Frac]) -> Result<(), Stop> {
+        for row in &self.slack_rows {
+            let number = number_at(y, *row);
+            if !number.is_zero() {
+                add_multiple(y, self.upper_rows.list(*row), number.neg())?;
+            }
+        }
+        Ok(())
+    }
+
+    fn upper_forward(&self, y: &mut [Frac]) -> Result<(), Stop> {
+        for row in &self.order {
+            let number = number_at(y, *row);
+            if !number.is_zero() {
+                let solved = product(number, number_at(&self.inverses, *row))?;
+                put(y, *row, solved);
+                add_multiple(y, self.upper_rows.list(*row), solved.neg())?;
+            }
+        }
+        Ok(())
+    }
+
+    fn lower_backward(&self, y: &mut [Frac]) -> Result<(), Stop> {
+        for k in (0..self.order.len()).rev() {
+            let row = at(&self.order, k, 0);
+            let list = self.lower_rows.list(row);
+            if !list.is_empty() {
+                let number = number_at(y, row);
+                if !number.is_zero() {
+                    add_multiple(y, list, number.neg())?;
+                }
+            }
+        }
+        Ok(())
+    }
+}

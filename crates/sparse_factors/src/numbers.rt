@@ -1,0 +1,100 @@
+// Arithmetic on fractions, and their sizes as logarithms, which only guide.
+ghost use Rattle.std.specs.Prelude.{◌≤◌, ◌<◌};
+
+use crate::stop::Stop;
+use fraction::Frac;
+
+/// The whole number n.
+pub fn whole(n: i128) -> Result<Frac, Stop> {
+    if n == i128::MIN {
+        return Err(Stop::NoFit);
+    }
+    Ok(Frac::whole(n))
+}
+
+/// a b
+pub fn product(a: Frac, b: Frac) -> Result<Frac, Stop> {
+    if a.is_zero() || b.is_zero() {
+        return Ok(Frac::zero());
+    }
+    match a.mul(b) {
+        Ok(c) => Ok(c),
+        Err(_) => Err(Stop::NoFit),
+    }
+}
+
+/// t a + b, exact where the value fits.
+pub fn fused(t: Frac, a: Frac, b: Frac) -> Result<Frac, Stop> {
+    if t.is_zero() || a.is_zero() {
+        return Ok(b);
+    }
+    match t.mul_add(a, b) {
+        Ok(c) => Ok(c),
+        Err(_) => Err(Stop::NoFit),
+    }
+}
+
+/// a + b, exact where the value fits.
+pub fn sum(a: Frac, b: Frac) -> Result<Frac, Stop> {
+    if a.is_zero() {
+        return Ok(b);
+    }
+    if b.is_zero() {
+        return Ok(a);
+    }
+    fused(Frac::one(), a, b)
+}
+
+/// a - b, exact where the value fits.
+pub fn difference(a: Frac, b: Frac) -> Result<Frac, Stop> {
+    sum(a, b.neg())
+}
+
+/// a / b
+pub fn quotient(a: Frac, b: Frac) -> Result<Frac, Stop> {
+    if b.is_zero() {
+        return Err(Stop::NoFit);
+    }
+    match a.div(b) {
+        Ok(c) => Ok(c),
+        Err(_) => Err(Stop::NoFit),
+    }
+}
+
+/// The logarithm of the size of a number that is not 0, to the base 2, in steps of 1/256.
+pub fn log(a: Frac) -> i32 {
+    let (numerator, denominator) = a.parts();
+    log_of(numerator.unsigned_abs()).saturating_sub(log_of(denominator.unsigned_abs()))
+}
+
+fn log_of(n: u128) -> i32 {
+    let top = length(n).saturating_sub(1);
+    let steps = 256 * top + after_top(n, top);
+    steps as i32
+}
+
+// How many binary digits the number has.
+fn length(n: u128) -> u32
+    ensures { result ≤ 128 }
+{
+    128 - n.leading_zeros()
+}
+
+// The eight binary digits after the first one.
+fn after_top(n: u128, top: u32) -> u32
+    ensures { result < 256 }
+{
+    let digits = if top >= 8 {
+        n >> (top - 8).min(127)
+    } else {
+        n << (8 - top)
+    };
+    (digits & 255) as u32
+}
+
+/// How many binary digits the numerator and the denominator have.
+pub fn digits(a: Frac) -> i32 {
+    let (numerator, denominator) = a.parts();
+    let sum = length(numerator.unsigned_abs()) + length(denominator.unsigned_abs());
+    sum as i32
+}

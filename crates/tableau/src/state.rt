@@ -1,0 +1,327 @@
+// The state of a search: a basis with its factors, the values and prices of all variables, and what guides the choices.
+use crate::model::{Bounds, Model};
+use crate::scaling::units_of;
+use crate::start::Start;
+use fraction::Frac;
+use sparse_factors::{
+    Factored, Factors, Stop, at, copied, difference, digits, factorise, filled, log, number_at,
+    put, zeros,
+};
+use std::alloc::Global;
+
+/// Which variable is taken among those with equal ratios.
+#[derive(Clone, Copy, PartialEq, Eq)]
+pub enum TieRule {
+    /// The one with the largest entry.
+    Largest,
+    /// The one with the shortest number.
+    Shortest,
+    /// One with the entry 1 or -1, else the one with the largest.
+    Ones,
+}
+
+// After so many steps of length 0 in a row, and twice as many as there are rows, the least index is taken.
+const PATIENCE: usize = 1000;
+
+// The basis is factored anew after so many steps.
+const STEPS_BETWEEN: usize = 60;
+
+/// A basis on the way, and what is known of it.
+#[derive(Drop)]
+pub struct State {
+    pub model: Model,
+    pub factors: Factors,
+    // the variable of each slot, and the slot of each basic variable
+    pub slots: Vec<usize>,
+    pub places: Vec<Option<usize>>,
+    // a resting variable is at its upper bound
+    pub at_upper: Vec<bool>,
+    pub is_fixed: Vec<bool>,
+    pub costs: Vec<Frac>,
+    pub values: Vec<Frac>,
+    pub prices: Vec<Frac>,
+    // how far the variable of a slot is beyond a bound, as a logarithm
+    pub gaps: Vec<Option<i32>>,
+    pub weights: Vec<i32>,
+    pub units: Vec<i32>,
+    // the numbers of a slot's row, by variable, and the variables that may have one
+    pub entries: Vec<Frac>,
+    pub touched: Vec<usize>,
+    pub is_touched: Vec<bool>,
+    pub ties: TieRule,
+    pub steps_between: usize,
+    pub steps_left: u32,
+    pub stalls: usize,
+    pub costs_are_shifted: bool,
+}
+
+impl State {
+    /// The state at a basis, its values and prices not yet found.
+    pub fn at_basis(alloc: Global, model: Model, start: Start, steps: u32) -> Result<State, Stop> {
+        let size = model.size();
+        let Factored { factors, slots } = factorise(alloc, &model.matrix, &start.basic)?;
+        let mut state = State {
+            factors,
+            slots,
+            places: filled(alloc, size, None)?,
+            at_upper: start.at_upper,
+            is_fixed: filled(alloc, size, false)?,
+            costs: copied(alloc, &model.costs)?,
+            values: zeros(alloc, size)?,
+            prices: zeros(alloc, size)?,
+            gaps: filled(alloc, model.matrix.rows, None)?,
+            weights: filled(alloc, model.matrix.rows, 0)?,
+            units: units_of(alloc, &model)?,
+            entries: zeros(alloc, size)?,
+            touched: Vec::new(alloc),
+            is_touched: filled(alloc, size, false)?,
+            ties: TieRule::Largest,
+            steps_between: STEPS_BETWEEN,
+            steps_left: steps,
+            stalls: 0,
+            costs_are_shifted: false,
+            model,
+        };
+        state.mark_fixed();
+        state.settle();
+        Ok(state)
+    }
+
+    fn mark_fixed(&mut self) {
+        for v in 0..self.is_fixed.len() {
+            self.is_fixed[v] = self.model.bounds_of(v).is_fixed();
+        }
+    }
+
+    // ---- what is known of a variable
+
+    /// Whether the variable is basic.
+    #[inline]
+    pub fn is_basic(&self, v: usize) -> bool {
+        at(&self.places, v, None).is_some()
+    }
+
+    #[inline]
+    pub fn is_fixed(&self, v: usize) -> bool {
+        at(&self.is_fixed, v, false)
+    }
+
+    #[inline]
+    pub fn rests_above(&self, v: usize) -> bool {
+        at(&self.at_upper, v, false)
+    }
+
+    #[inline]
+    pub fn unit_of(&self, v: usize) -> i32 {
+        at(&self.units, v, 0)
+    }
+
+    #[inline]
+    pub fn value_of(&self, v: usize) -> Frac {
+        number_at(&self.values, v)
+    }
+
+    #[inline]
+    pub fn price_of(&self, v: usize) -> Frac {
+        number_at(&self.prices, v)
+    }
+
+    #[inline]
+    pub fn variable_at(&self, slot: usize) -> usize {
+        at(&self.slots, slot, usize::MAX)
+    }
+
+    /// The resting variable may rise.
+    #[inline]
+    pub fn may_rise(&self, bounds: Bounds, v: usize) -> bool {
+        bounds.upper.is_none() || !self.rests_above(v)
+    }
+
+    /// The resting variable may fall.
+    #[inline]
+    pub fn may_fall(&self, bounds: Bounds, v: usize) -> bool {
+        bounds.lower.is_none() || self.rests_above(v)
+    }
+
+    /// The resting variable's price is wrong where it rests: it should move.
+    pub fn should_move(&self, v: usize) -> bool {
+        let price = self.price_of(v);
+        if price.is_zero() || self.is_basic(v) || self.is_fixed(v) {
+            return false;
+        }
+        let bounds = self.model.bounds_of(v);
+        if price.is_negative() {
+            self.may_rise(bounds, v)
+        } else {
+            self.may_fall(bounds, v)
+        }
+    }
+
+    /// So many steps of length 0 came in a row that the least index is taken.
+    pub fn is_careful(&self) -> bool {
+        let patience = PATIENCE.saturating_add(self.model.matrix.rows.saturating_mul(2));
+        self.stalls > patience
+    }
+
+    /// What ranks the entry a among equal ratios, its size in units of `unit`.
+    pub fn tie_key(&self, a: Frac, unit: i32) -> i32 {
+        match self.ties {
+            TieRule::Largest => log(a).saturating_add(unit),
+            TieRule::Shortest => 0i32.saturating_sub(digits(a)),
+            TieRule::Ones => {
+                if digits(a) <= 2 {
+                    i32::MAX
+                } else {
+                    log(a).saturating_add(unit)
+                }
+            }
+        }
+    }
+
+    /// One step is taken, if one is left.
+    pub fn count_step(&mut self) -> Result<(), Stop> {
+        match self.steps_left.checked_sub(1) {
+            Some(left) => {
+                self.steps_left = left;
+                Ok(())
+            }
+            None => Err(Stop::Steps),
+        }
+    }
+
+    /// A step may have length 0.
+    pub fn count_stall(&mut self, is_stall: bool) {
+        self.stalls = if is_stall {
+            self.stalls.saturating_add(1)
+        } else {
+            0
+        };
+    }
+
+    // ---- values where variables rest
+
+    // Sets the places, and the values of the resting variables.
+    fn settle(&mut self) {
+        for v in 0..self.places.len() {
+            self.places[v] = None;
+        }
+        for slot in 0..self.slots.len() {
+            let v = self.slots[slot];
+            put(&mut self.places, v, Some(slot));
+        }
+        for v in 0..self.values.len() {
+            if !self.is_basic(v) {
+                self.rest(v);
+            }
+        }
+    }
+
+    /// Lets a variable rest at its bound, or at 0 where it has none.
+    pub fn rest(&mut self, v: usize) {
+        let bounds = self.model.bounds_of(v);
+        let above = if self.rests_above(v) {
+            bounds.upper.is_some()
+        } else {
+            bounds.lower.is_none() && bounds.upper.is_some()
+        };
+        put(&mut self.at_upper, v, above);
+        let bound = if above { bounds.upper } else { bounds.lower };
+        put(&mut self.values, v, bound.unwrap_or(Frac::zero()));
+    }
+
+    /// Lets a resting variable rest at its other bound.
+    pub fn flip(&mut self, v: usize) {
+        let above = self.rests_above(v);
+        put(&mut self.at_upper, v, !above);
+        self.rest(v);
+    }
+
+    // ---- gaps
+
+    /// How far the variable of a slot is beyond a bound.
+    pub fn look_at(&mut self, slot: usize) {
+        let gap = self.gap_of(self.variable_at(slot));
+        put(&mut self.gaps, slot, gap);
+    }
+
+    /// The same for all slots.
+    pub fn look_at_all(&mut self) {
+        for slot in 0..self.slots.len() {
+            self.look_at(slot);
+        }
+    }
+
+    fn gap_of(&self, v: usize) -> Option<i32> {
+        let value = self.value_of(v);
+        let bounds = self.model.bounds_of(v);
+        match bounds.lower {
+            Some(lower) if value < lower => return Some(size_between(value, lower)),
+            _ => {}
+        }
+        match bounds.upper {
+            Some(upper) if upper < value => Some(size_between(upper, value)),
+            _ => None,
+        }
+    }
+
+    /// No bound is broken.
+    pub fn is_feasible(&self) -> bool {
+        for gap in &self.gaps {
+            if gap.is_some() {
+                return false;
+            }
+        }
+        true
+    }
+
+    // ---- factoring anew
+
+    /// Factors the basis anew. Values and prices stay.
+    fn refactor(&mut self, alloc: Global) -> Result<(), Stop> {
+        let weights = self.weights_by_variable(alloc)?;
+        let Factored { factors, slots } = factorise(alloc, &self.model.matrix, &self.slots)?;
+        self.factors = factors;
+        self.slots = slots;
+        self.settle();
+        self.take_weights(&weights);
+        Ok(())
+    }
+
+    /// The same, but where its numbers do not fit the factors stay, for longer than before.
+    pub fn try_to_refactor(&mut self, alloc: Global) -> Result<(), Stop> {
+        match self.refactor(alloc) {
+            Err(Stop::NoFit) => {
+                self.steps_between = self.steps_between.saturating_mul(2);
+                Ok(())
+            }
+            outcome => outcome,
+        }
+    }
+
+    fn weights_by_variable(&self, alloc: Global) -> Result<Vec<i32>, Stop> {
+        let mut weights = filled(alloc, self.values.len(), 0)?;
+        for slot in 0..self.slots.len() {
+            put(&mut weights, self.slots[slot], at(&self.weights, slot, 0));
+        }
+        Ok(weights)
+    }
+
+    fn take_weights(&mut self, weights: &[i32]) {
+        for slot in 0..self.weights.len() {
+            self.weights[slot] = at(weights, at(&self.slots, slot, 0), 0);
+        }
+    }
+
+    /// Whether it is time to factor anew.
+    pub fn is_worn(&self) -> bool {
+        self.factors.is_worn(self.steps_between)
+    }
+}
+
+// The logarithm of the distance of two numbers, or of the larger one where the distance does not fit.
+fn size_between(low: Frac, high: Frac) -> i32 {
+    match difference(high, low) {
+        Ok(gap) => log(gap),
+        Err(_) => log(low).max(log(high)),
+    }
+}
