@@ -6,10 +6,12 @@ usage: bench/linear_programs.py [--runs N] [--most ROWS] [FILE.mps ...]
 Without files it makes dense and sparse programs of 10 to 200 rows (to ROWS at most) with small whole coefficients;
 bench/relaxations.py writes files of real models. GLPK's `glpsol --exact --nopresol` (Debian's glpk-utils) and `esolver`
 (Debian's qsopt-ex) are run on the same files, one program after the other in each round. It prints the median seconds
-of each, the optimum that each finds, and the ratios of this program's time to theirs; last the geometric means of the
+of processor time of each (which other work on the machine disturbs little), the optimum that each finds, and the ratios of this program's time to theirs; last the geometric means of the
 ratios, without the programs that this one or the other does not solve, and the programs that take longer than GLPK's
 and longer than 10 ms. A program that takes more than 60 seconds counts as none. Each certificate is checked by
-`--checkcert`, and its time printed too. Without files it solves and checks chains of 500 to 2,000 rows at the end.
+`--checkcert`, and its time printed too. Without files it solves and checks chains of 500 to 2,000 rows at the end, and
+programs of shapes that are far from square: 3 rows and 2,000 columns, 40,000 rows of one column, and 10,000 columns
+without rows, each with an optimum, without a feasible point and without an optimum.
 """
 import os
 import random
@@ -19,7 +21,7 @@ import statistics
 import subprocess
 import sys
 import tempfile
-import time
+import threading
 from fractions import Fraction
 
 GLPK = shutil.which("glpsol")
@@ -68,6 +70,37 @@ def chain_of(rows):
     return "\n".join(lines) + "\n"
 
 
+def shape_of(rows, columns, verdict):
+    """A program with an entry in each place, whose columns go from 0 to 20, that has this verdict."""
+    pick = random.Random(rows + columns)
+    entries = [[pick.randint(1, 9) for _ in range(columns)] for _ in range(rows)]
+    kinds = ["G" if verdict == "UNBOUNDED" or i % 2 else "L" for i in range(rows)]
+    lines = ["NAME shape", "ROWS", " N cost"] + [f" {kind} r{i}" for i, kind in enumerate(kinds)] + ["COLUMNS"]
+    for j in range(columns):
+        lines.append(f" x{j} cost {pick.choice([-1, 1]) * pick.randint(1, 9) if j else -9}")
+        lines += [f" x{j} r{i} {row[j]}" for i, row in enumerate(entries)]
+    lines.append("RHS")
+    lines += [f" R r{i} {sum(row) if kinds[i] == 'G' else 5 * sum(row)}" for i, row in enumerate(entries)]
+    if verdict == "INFEASIBLE" and rows:
+        lines[-rows] = " R r0 -1"
+    lines.append("BOUNDS")
+    lines += [f" UP b x{j} 20" for j in range(1 if verdict == "UNBOUNDED" else 0, columns)]
+    if verdict == "INFEASIBLE" and not rows:
+        lines.append(" LO b x0 21")
+    return "\n".join(lines + ["ENDATA"]) + "\n"
+
+
+def shapes(folder):
+    path = os.path.join(folder, "shape.mps")
+    for rows, columns in [(3, 2000), (40000, 1), (0, 10000)]:
+        for verdict in ["OPTIMAL", "INFEASIBLE", "UNBOUNDED"]:
+            with open(path, "w") as file:
+                file.write(shape_of(rows, columns, verdict))
+            seconds, text = min(timed([PROGRAM, "--freemps", path]) for _ in range(3))
+            print(f"{rows} rows, {columns} columns: {text.split()[0]} in {seconds:.4f} s")
+            assert text.startswith(verdict), text
+
+
 def chains(folder):
     path = os.path.join(folder, "chain.mps")
     for rows in [500, 1000, 2000]:
@@ -80,12 +113,18 @@ def chains(folder):
 
 
 def timed(words):
-    start = time.perf_counter()
-    try:
-        done = subprocess.run(words, capture_output=True, text=True, timeout=LIMIT)
-    except subprocess.TimeoutExpired:
-        return None, ""
-    return time.perf_counter() - start, done.stdout
+    """The seconds of processor time that a program takes, none where it does not end, and its output."""
+    with tempfile.TemporaryFile("w+") as output:
+        began = subprocess.Popen(words, stdout=output, stderr=subprocess.DEVNULL)
+        limit = threading.Timer(LIMIT, began.kill)
+        limit.start()
+        _, status, used = os.wait4(began.pid, 0)
+        limit.cancel()
+        began.returncode = os.waitstatus_to_exitcode(status)
+        if began.returncode < 0:
+            return None, ""
+        output.seek(0)
+        return used.ru_utime + used.ru_stime, output.read()
 
 
 def ours(path, folder):
@@ -196,6 +235,7 @@ def main():
                         file.write(text_of(rows, rows, density, rows))
                     found.append(measure(f"{rows} rows, {shape}", rows, path, folder, runs))
             chains(folder)
+            shapes(folder)
     if not files:
         print("up to 50 rows:")
         tell([it for it in found if it.rows <= 50])

@@ -5,7 +5,8 @@ pub use Rattle.basis.proofs.Places.{basic_after, basic_known, below, enters_basi
 pub use Rattle.basis.proofs.Coefs.{not_resting}
 -- the start, a pivot, and the points that they lead to
 pub use Rattle.basis.proofs.Rays.{arrives}
-pub use Rattle.basis.proofs.Start.{extended_satisfies, same_below, start_is_point}
+pub use Rattle.basis.proofs.Start.{extended_satisfies, same_below, start_is_dictionary, start_is_point}
+pub use Rattle.basis.proofs.Unique.{same_gains}
 pub use Rattle.basis.proofs.Pivot.{pivot_keeps}
 pub use Rattle.basis.proofs.Points.{point_after}
 pub use Rattle.basis.proofs.StepLemmas.{improve_exchanges, mend_exchanges}
@@ -23,4 +24,4 @@ pub use Rattle.basis.proofs.Leaves.{infeasible_proves, optimal_proves, unbounded
 pub use Rattle.basis.proofs.Ends.{optimal_point, optimal_weights_show, unbounded_point, unbounded_ray}
 -- base numbers, and operations on site numbers
 pub use Rattle.basis.proofs.NumberFacts.{infeasible_weights_base, optimal_point_base, optimal_weights_base, pair_within, run_within_node, unbounded_point_base, unbounded_ray_base}
-pub use Rattle.basis.proofs.Operations.{length_operation, move_operation, pivot_operation}
+pub use Rattle.basis.proofs.Operations.{node_operation}

@@ -120,7 +120,7 @@ infeasible_weights_base p ds sides w (blocked b d x r place h e) =
 
 -- ---- rays
 
-up_or_down : (d : Dictionary) (q : ℕ) (t : Rational) → IsHeading d q t → (t ≡ one_ℚ) ⊎ (t ≡ whole (negsuc 0))
+pub up_or_down : (d : Dictionary) (q : ℕ) (t : Rational) → IsHeading d q t → (t ≡ one_ℚ) ⊎ (t ≡ whole (negsuc 0))
 up_or_down d q t (inl h) = inl h.1
 up_or_down d q t (inr h) = inr h.1
 

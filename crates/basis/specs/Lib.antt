@@ -6,3 +6,4 @@ pub mod Node
 pub mod Weights
 pub mod Numbers
 pub mod Relaxation
+pub mod Operations

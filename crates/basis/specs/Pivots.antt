@@ -1,7 +1,7 @@
 -- The numbers of a dictionary after a pivot, from those before it, and the operations of a step.
-use Rattle.std.specs.Prelude.{ℕ, negsuc, ◌<◌, ◌≡◌, ◌≢◌, ◌⊎◌, List, Some}
+use Rattle.std.specs.Prelude.{ℕ, negsuc, ◌<◌, ◌≡◌, ◌≢◌, List}
 use Rattle.rational.specs.Rational.{Rational, zero_ℚ, whole, ◌-ℚ◌, inv_ℚ, neg_ℚ, ◌+ℚ◌, ◌*ℚ◌, ◌/ℚ◌}
-use Rattle.basis.specs.System.{System, size, lower_of, upper_of}
+use Rattle.basis.specs.System.{System, size}
 use Rattle.basis.specs.Dictionary.{IsBasic, IsResting, Dictionary, rate_of, gain_of}
 use Rattle.basis.specs.declared.Place.{Place}
 
@@ -17,28 +17,36 @@ pub record IsPivoted (b : List Place) (d e : Dictionary) (q r : ℕ) : Type 0 wh
 
 -- ---- the operations of a step
 
+-- what is done with two numbers
+pub data Operation : Type 0 where
+  Plus : Operation
+  Minus : Operation
+  Times : Operation
+  DividedBy : Operation
+
 -- f has the numbers of a row of d, or those of its objective
 pub data IsRowOf (b : List Place) (d : Dictionary) (f : ℕ → Rational) : Type 0 where
   of_basic : (v : ℕ) → IsBasic b v → ((j : ℕ) → f j ≡ rate_of d j v) → IsRowOf b d f
   of_objective : ((j : ℕ) → f j ≡ gain_of d j) → IsRowOf b d f
 
--- a and c are the operands of an operation of the pivot of q into the place of r: of the quotients that make the row of q,
--- and of the products and sums that put this row in for q in the others
-pub data IsPivotOperation (b : List Place) (d : Dictionary) (q r : ℕ) (a c : Rational) : Type 0 where
-  reciprocal : a ≡ whole (negsuc 0) → c ≡ rate_of d q r → IsPivotOperation b d q r a c
-  quotient : (j : ℕ) → a ≡ rate_of d j r → c ≡ rate_of d q r → IsPivotOperation b d q r a c
-  product : (f : ℕ → Rational) (j : ℕ) → IsRowOf b d f → IsResting b j → j ≢ q → a ≡ f q → c ≡ neg_ℚ (rate_of d j r /ℚ rate_of d q r) → IsPivotOperation b d q r a c
-  sum : (f : ℕ → Rational) (j : ℕ) → IsRowOf b d f → IsResting b j → j ≢ q → a ≡ f q *ℚ neg_ℚ (rate_of d j r /ℚ rate_of d q r) → c ≡ f j → IsPivotOperation b d q r a c
-  product_at_leaving : (f : ℕ → Rational) → IsRowOf b d f → a ≡ f q → c ≡ inv_ℚ (rate_of d q r) → IsPivotOperation b d q r a c
-  sum_at_leaving : (f : ℕ → Rational) → IsRowOf b d f → a ≡ f q *ℚ inv_ℚ (rate_of d q r) → c ≡ zero_ℚ → IsPivotOperation b d q r a c
+-- a op c is an operation of the pivot of q into the place of r: a quotient that makes the row of q, or a product or a sum
+-- that puts this row in for q in the others
+pub data IsPivotOperation (b : List Place) (d : Dictionary) (q r : ℕ) (a : Rational) (op : Operation) (c : Rational) : Type 0 where
+  reciprocal : a ≡ whole (negsuc 0) → op ≡ DividedBy → c ≡ rate_of d q r → IsPivotOperation b d q r a op c
+  quotient : (j : ℕ) → a ≡ rate_of d j r → op ≡ DividedBy → c ≡ rate_of d q r → IsPivotOperation b d q r a op c
+  product : (f : ℕ → Rational) (j : ℕ) → IsRowOf b d f → IsResting b j → j ≢ q → a ≡ f q → op ≡ Times → c ≡ neg_ℚ (rate_of d j r /ℚ rate_of d q r) → IsPivotOperation b d q r a op c
+  sum : (f : ℕ → Rational) (j : ℕ) → IsRowOf b d f → IsResting b j → j ≢ q → a ≡ f q *ℚ neg_ℚ (rate_of d j r /ℚ rate_of d q r) → op ≡ Plus → c ≡ f j → IsPivotOperation b d q r a op c
+  product_at_leaving : (f : ℕ → Rational) → IsRowOf b d f → a ≡ f q → op ≡ Times → c ≡ inv_ℚ (rate_of d q r) → IsPivotOperation b d q r a op c
+  sum_at_leaving : (f : ℕ → Rational) → IsRowOf b d f → a ≡ f q *ℚ inv_ℚ (rate_of d q r) → op ≡ Plus → c ≡ zero_ℚ → IsPivotOperation b d q r a op c
 
--- a and c are the operands of an operation that finds how far q has to move: the way to a bound, and its quotient by the rate
-pub data IsLengthOperation (s : System) (b : List Place) (x : ℕ → Rational) (d : Dictionary) (q : ℕ) (a c : Rational) : Type 0 where
-  way : (v : ℕ) → v < size s → (lower_of s v ≡ Some a) ⊎ (upper_of s v ≡ Some a) → c ≡ x v → IsLengthOperation s b x d q a c
-  length : (v : ℕ) (bound : Rational) → v < size s → (lower_of s v ≡ Some bound) ⊎ (upper_of s v ≡ Some bound) → IsBasic b v → a ≡ bound -ℚ x v → c ≡ rate_of d q v → IsLengthOperation s b x d q a c
+-- a op c is an operation that finds how far q has to move until v is at the bound: the way there, and for a basic variable
+-- the quotient of the way by its rate
+pub data IsLengthOperation (b : List Place) (x : ℕ → Rational) (d : Dictionary) (q v : ℕ) (bound a : Rational) (op : Operation) (c : Rational) : Type 0 where
+  way : a ≡ bound → op ≡ Minus → c ≡ x v → IsLengthOperation b x d q v bound a op c
+  length : IsBasic b v → a ≡ bound -ℚ x v → op ≡ DividedBy → c ≡ rate_of d q v → IsLengthOperation b x d q v bound a op c
 
--- a and c are the operands of an operation that finds the point after q has moved by t
-pub data IsMoveOperation (s : System) (b : List Place) (x : ℕ → Rational) (d : Dictionary) (q : ℕ) (t : Rational) (a c : Rational) : Type 0 where
-  mover : a ≡ x q → c ≡ t → IsMoveOperation s b x d q t a c
-  product : (v : ℕ) → v < size s → IsBasic b v → a ≡ rate_of d q v → c ≡ t → IsMoveOperation s b x d q t a c
-  sum : (v : ℕ) → v < size s → IsBasic b v → a ≡ rate_of d q v *ℚ t → c ≡ x v → IsMoveOperation s b x d q t a c
+-- a op c is an operation that finds the point after q has moved by t
+pub data IsMoveOperation (s : System) (b : List Place) (x : ℕ → Rational) (d : Dictionary) (q : ℕ) (t a : Rational) (op : Operation) (c : Rational) : Type 0 where
+  mover : a ≡ x q → op ≡ Plus → c ≡ t → IsMoveOperation s b x d q t a op c
+  product : (v : ℕ) → v < size s → IsBasic b v → a ≡ rate_of d q v → op ≡ Times → c ≡ t → IsMoveOperation s b x d q t a op c
+  sum : (v : ℕ) → v < size s → IsBasic b v → a ≡ rate_of d q v *ℚ t → op ≡ Plus → c ≡ x v → IsMoveOperation s b x d q t a op c

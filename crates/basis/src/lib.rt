@@ -14,9 +14,7 @@ pub use nodes::{
     base_numbers, infeasible_nodes, node_systems, one_leaf_proves, optimal_nodes, points_of_nodes,
     unbounded_nodes,
 };
-pub use numbers::{
-    numbers_of_runs, operations_of_lengths, operations_of_moves, operations_of_pivots,
-};
+pub use numbers::operations_of_nodes;
 pub use runs::{
     directions, ends_are_final, points_after_steps, runs_are_one, runs_have_dictionaries, starts,
     steps, where_none_is_outside,

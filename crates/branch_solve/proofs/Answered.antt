@@ -1,30 +1,30 @@
 -- What the functions that make and check certificates hand on.
-use Rattle.std.proofs.Common.{◌≡◌, ◌∙◌, List, [], length, sym, ap, Some, Result, Ok, Err, IfOk}
+use Rattle.std.proofs.Common.{◌≡◌, ◌∙◌, List, [], length, refl, sym, ap, subst, Some, None, Result, Ok, Err, IfOk}
 use Rattle.rational.specs.Rational.{Rational}
 use Rattle.milp.specs.Problem.{Problem}
-use Rattle.instance.specs.WellFormed.{IsWellFormed}
+use Rattle.fraction.specs.declared.frac.NoFit.{NoFit}
 use Rattle.verdicts.specs.Certificate.{Weights, Certificate}
 use Rattle.verdicts.specs.Proves.{first_failing, tests, Proves}
 use Rattle.basis.specs.Relaxation.{IsUnboundedRelaxation}
 use Rattle.basis.proofs.Laws.{length-numbers}
-use Rattle.cert_check.specs.Outcome.{Fault, outcome, trials, part_of, IfRefused}
+use Rattle.cert_check.specs.Outcome.{IfRefused}
 use Rattle.cert_check.specs.declared.part.Part.{Part}
 use Rattle.cert_check.specs.declared.part.Checked.{Checked}
 use Rattle.cert_check.specs.declared.part.Checked.TheVariants.{Accepted, Refused}
-use Rattle.cert_check.specs.declared.part.CheckFault.{CheckFault}
 use Rattle.branch_solve.specs.Root.{IsRootOptimum, IsRootCertificate}
 use Rattle.branch_solve.specs.Made.{IsPlainCertificate}
-use Rattle.branch_solve.specs.Solved.{IsPartFault}
+use Rattle.branch_solve.specs.Solved.{IsWorkFault, IsAfterRun}
 use Rattle.branch_solve.specs.declared.fault.SolveFault.{SolveFault}
-use Rattle.branch_solve.proofs.RootCertificates.{root_faults}
+use Rattle.branch_solve.specs.declared.fault.SolveFault.TheVariants as S
 
 -- the check does not refuse a certificate that proves its verdict
 pub not_refused : (p : Problem) (c : Certificate) (r : Checked) (part : Part) → Proves p c → IfRefused r (λ part. first_failing (tests p c) ≡ Some part) → r ≡ Refused part → ⊥
 not_refused p c Accepted part proves h e = cc
 not_refused p c (Refused q) part proves h e = cc
 
-pub part_fault : (p : Problem) (c : Certificate) (f : CheckFault) → IsWellFormed p.columns p.rows p.objective → IsRootCertificate p c → Fault (part_of f.part) f.fault ≡ outcome (trials p c) → IsPartFault p f
-part_fault p c f formed made e = record { certificate = c; made = made; first = sym e; operation = root_faults p c formed made (part_of f.part) f.fault (sym e) }
+-- a fault of the work at the root
+pub at_root : (p : Problem) (e : NoFit) (fault : SolveFault) → fault ≡ S.NoFit (record { node = record { root_basis = None; splits = [] }; fault = e }) → IsWorkFault p [] [] e → IsAfterRun p fault
+at_root p e fault is h = subst (IsAfterRun p) (sym is) (refl, h)
 
 -- ---- points and rays have a number for each column
 

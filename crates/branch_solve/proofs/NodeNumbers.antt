@@ -1,21 +1,15 @@
 -- Numbers of a node that are its base numbers.
-use Rattle.std.proofs.Common.{◌≡◌, ◌∙◌, ℕ, zero, suc, ◌+◌, ◌<◌, ◌==◌, ◌&&◌, nat_le, nat_lt, not, List, [], ◌∷◌, length, slice_get, Bool, true, false, Option, Some, None, IfSome, Ok, IfOk, refl, ap, subst, arith}
+use Rattle.std.proofs.Common.{◌≡◌, ◌∙◌, ℕ, zero, suc, ◌+◌, ◌==◌, List, [], ◌∷◌, length, slice_get, Bool, true, false, Option, Some, None, Ok, refl, ap, subst}
 use Rattle.std.specs.Prelude.{pos, ◌+ℤ◌, option_map, option_and_then, if◌then◌else◌}
-use Rattle.std.specs.List.{list_all}
-use mathlib.Core.Path.{ap₂}
-use Rattle.std.proofs.lemmas.Bool.{and_parts}
-use Rattle.std.proofs.lemmas.Bool.Decides.{nat_tests}
 use Rattle.std.proofs.lemmas.Option.{slice_get_within}
 use Rattle.rational.specs.Rational.{Rational, zero_ℚ, one_ℚ, whole}
 use Rattle.milp.specs.Form.{Entry, number_at}
 use Rattle.milp.specs.Problem.{Column, Row, Problem}
-use Rattle.rational.specs.Compare.{is_zero, is_less, is_at_most}
-use Rattle.instance.specs.WellFormed.{are_entries_from, IsWellFormed}
+use Rattle.rational.specs.Compare.{is_less, is_at_most}
 use Rattle.instance.specs.Sums.{and_then}
 use Rattle.verdicts.specs.Certificate.{Side, Low, High, Derived}
-use Rattle.verdicts.specs.WeightedSums.{AllBelow}
 use Rattle.verdicts.specs.Proves.{bound_used, lower_under, upper_under, greater, lesser}
-use Rattle.basis.specs.Node.{system_of, IsOverColumns}
+use Rattle.basis.specs.Node.{system_of}
 use Rattle.basis.specs.Numbers.{base_number, left_base, at_of, IsGivenNumber, IsRunBase, IsProblemNumber, IsNodeBase, node_numbers, AllOf}
 use Rattle.basis.proofs.Laws.{row_form, derived_form, row-lower, row-upper, derived-lower}
 use Rattle.cert_check.specs.Sums.{next_answer, lower_answer}
@@ -158,15 +152,3 @@ module _ (p : Problem) (ds : List Derived) (sides : List Side) where
   number_base [] h j = zero_base
   number_base (v ∷ x) h zero = h.0
   number_base (v ∷ x) h (suc j) = number_base x h.1 j
-
--- ---- what a well-formed problem is
-
-pub row_entries : (n : ℕ) (rows : List Row) → list_all (λ (r : Row). are_entries_from 0 n r.entries) rows ≡ true → (i : ℕ) (r : Row) → slice_get rows i ≡ Some r → are_entries_from 0 n r.entries ≡ true
-row_entries n [] h i r at = absurd cc
-row_entries n (s ∷ rows) h zero r at =
-    let parts = and_parts (are_entries_from 0 n s.entries) (list_all (λ (r : Row). are_entries_from 0 n r.entries) rows) h in
-    let same : s ≡ r = cc in
-    subst (λ (t : Row). are_entries_from 0 n t.entries ≡ true) same parts.0
-row_entries n (s ∷ rows) h (suc i) r at =
-    let parts = and_parts (are_entries_from 0 n s.entries) (list_all (λ (r : Row). are_entries_from 0 n r.entries) rows) h in
-    row_entries n rows parts.1 i r at

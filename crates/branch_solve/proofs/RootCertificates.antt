@@ -1,5 +1,5 @@
 -- The certificates of what the simplex method finds at the root: where their checks have faults, and what they prove.
-use Rattle.std.proofs.Common.{◌≡◌, ◌∙◌, length, sym, Option, IsTrue, IfSome, slice_get, List, [], ◌∷◌, Bool, true, false, Some, None, Result, Ok, Err, ap, subst}
+use Rattle.std.proofs.Common.{◌≡◌, ◌∙◌, refl, IfErr, sym, Option, IsTrue, IfSome, slice_get, List, [], ◌∷◌, Bool, true, false, Some, None, Result, Ok, Err, ap, subst}
 use Rattle.rational.specs.Rational.{Rational, ◌-ℚ◌}
 use Rattle.milp.specs.Form.{number_at}
 use Rattle.milp.specs.Problem.{Column, Problem}
@@ -7,86 +7,94 @@ use Rattle.milp.specs.Points.{objective_value, IsWhole, AreWhole, Feasible}
 use Rattle.fraction.specs.declared.frac.NoFit.{NoFit}
 use Rattle.instance.specs.WellFormed.{IsWellFormed}
 use Rattle.instance.specs.Sums.{value_answer}
-use Rattle.verdicts.specs.Certificate.{Certificate, Weights, Empty, Bound, Optimal, Infeasible}
+use Rattle.verdicts.specs.Certificate.{Certificate, Side, Derived, Weights, Empty, Bound, Optimal, Infeasible}
 use Rattle.verdicts.specs.Proves.{Part, Proves}
 use Rattle.basis.specs.Dictionary.{Dictionary}
-use Rattle.basis.specs.Node.{IsNodePoint}
+use Rattle.basis.specs.Node.{IsNodePoint, IsOverColumns}
 use Rattle.basis.specs.Relaxation.{IsOptimalRelaxation, IsInfeasibleRelaxation, IsUnboundedRelaxation, leaf_certificate, point_certificate}
-use Rattle.basis.specs.Numbers.{Numbers, node_numbers}
+use Rattle.basis.specs.Numbers.{node_numbers}
 use Rattle.basis.specs.declared.Place.{Place}
-use Rattle.basis.proofs.Laws.{optimal_point, optimal_weights_show, unbounded_point, unbounded_ray, infeasible_shows, optimal_proves, infeasible_proves, unbounded_proves}
+use Rattle.basis.proofs.Laws.{optimal_point, optimal_weights_show, unbounded_point, unbounded_ray, infeasible_shows, optimal_proves, infeasible_proves, unbounded_proves, node_operation}
 use Rattle.cert_check.specs.Outcome.{Trial, Outcome, Acceptance, Refusal, Fault, judged, outcome, trials}
-use Rattle.cert_check.proofs.Laws.{entries_ascend}
+use Rattle.cert_check.specs.Parts.{point_answer, ray_answer, node_answer}
+use Rattle.cert_check.specs.Parts as of
 use Rattle.search_node.specs.Faults.{IsSiteFault}
-use Rattle.branch_solve.specs.Leaves.{AreFormsAscending}
-use Rattle.branch_solve.specs.Root.{NoneInteger, IsRootOptimum, IsRootCertificate}
-use Rattle.branch_solve.proofs.Told.{Told}
-use Rattle.branch_solve.proofs.NodeNumbers.{row_entries}
+use Rattle.branch_solve.specs.Leaves.{AreFormsAscending, node_setting}
+use Rattle.branch_solve.specs.Root.{NoneInteger, IsRootCertificate}
+use Rattle.branch_solve.specs.Solved.{IsWorkFault}
 use Rattle.simplex.proofs.Laws.{over_columns}
 use Rattle.branch_solve.proofs.NodeTests.{optimal_point_told, optimal_value_told, optimal_claim_told, bound_told, empty_told, endless_point_told, endless_ray_told, told_fault}
 
--- the rows' forms are in order, and there are no derived rows
-forms_ascending : (p : Problem) → IsWellFormed p.columns p.rows p.objective → AreFormsAscending p []
-forms_ascending p formed = record {
-  rows = λ i r at. entries_ascend 0 (length p.columns) r.entries (row_entries (length p.columns) p.rows formed.row_forms i r at);
-  derived = λ i d at. absurd cc;
-}
+-- ---- faults of trials
 
--- ---- lists of trials
+-- its fault, if it has one, is told by P
+of_fault : {A : Type 0} (r : Result A NoFit) (P : NoFit → Type 0) → ((e : NoFit) → r ≡ Err e → P e) → IfErr r P
+of_fault (Ok a) P h = tt
+of_fault (Err e) P h = h e refl
 
-abbrev AreTold : Numbers → List Trial → Type 0
-AreTold ns [] = Unit {0}
-AreTold ns (t ∷ ts) = Told ns t.answer × AreTold ns ts
+abbrev AreTold : (NoFit → Type 0) → List Trial → Type 0
+AreTold P [] = Unit {0}
+AreTold P (t ∷ ts) = IfErr t.answer P × AreTold P ts
 
-abbrev Admits : Numbers → Outcome → Type 0
-Admits ns Acceptance = Unit {0}
-Admits ns (Refusal part) = Unit {0}
-Admits ns (Fault part e) = IsSiteFault ns e
+abbrev Admits : (NoFit → Type 0) → Outcome → Type 0
+Admits P Acceptance = Unit {0}
+Admits P (Refusal part) = Unit {0}
+Admits P (Fault part e) = P e
 
-outcome_told : (ns : Numbers) (ts : List Trial) → AreTold ns ts → Admits ns (outcome ts)
-outcome_told ns [] h = tt
-outcome_told ns (t ∷ ts) h = go t.answer h.0 (outcome_told ns ts h.1)
+outcome_told : (P : NoFit → Type 0) (ts : List Trial) → AreTold P ts → Admits P (outcome ts)
+outcome_told P [] h = tt
+outcome_told P (t ∷ ts) h = go t.answer h.0 (outcome_told P ts h.1)
   where
-    go : (r : Result Bool NoFit) → Told ns r → Admits ns (outcome ts) → Admits ns (judged t.part r (outcome ts))
+    go : (r : Result Bool NoFit) → IfErr r P → Admits P (outcome ts) → Admits P (judged t.part r (outcome ts))
     go (Ok true) e k = k
     go (Ok false) e k = tt
     go (Err d) e k = e
 
 -- ---- the certificates
 
-optimal_faults : (p : Problem) (x : List Rational) (w : Weights) (b : List Place) (d : Dictionary) (v : Rational) → IsWellFormed p.columns p.rows p.objective → IsOptimalRelaxation p [] [] x w b d
-    → (part : Part) (e : NoFit) → outcome (trials p (leaf_certificate p Optimal (Some v) (Some x) (Bound w))) ≡ Fault part e → IsSiteFault (node_numbers p [] []) e
-optimal_faults p x w b d v formed h part e is =
-    let over = over_columns p formed in
-    let P : Outcome → Type 0 = Admits (node_numbers p [] []) in
-    subst P is
-    (outcome_told (node_numbers p [] []) (trials p (leaf_certificate p Optimal (Some v) (Some x) (Bound w)))
-    (tt, (optimal_point_told p [] [] x w b d over h, (optimal_claim_told p [] [] x w b d v over h, (bound_told p [] [] x w b d (forms_ascending p formed) h (Some (v -ℚ p.constant)), tt)))))
+module _ (p : Problem) where
+  abbrev IsFault : NoFit → Type 0
+  IsFault e = IsWorkFault p [] [] e
 
-infeasible_faults : (p : Problem) (w : Weights) → IsWellFormed p.columns p.rows p.objective → IsInfeasibleRelaxation p [] [] w
-    → (part : Part) (e : NoFit) → outcome (trials p (leaf_certificate p Infeasible None None (Empty w))) ≡ Fault part e → IsSiteFault (node_numbers p [] []) e
-infeasible_faults p w formed h part e is =
-    let P : Outcome → Type 0 = Admits (node_numbers p [] []) in
-    subst P is
-    (outcome_told (node_numbers p [] []) (trials p (leaf_certificate p Infeasible None None (Empty w))) (tt, (empty_told p [] [] w (forms_ascending p formed) h None, tt)))
+  optimal_told : (x : List Rational) (w : Weights) (b : List Place) (d : Dictionary) (v : Rational) → IsOptimalRelaxation p [] [] x w b d → AreTold IsFault (trials p (leaf_certificate p Optimal (Some v) (Some x) (Bound w)))
+  optimal_told x w b d v h =
+      let point = of_fault (point_answer p (Some x)) IsFault (λ e is. IsWorkFault.in_point x w b d h is) in
+      let claim = of_fault (of.value_answer p (Some x) (Some v)) IsFault (λ e is. IsWorkFault.in_claim x w b d v h is) in
+      let bound = of_fault (node_answer (node_setting p [] []) (Some (v -ℚ p.constant)) (Bound w)) IsFault (λ e is. IsWorkFault.in_bound x w b d (Some (v -ℚ p.constant)) h is) in
+      (tt, (point, (claim, (bound, tt))))
 
-unbounded_faults : (p : Problem) (x ray : List Rational) → IsWellFormed p.columns p.rows p.objective → IsUnboundedRelaxation p [] [] x ray
-    → (part : Part) (e : NoFit) → outcome (trials p (point_certificate p x ray)) ≡ Fault part e → IsSiteFault (node_numbers p [] []) e
-unbounded_faults p x ray formed h part e is =
-    let over = over_columns p formed in
-    let P : Outcome → Type 0 = Admits (node_numbers p [] []) in
-    subst P is
-    (outcome_told (node_numbers p [] []) (trials p (point_certificate p x ray)) (tt, (endless_point_told p [] [] x ray over h, (endless_ray_told p [] [] x ray over h, tt))))
+  infeasible_told : (w : Weights) → IsInfeasibleRelaxation p [] [] w → AreTold IsFault (trials p (leaf_certificate p Infeasible None None (Empty w)))
+  infeasible_told w h = (tt, (of_fault (node_answer (node_setting p [] []) None (Empty w)) IsFault (λ e is. IsWorkFault.in_empty w None h is), tt))
 
--- the value of an optimal point
-pub value_faults : (p : Problem) (x : List Rational) (w : Weights) → IsWellFormed p.columns p.rows p.objective → IsRootOptimum p x w → (e : NoFit) → value_answer p x ≡ Err e → IsSiteFault (node_numbers p [] []) e
-value_faults p x w formed h e is = told_fault (node_numbers p [] []) (value_answer p x) e (optimal_value_told p [] [] x w h.basis h.dictionary (over_columns p formed) h.relaxation) is
+  unbounded_told : (x ray : List Rational) → IsUnboundedRelaxation p [] [] x ray → AreTold IsFault (trials p (point_certificate p x ray))
+  unbounded_told x ray h =
+      let point = of_fault (point_answer p (Some x)) IsFault (λ e is. IsWorkFault.in_endless_point x ray h is) in
+      let direction = of_fault (ray_answer p (Some ray)) IsFault (λ e is. IsWorkFault.in_ray x ray h is) in
+      (tt, (point, (direction, tt)))
 
-pub root_faults : (p : Problem) (c : Certificate) → IsWellFormed p.columns p.rows p.objective → IsRootCertificate p c → (part : Part) (e : NoFit) → outcome (trials p c) ≡ Fault part e → IsSiteFault (node_numbers p [] []) e
-root_faults p c formed (IsRootCertificate.optimal x w h is) part e fault =
-    optimal_faults p x w h.basis h.dictionary (objective_value p x) formed h.relaxation part e (ap (λ (c : Certificate). outcome (trials p c)) (sym is) ∙ fault)
-root_faults p c formed (IsRootCertificate.infeasible w h is) part e fault = infeasible_faults p w formed h part e (ap (λ (c : Certificate). outcome (trials p c)) (sym is) ∙ fault)
-root_faults p c formed (IsRootCertificate.unbounded x ray h is) part e fault = unbounded_faults p x ray formed h part e (ap (λ (c : Certificate). outcome (trials p c)) (sym is) ∙ fault)
+  fault_of : (c : Certificate) (part : Part) (e : NoFit) → AreTold IsFault (trials p c) → outcome (trials p c) ≡ Fault part e → IsWorkFault p [] [] e
+  fault_of c part e told is = subst (Admits IsFault) is (outcome_told IsFault (trials p c) told)
+
+pub root_faults : (p : Problem) (c : Certificate) → IsRootCertificate p c → (part : Part) (e : NoFit) → outcome (trials p c) ≡ Fault part e → IsWorkFault p [] [] e
+root_faults p c (IsRootCertificate.optimal x w h is) part e fault =
+    fault_of p (leaf_certificate p Optimal (Some (objective_value p x)) (Some x) (Bound w)) part e (optimal_told p x w h.basis h.dictionary (objective_value p x) h.relaxation) (ap (λ (c : Certificate). outcome (trials p c)) (sym is) ∙ fault)
+root_faults p c (IsRootCertificate.infeasible w h is) part e fault =
+    fault_of p (leaf_certificate p Infeasible None None (Empty w)) part e (infeasible_told p w h) (ap (λ (c : Certificate). outcome (trials p c)) (sym is) ∙ fault)
+root_faults p c (IsRootCertificate.unbounded x ray h is) part e fault =
+    fault_of p (point_certificate p x ray) part e (unbounded_told p x ray h) (ap (λ (c : Certificate). outcome (trials p c)) (sym is) ∙ fault)
+
+-- ---- site numbers
+
+-- the operations of the work at a node are on its site numbers
+pub on_site_numbers : (p : Problem) (ds : List Derived) (sides : List Side) (e : NoFit) → IsOverColumns p ds sides → AreFormsAscending p ds → IsWorkFault p ds sides e → IsSiteFault (node_numbers p ds sides) e
+on_site_numbers p ds sides e over forms (IsWorkFault.in_method h) = record { numbers = node_operation p ds sides e.a _ e.b over h.operation; not_fit = h.not_fit }
+on_site_numbers p ds sides e over forms (IsWorkFault.in_value x w b d h is) = told_fault (node_numbers p ds sides) (value_answer p x) e (optimal_value_told p ds sides x w b d over h) is
+on_site_numbers p ds sides e over forms (IsWorkFault.in_point x w b d h is) = told_fault (node_numbers p ds sides) (point_answer p (Some x)) e (optimal_point_told p ds sides x w b d over h) is
+on_site_numbers p ds sides e over forms (IsWorkFault.in_claim x w b d v h is) = told_fault (node_numbers p ds sides) (of.value_answer p (Some x) (Some v)) e (optimal_claim_told p ds sides x w b d v over h) is
+on_site_numbers p ds sides e over forms (IsWorkFault.in_bound x w b d goal h is) = told_fault (node_numbers p ds sides) (node_answer (node_setting p ds sides) goal (Bound w)) e (bound_told p ds sides x w b d forms h goal) is
+on_site_numbers p ds sides e over forms (IsWorkFault.in_empty w goal h is) = told_fault (node_numbers p ds sides) (node_answer (node_setting p ds sides) goal (Empty w)) e (empty_told p ds sides w forms h goal) is
+on_site_numbers p ds sides e over forms (IsWorkFault.in_endless_point x ray h is) = told_fault (node_numbers p ds sides) (point_answer p (Some x)) e (endless_point_told p ds sides x ray over h) is
+on_site_numbers p ds sides e over forms (IsWorkFault.in_ray x ray h is) = told_fault (node_numbers p ds sides) (ray_answer p (Some ray)) e (endless_ray_told p ds sides x ray over h) is
 
 -- ---- they prove their verdicts
 

@@ -4,7 +4,7 @@ use Rattle.milp.specs.Problem.{Problem}
 use Rattle.search_node.specs.declared.fault.Stuck.{Stuck}
 use Rattle.search_node.specs.declared.fault.Stuck.TheVariants.{NoFit, PivotLimit, NoMemory}
 use Rattle.simplex.specs.Answer.{IsStuck}
-use Rattle.branch_solve.specs.Solved.{IsNoFit, IsAtLimit}
+use Rattle.branch_solve.specs.Solved.{IsWorkFault, IsNoFit, IsAtLimit}
 use Rattle.branch_solve.specs.Stuck.{fault_of}
 use Rattle.branch_solve.specs.declared.fault.SolveFault.{SolveFault}
 
@@ -13,7 +13,7 @@ module _ (p : Problem) (limit : ℕ) where
   IsStuckAtRoot stuck = IsStuck p [] (record { root_basis = None; splits = [] }) limit stuck
 
   no_fit : (stuck : Stuck) → IsStuckAtRoot stuck → IsNoFit p (fault_of stuck)
-  no_fit (NoFit site) h = (h.same_node, h.fault)
+  no_fit (NoFit site) h = (h.same_node, IsWorkFault.in_method h.fault)
   no_fit (PivotLimit bases) h = tt
   no_fit NoMemory h = tt
 

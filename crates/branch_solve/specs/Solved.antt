@@ -1,47 +1,54 @@
 -- What it says where no verdict is found.
-use Rattle.std.specs.Prelude.{ℕ, ◌≡◌, [], None}
+use Rattle.std.specs.Prelude.{ℕ, ◌≡◌, List, [], Option, Some, None, Err}
+use Rattle.rational.specs.Rational.{Rational}
 use Rattle.milp.specs.Problem.{Problem}
-use Rattle.verdicts.specs.Certificate.{Certificate}
+use Rattle.fraction.specs.declared.frac.NoFit.{NoFit as Operation}
+use Rattle.instance.specs.Sums.{value_answer}
+use Rattle.verdicts.specs.Certificate.{Side, Weights, Derived, Empty, Bound}
+use Rattle.basis.specs.Dictionary.{Dictionary}
 use Rattle.basis.specs.Node.{system_of}
-use Rattle.basis.specs.Numbers.{node_numbers}
-use Rattle.cert_check.specs.Outcome.{Fault, outcome, trials, part_of}
-use Rattle.cert_check.specs.declared.part.CheckFault.{CheckFault}
-use Rattle.search_node.specs.Faults.{IsSiteFault}
-use Rattle.search_node.specs.declared.node.Node.{Node as NodeOf}
+use Rattle.basis.specs.Relaxation.{IsOptimalRelaxation, IsInfeasibleRelaxation, IsUnboundedRelaxation}
+use Rattle.basis.specs.declared.Place.{Place}
+use Rattle.cert_check.specs.Parts.{point_answer, ray_answer, node_answer}
+use Rattle.cert_check.specs.Parts as of
+use Rattle.search_node.specs.declared.node.Node.{Node}
+use Rattle.simplex.specs.Answer.{IsNodeFault}
 use Rattle.simplex.specs.Run.{IsLimited}
-use Rattle.branch_solve.specs.Root.{IsRootCertificate}
+use Rattle.branch_solve.specs.Leaves.{node_setting}
 use Rattle.branch_solve.specs.declared.fault.SolveFault.{SolveFault}
-use Rattle.branch_solve.specs.declared.fault.SolveFault.TheVariants.{Node, Part, PivotLimit, NoMemory}
+use Rattle.branch_solve.specs.declared.fault.SolveFault.TheVariants.{NoFit, PivotLimit, NoMemory}
 
 -- the root, without cuts
-abbrev pub IsRoot : NodeOf → Type 0
+abbrev pub IsRoot : Node → Type 0
 IsRoot node = node ≡ record { root_basis = None; splits = [] }
 
--- the first operation that does not fit in the check of a certificate of what the simplex method finds, and the part in
--- whose test it is
-pub record IsPartFault (p : Problem) (f : CheckFault) : Type 0 where
-  pub certificate : Certificate
-  pub made : IsRootCertificate p certificate
-  pub first : outcome (trials p certificate) ≡ Fault (part_of f.part) f.fault
-  pub operation : IsSiteFault (node_numbers p [] []) f.fault
+-- e is an operation of the work at a node, and does not fit: one of the simplex method there, or the first that does not
+-- fit in a test of what the method finds: of an optimal point, its value, its value as it is told and its weights at a leaf, of the
+-- weights at an empty leaf, of the point and the ray of an unbounded node
+pub data IsWorkFault (p : Problem) (ds : List Derived) (sides : List Side) (e : Operation) : Type 0 where
+  in_method : IsNodeFault p ds sides e → IsWorkFault p ds sides e
+  in_value : (x : List Rational) (w : Weights) (b : List Place) (d : Dictionary) → IsOptimalRelaxation p ds sides x w b d → value_answer p x ≡ Err e → IsWorkFault p ds sides e
+  in_point : (x : List Rational) (w : Weights) (b : List Place) (d : Dictionary) → IsOptimalRelaxation p ds sides x w b d → point_answer p (Some x) ≡ Err e → IsWorkFault p ds sides e
+  in_claim : (x : List Rational) (w : Weights) (b : List Place) (d : Dictionary) (v : Rational) → IsOptimalRelaxation p ds sides x w b d → of.value_answer p (Some x) (Some v) ≡ Err e → IsWorkFault p ds sides e
+  in_bound : (x : List Rational) (w : Weights) (b : List Place) (d : Dictionary) (goal : Option Rational) → IsOptimalRelaxation p ds sides x w b d → node_answer (node_setting p ds sides) goal (Bound w) ≡ Err e → IsWorkFault p ds sides e
+  in_empty : (w : Weights) (goal : Option Rational) → IsInfeasibleRelaxation p ds sides w → node_answer (node_setting p ds sides) goal (Empty w) ≡ Err e → IsWorkFault p ds sides e
+  in_endless_point : (x ray : List Rational) → IsUnboundedRelaxation p ds sides x ray → point_answer p (Some x) ≡ Err e → IsWorkFault p ds sides e
+  in_ray : (x ray : List Rational) → IsUnboundedRelaxation p ds sides x ray → ray_answer p (Some ray) ≡ Err e → IsWorkFault p ds sides e
 
 -- where a fault tells an operation, it is one of the work at the root, and does not fit
 abbrev pub IsNoFit : Problem → SolveFault → Type 0
-IsNoFit p (Node site) = IsRoot site.node × IsSiteFault (node_numbers p [] []) site.fault
-IsNoFit p (Part f) = IsPartFault p f
+IsNoFit p (NoFit site) = IsRoot site.node × IsWorkFault p [] [] site.fault
 IsNoFit p (PivotLimit bases) = Unit {0}
 IsNoFit p NoMemory = Unit {0}
 
 -- a fault of the work after the run: it tells an operation, as above, or want of memory
 abbrev pub IsAfterRun : Problem → SolveFault → Type 0
-IsAfterRun p (Node site) = IsNoFit p (Node site)
-IsAfterRun p (Part f) = IsNoFit p (Part f)
+IsAfterRun p (NoFit site) = IsNoFit p (NoFit site)
 IsAfterRun p (PivotLimit bases) = ⊥
 IsAfterRun p NoMemory = Unit {0}
 
 -- where a fault tells bases, the limit is too small for the run
 abbrev pub IsAtLimit : Problem → ℕ → SolveFault → Type 0
-IsAtLimit p limit (Node site) = Unit {0}
-IsAtLimit p limit (Part f) = Unit {0}
+IsAtLimit p limit (NoFit site) = Unit {0}
 IsAtLimit p limit (PivotLimit bases) = IsLimited (system_of p [] []) limit bases
 IsAtLimit p limit NoMemory = Unit {0}

@@ -5,6 +5,6 @@ use Rattle.branch_solve.specs.declared.fault.SolveFault.{SolveFault}
 use Rattle.branch_solve.specs.declared.fault.SolveFault.TheVariants as fault
 
 abbrev pub fault_of : Stuck → SolveFault
-fault_of (NoFit site) = fault.Node site
+fault_of (NoFit site) = fault.NoFit site
 fault_of (PivotLimit bases) = fault.PivotLimit bases
 fault_of NoMemory = fault.NoMemory

@@ -10,6 +10,6 @@ mod root;
 mod solving;
 
 pub use fault::SolveFault;
-pub use laws::{root_certificates, tests_of_nodes};
+pub use laws::{faults_are_on_site_numbers, root_certificates};
 pub use root::{solve, solve_with};
 pub use solving::{certified_contradiction, certified_optimum, certified_ray};

@@ -20,8 +20,8 @@ use std::alloc::Global;
 
 /// The verdict of a problem without integer columns, with its certificate, which proves it and which the checker
 /// accepts. A fast search proposes it; where the checker accepts nothing that was proposed, Bland's run decides. A fault
-/// tells an operation of that run that does not fit, at the root or in a part of the certificate's check, or that the run
-/// is longer than `pivot_limit` steps. The search takes at most `pivot_limit` steps, too.
+/// tells an operation of that run, or of the check of its certificate, that does not fit, or that the run is longer than
+/// `pivot_limit` steps. The search takes at most `pivot_limit` steps, too.
 pub fn solve(alloc: Global, problem: &Instance, pivot_limit: u32) -> Result<Certificate, SolveFault>
     requires continuous { NoneInteger problem.now.columns }
     ensures proves { IfOk result (λ c. Proves problem.now c) }
@@ -108,7 +108,7 @@ fn fault_of(stuck: Stuck) -> SolveFault
     ensures { result ≡ fault_of stuck }
 {
     match stuck {
-        Stuck::NoFit(site) => SolveFault::Node(site),
+        Stuck::NoFit(site) => SolveFault::NoFit(site),
         Stuck::PivotLimit(bases) => SolveFault::PivotLimit(bases),
         Stuck::NoMemory => SolveFault::NoMemory,
     }

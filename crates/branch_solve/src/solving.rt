@@ -1,5 +1,5 @@
 // From what the simplex method finds at the root to a certificate that the checker accepts.
-ghost use Rattle.std.specs.Prelude.{◌≡◌, [], length, IfOk, IfErr};
+ghost use Rattle.std.specs.Prelude.{◌≡◌, [], length, None, IfOk, IfErr};
 ghost use Rattle.milp.specs.Points.{objective_value};
 ghost use Rattle.verdicts.specs.Proves.{Proves};
 ghost use Rattle.basis.specs.Relaxation.{IsInfeasibleRelaxation, IsUnboundedRelaxation};
@@ -11,13 +11,17 @@ use crate::fault::SolveFault;
 use crate::making::{of_contradiction, of_optimum, of_ray};
 use cert_check::{Checked, check};
 use certificate::{Certificate, Weights};
-use fraction::Frac;
+use fraction::{Frac, NoFit};
 use instance::{Instance, Point, value};
 use search_node::{Node, Site};
 use std::alloc::Global;
 
 // The certificate, where its check meets no operation that does not fit.
-fn checked(problem: &Instance, certificate: Certificate) -> Result<Certificate, SolveFault>
+fn checked(
+    alloc: Global,
+    problem: &Instance,
+    certificate: Certificate,
+) -> Result<Certificate, SolveFault>
     requires continuous { NoneInteger problem.now.columns }
     requires made { IsRootCertificate problem.now certificate }
     ensures proves { IfOk result (λ c. Proves problem.now c) }
@@ -29,7 +33,7 @@ fn checked(problem: &Instance, certificate: Certificate) -> Result<Certificate, 
     match check(problem, &certificate) {
         Ok(Checked::Accepted) => Ok(certificate),
         Ok(Checked::Refused(_)) => unreachable!(),
-        Err(fault) => Err(SolveFault::Part(fault)),
+        Err(fault) => Err(at_root(alloc, fault.fault)),
     }
 }
 
@@ -50,11 +54,18 @@ pub fn certified_optimum(
     problem.keeps_its_limits();
     match value(problem, &point) {
         Ok(best) => certified_value(alloc, problem, best, point, weights),
-        Err(fault) => Err(SolveFault::Node(Site {
-            node: Node::root(alloc),
-            fault,
-        })),
+        Err(fault) => Err(at_root(alloc, fault)),
     }
+}
+
+// An operation of the work at the root. It takes no memory.
+fn at_root(alloc: Global, fault: NoFit) -> SolveFault
+    ensures { result ≡ SolveFault.NoFit (record { node = record { root_basis = None; splits = [] }; fault = fault }) }
+{
+    SolveFault::NoFit(Site {
+        node: Node::root(alloc),
+        fault,
+    })
 }
 
 // The certificate of an optimal point, its value and its weights.
@@ -76,7 +87,7 @@ fn certified_value(
     let Ok(certificate) = of_optimum(alloc, problem, best, point, weights) else {
         return Err(SolveFault::NoMemory);
     };
-    checked(problem, certificate)
+    checked(alloc, problem, certificate)
 }
 
 /// The certificate of weights that contradict each other.
@@ -95,7 +106,7 @@ pub fn certified_contradiction(
     let Ok(certificate) = of_contradiction(alloc, problem, weights) else {
         return Err(SolveFault::NoMemory);
     };
-    checked(problem, certificate)
+    checked(alloc, problem, certificate)
 }
 
 /// The certificate of a point and a ray.
@@ -112,5 +123,5 @@ pub fn certified_ray(
     ensures made { IfOk result (λ c. IsRootCertificate problem.now c) }
     ensures fault { IfErr result (λ e. IsAfterRun problem.now e) }
 {
-    checked(problem, of_ray(alloc, problem, point, ray))
+    checked(alloc, problem, of_ray(alloc, problem, point, ray))
 }

@@ -1,5 +1,5 @@
 -- The text of a certificate is read as the certificate again.
-use Rattle.std.proofs.Common.{◌≡◌, ◌∙◌, ℕ, ℤ, zero, suc, ◌+◌, ◌≤◌, ◌<◌, List, [], ◌∷◌, ◌++◌, length, Bool, true, false, nat_lt, not, ◌&&◌, Option, Some, None, Result, Ok, Err, IsTrue, refl, sym, ap, subst, arith, append_assoc}
+use Rattle.std.proofs.Common.{◌≡◌, ◌∙◌, ℕ, ℤ, zero, suc, ◌+◌, ◌≤◌, ◌<◌, List, [], ◌∷◌, ◌++◌, length, true, false, not, Option, Some, None, Result, Ok, Err, refl, sym, ap, subst, arith, append_assoc}
 use Rattle.std.specs.Prelude.{codes}
 use Rattle.std.specs.Fmt.{decimal}
 use Rattle.std.specs.List.{AllByRecursion, list_all, slice_split}
@@ -9,19 +9,19 @@ use Rattle.rational.specs.Rational.{Rational, whole}
 use Rattle.fraction.specs.Text.{text_of}
 use Rattle.fraction.specs.Fits.{fits, num_fits}
 use Rattle.milp.specs.Form.{Entry}
-use Rattle.verdicts.specs.Certificate.{Verdict, Optimal, Infeasible, Unbounded, Weights, FormSplit, Proof, Plain, BySplit, Derived, TreeNode, Branch, Empty, Bound, Certificate}
+use Rattle.verdicts.specs.Certificate.{Verdict, Optimal, Infeasible, Unbounded, Weights, Proof, Plain, BySplit, Derived, TreeNode, Branch, Empty, Bound, Certificate}
 use Rattle.certificate_lines.specs.declared.fault.FaultKind.{FaultKind}
 use Rattle.certificate_lines.specs.declared.fault.CertFault.{CertFault}
-use Rattle.certificate.specs.Written.{count_max, open_after, fills, AreWeights, IsForm, IsProof, IsDerived, IsNode, IsPoint, HasPoint, HasValue, HasTree, HasParts, HasText}
-use Rattle.certificate.specs.Text.{weights_text, form_text, numbers_text, form_split_text, proof_text, derived_text, derived_rows_text, node_text, tree_text, head_text, value_text, point_text, shown_text, body_text, certificate_text}
+use Rattle.certificate.specs.Written.{count_max, open_after, fills, AreWeights, IsForm, IsProof, IsDerived, IsNode, IsPoint, HasTree, HasParts, HasText}
+use Rattle.certificate.specs.Text.{weights_text, form_text, numbers_text, proof_text, derived_text, derived_rows_text, node_text, tree_text, head_text, shown_text, certificate_text}
 use Rattle.certificate_lines.specs.Fields.{◌>>=◌, fields_of}
-use Rattle.certificate_lines.specs.Lines.{Rest, Line, is_feed, closed, line_by}
-use Rattle.certificate_reader.specs.Reading.{version_in, size_in, verdict_in, value_in, point_in, count_in, word_in, derive_in, side_in, ProofLine, PlainLine, SplitLine, proof_in, proof_from, derived_at, derived_rows_at, node_in, nodes_at, Shown, shown_at, optimal_at, infeasible_at, unbounded_at, body_at, over, certificate_at, read_of}
+use Rattle.certificate_lines.specs.Lines.{Rest, is_feed, line_by}
+use Rattle.certificate_reader.specs.Reading.{version_in, size_in, verdict_in, value_in, point_in, count_in, word_in, derive_in, side_in, PlainLine, SplitLine, proof_in, proof_from, derived_at, derived_rows_at, node_in, nodes_at, shown_at, optimal_at, infeasible_at, unbounded_at, body_at, certificate_at, read_of}
 use Rattle.certificate_lines.proofs.Pieces.{line_some, pieces_some}
 use Rattle.certificate_reader.proofs.FieldsFound.{Texts, blanked}
 use Rattle.certificate_reader.proofs.LinesFound.{name_of}
 use Rattle.certificate_reader.proofs.CertificateFound.{plain_glue, split_glue, derived_glue, shown_glue, optimal_glue, unbounded_glue, whole_glue, parts_text, body-parts}
-use Rattle.certificate_reader.proofs.FieldsAgain.{is_solid, is_inked, both, first_of, second_of, is_inked-append, split_word, are_solid, are_solid-append, fields_again, line_inked, inked-from_solid, decimal_solid, text_solid, whole_solid, number_again, count_again, index_again, whole_again, numbers_fields, numbers_blanked, numbers_solid, numbers_again, form_fields, form_blanked, form_solid, form_again, weights_fields, weights_again, weights_solid, weights_blanked}
+use Rattle.certificate_reader.proofs.FieldsAgain.{is_solid, is_inked, both, first_of, second_of, split_word, are_solid, fields_again, line_inked, decimal_solid, text_solid, whole_solid, number_again, count_again, index_again, whole_again, numbers_fields, numbers_blanked, numbers_solid, numbers_again, form_fields, form_blanked, form_solid, form_again, weights_fields, weights_again, weights_solid, weights_blanked}
 
 -- what is left where a text stands, from a line on
 abbrev pub left : ℕ → List ℕ → Rest

@@ -1,26 +1,23 @@
 -- A text that is read as a certificate is the certificate's text.
-use Rattle.std.proofs.Common.{◌≡◌, ◌∙◌, ℕ, ℤ, zero, suc, ◌+◌, ◌-◌, ◌≤◌, ◌<◌, List, [], ◌∷◌, ◌++◌, length, Bool, true, false, not, ◌&&◌, Option, Some, None, Result, Ok, Err, IsTrue, refl, sym, ap, subst, arith, if◌then◌else◌, inl, inr, ◌⊎◌, append_assoc}
+use Rattle.std.proofs.Common.{◌≡◌, ◌∙◌, ℕ, zero, suc, ◌+◌, ◌≤◌, List, [], ◌∷◌, ◌++◌, length, Bool, true, false, not, ◌&&◌, Some, None, Result, Ok, refl, sym, ap, subst, if◌then◌else◌, append_assoc}
 use Rattle.std.specs.Prelude.{codes}
 use Rattle.std.specs.Fmt.{decimal}
 use Rattle.std.specs.List.{AllByRecursion, slice_split, join_with_byte}
-use Rattle.std.proofs.lemmas.List.{append-nil}
 use Rattle.std.proofs.lemmas.List.Splits.{join_with_byte-slice_split}
-use Rattle.rational.specs.Rational.{Rational, whole}
+use Rattle.rational.specs.Rational.{whole}
 use Rattle.fraction.specs.Text.{text_of}
-use Rattle.milp.specs.Form.{Entry}
-use Rattle.verdicts.specs.Certificate.{Verdict, Optimal, Infeasible, Unbounded, Weights, FormSplit, Proof, Plain, BySplit, Derived, TreeNode, Certificate}
+use Rattle.verdicts.specs.Certificate.{Verdict, Optimal, Infeasible, Unbounded, FormSplit, Proof, Plain, BySplit, Derived, TreeNode, Certificate}
 use Rattle.certificate_lines.specs.declared.fault.FaultKind.{FaultKind}
-use Rattle.certificate_lines.specs.declared.fault.FaultKind.TheVariants.{BadLine, Unended, Extra}
-use Rattle.certificate_lines.specs.declared.fault.CertFault.{CertFault}
-use Rattle.certificate.specs.Written.{count_max, open_after, fills, AreWeights, IsForm, IsFormSplit, IsProof, IsDerived, IsNode, IsPoint, HasTree, HasParts, HasText}
+use Rattle.certificate_lines.specs.declared.fault.FaultKind.TheVariants.{Unended, Extra}
+use Rattle.certificate.specs.Written.{count_max, open_after, IsProof, IsDerived, IsNode, HasTree, HasParts, HasText}
 use Rattle.certificate.specs.Text.{weights_text, form_text, numbers_text, form_split_text, proof_text, derived_text, derived_rows_text, node_text, tree_text, head_text, value_text, point_text, shown_text, body_text, certificate_text}
 use Rattle.certificate_lines.specs.Fields.{◌>>=◌, fields_of}
 use Rattle.certificate_lines.specs.Lines.{Rest, Line, is_nil, is_feed, fault_at, line_of, closed, line_by, is_over}
 use Rattle.certificate_reader.specs.Reading.{version_in, size_in, verdict_in, value_in, point_in, count_in, word_in, derive_in, side_in, ProofLine, PlainLine, SplitLine, proof_in, proof_from, derived_at, derived_rows_at, node_in, nodes_at, Shown, shown_at, optimal_at, infeasible_at, unbounded_at, body_at, over, certificate_at, read_of}
 use Rattle.certificate_lines.proofs.Taken.{bind_ok}
-use Rattle.certificate_reader.proofs.LinesTaken.{made_is, chosen, line_takes, closed_ok, nodes_fill}
+use Rattle.certificate_reader.proofs.LinesTaken.{made_is, line_takes, closed_ok, nodes_fill}
 use Rattle.certificate_reader.proofs.FieldsFound.{Texts}
-use Rattle.certificate_reader.proofs.LinesFound.{version_text, word_text, size_text, name_of, verdict_text, value_line, point_line, count_line, derive_line, side_line, Shows, proof_line, WritesNode, node_line}
+use Rattle.certificate_reader.proofs.LinesFound.{version_text, word_text, size_text, name_of, verdict_text, value_line, point_line, count_line, derive_line, side_line, Shows, proof_line, node_line}
 
 -- the text of pieces
 abbrev pub feeds : List (List ℕ) → List ℕ

@@ -1,10 +1,10 @@
 -- What fields write is read again.
-use Rattle.std.proofs.Common.{◌≡◌, ◌∙◌, ℕ, ℤ, pos, zero, suc, ◌+◌, ◌*◌, ◌-◌, ◌%◌, ◌/◌, ◌^◌, ◌≤◌, ◌<◌, ◌≢◌, List, [], ◌∷◌, ◌++◌, length, get_or, take, drop, Bool, true, false, nat_le, nat_lt, not, ◌&&◌, cond, Option, Some, None, Result, Ok, Err, IsTrue, refl, sym, ap, subst, arith, if◌then◌else◌, inl, inr, append_assoc, add-one}
-use Rattle.std.specs.Prelude.{codes, negsuc, ◌==◌, unsigned_abs}
+use Rattle.std.proofs.Common.{◌≡◌, ◌∙◌, ℕ, ℤ, pos, suc, ◌+◌, ◌*◌, ◌-◌, ◌%◌, ◌^◌, ◌≤◌, ◌<◌, ◌≢◌, List, [], ◌∷◌, ◌++◌, length, take, drop, Bool, true, false, nat_le, nat_lt, not, ◌&&◌, cond, Some, Result, Ok, Err, IsTrue, refl, sym, ap, arith, if◌then◌else◌, append_assoc}
+use Rattle.std.specs.Prelude.{negsuc, ◌==◌, unsigned_abs}
 use Rattle.std.specs.Fmt.{decimal, signed_decimal}
-use Rattle.std.specs.Str.{bytes_eq, is_utf8, IsAscii}
-use Rattle.std.specs.List.{AllByRecursion, list_all, slice_split, onto_first, before_first, after_first, position_or_len}
-use Rattle.std.proofs.lemmas.Bool.{leb-true, le-leb, ltb-true, lt-ltb, ne_eqb, eqb-true}
+use Rattle.std.specs.Str.{IsAscii}
+use Rattle.std.specs.List.{AllByRecursion, list_all, slice_split, before_first, after_first, position_or_len}
+use Rattle.std.proofs.lemmas.Bool.{leb-true, le-leb, ltb-true, lt-ltb, ne_eqb}
 use Rattle.std.proofs.lemmas.List.{append-nil, take_at, drop_at}
 use Rattle.std.proofs.lemmas.Fmt.{decimal_by_steps_wide}
 use Rattle.std.proofs.lemmas.Str.{is_utf8-from_IsUtf8, IsUtf8-from_ascii}
@@ -12,17 +12,16 @@ use Rattle.std.proofs.lemmas.Str.Ascii.{IsAscii-nil, IsAscii-cons}
 use Rattle.rational.specs.Rational.{Rational, whole}
 use Rattle.fraction.specs.Text.{text_of}
 use Rattle.fraction.specs.Fits.{part_max, fits, num_fits, den_fits}
-use Rattle.fraction.specs.Canonical.{plain_digits_of, read_canonical_of}
 use Rattle.fraction.specs.declared.read.ReadFault.{ReadFault}
 use Rattle.milp.specs.Form.{Entry}
 use Rattle.rational.specs.Compare.{is_zero}
 use Rattle.instance.specs.WellFormed.{are_entries_from}
 use Rattle.verdicts.specs.Certificate.{Item, Weights}
 use Rattle.certificate_lines.specs.declared.fault.FaultKind.{FaultKind}
-use Rattle.certificate_lines.specs.declared.fault.FaultKind.TheVariants.{BadLine, TooWide}
+use Rattle.certificate_lines.specs.declared.fault.FaultKind.TheVariants.{BadLine}
 use Rattle.certificate.specs.Written.{count_max, is_negative, rank_of, IsItem, AreItemsFrom, AreWeights, IsForm}
 use Rattle.certificate.specs.Text.{items_text, weights_text, form_text, numbers_text}
-use Rattle.certificate_lines.specs.Fields.{◌>>=◌, expect, counted, count_of, index_of, numbered, number_of, is_some, some_number_of, whole_of, is_blank, is_colon, fields_of, ended, numbers_of, entry_of, form_of, item_of, is_of, items_of, weights_of}
+use Rattle.certificate_lines.specs.Fields.{◌>>=◌, expect, counted, count_of, index_of, numbered, number_of, is_some, some_number_of, whole_of, is_blank, is_colon, fields_of, numbers_of, entry_of, form_of, item_of, is_of, items_of, weights_of}
 use Rattle.certificate_reader.proofs.FieldsFound.{Texts, blanked}
 
 -- ---- bytes

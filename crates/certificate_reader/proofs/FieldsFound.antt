@@ -1,13 +1,13 @@
 -- What the fields of a line are read as is what they write.
-use Rattle.std.proofs.Common.{◌≡◌, ◌∙◌, ℕ, ℤ, pos, zero, suc, ◌+◌, ◌*◌, ◌-◌, ◌^◌, ◌≤◌, ◌<◌, ◌≢◌, List, [], ◌∷◌, ◌++◌, length, get_or, take, drop, Bool, true, false, nat_le, not, ◌&&◌, Option, Some, None, Result, Ok, Err, IsTrue, refl, sym, ap, subst, arith, if◌then◌else◌, inl, inr, ◌⊎◌, append_assoc, lit<}
-use Rattle.std.specs.Prelude.{codes, ◌↔◌, ◌==◌, unsigned_abs}
-use Rattle.std.specs.Fmt.{decimal, signed_decimal}
+use Rattle.std.proofs.Common.{◌≡◌, ◌∙◌, ℕ, ℤ, pos, zero, suc, ◌+◌, ◌*◌, ◌^◌, ◌≤◌, ◌<◌, ◌≢◌, List, [], ◌∷◌, ◌++◌, length, get_or, drop, Bool, true, false, nat_le, ◌&&◌, Some, Result, Ok, Err, IsTrue, refl, sym, ap, subst, arith, inl, inr, append_assoc}
+use Rattle.std.specs.Prelude.{◌↔◌, ◌==◌, unsigned_abs}
+use Rattle.std.specs.Fmt.{decimal}
 use Rattle.std.specs.Str.{bytes_eq, is_utf8}
-use Rattle.std.specs.List.{AllByRecursion, slice_split, join_with_byte, before_first, after_first, position_or_len}
+use Rattle.std.specs.List.{AllByRecursion, join_with_byte, before_first, after_first, position_or_len}
 use Rattle.std.proofs.lemmas.Bool.{leb-true, eqb-true, cases_lt}
 use Rattle.std.proofs.lemmas.List.{append-nil, drop_all}
 use Rattle.std.proofs.lemmas.List.Splits.{join_with_byte-slice_split}
-use Rattle.std.proofs.lemmas.List.Sums.{split_at_first, passes_at_first, prefix_len-le-length}
+use Rattle.std.proofs.lemmas.List.Sums.{split_at_first, passes_at_first}
 use Rattle.std.proofs.lemmas.Slice.Eq.{bytes_eq-Decides}
 use Rattle.rational.specs.Rational.{Rational, whole}
 use Rattle.fraction.specs.Text.{text_of}
@@ -19,11 +19,11 @@ use Rattle.milp.specs.Form.{Entry}
 use Rattle.rational.specs.Compare.{is_zero}
 use Rattle.verdicts.specs.Certificate.{Item, Weights}
 use Rattle.certificate_lines.specs.declared.fault.FaultKind.{FaultKind}
-use Rattle.certificate_lines.specs.declared.fault.FaultKind.TheVariants.{BadLine, TooWide}
-use Rattle.certificate.specs.Written.{count_max, rank_of, IsItem, AreItemsFrom, AreWeights, IsForm}
+use Rattle.certificate_lines.specs.declared.fault.FaultKind.TheVariants.{BadLine}
+use Rattle.certificate.specs.Written.{count_max, rank_of, AreItemsFrom, AreWeights, IsForm}
 use Rattle.certificate.specs.Text.{item_text, items_text, weights_text, entry_text, form_text, numbers_text}
-use Rattle.certificate_lines.specs.Fields.{◌>>=◌, expect, counted, count_of, index_of, numbered, number_of, is_some, some_number_of, whole_of, is_blank, is_colon, fields_of, next_field, first_by, after_word, ended, numbers_of, entry_of, form_of, item_of, is_of, items_of, weights_of}
-use Rattle.certificate_lines.proofs.Taken.{bind_ok, expect_ok, counted_ok, index_takes, nonzero_takes, EntryTakes, entry_takes, form_entries}
+use Rattle.certificate_lines.specs.Fields.{◌>>=◌, expect, count_of, index_of, numbered, number_of, some_number_of, whole_of, is_colon, fields_of, next_field, first_by, after_word, ended, numbers_of, entry_of, form_of, item_of, is_of, items_of, weights_of}
+use Rattle.certificate_lines.proofs.Taken.{bind_ok, expect_ok, counted_ok, index_takes, nonzero_takes, entry_takes, form_entries}
 use Rattle.certificate_reader.proofs.LinesTaken.{chosen, made_of_is}
 
 -- the law of `fraction` on the texts of numbers

@@ -1,28 +1,22 @@
 -- What lines are read as is what they write.
-use Rattle.std.proofs.Common.{◌≡◌, ◌∙◌, ℕ, ℤ, pos, zero, suc, ◌+◌, ◌-◌, ◌≤◌, ◌<◌, List, [], ◌∷◌, ◌++◌, length, Bool, true, false, Option, Some, None, Result, Ok, Err, IsTrue, refl, sym, ap, subst, arith, if◌then◌else◌, inl, inr, ◌⊎◌, append_assoc}
+use Rattle.std.proofs.Common.{◌≡◌, ◌∙◌, ℕ, ◌+◌, ◌≤◌, List, [], ◌∷◌, ◌++◌, Ok, Err, IsTrue, ap, subst, if◌then◌else◌, inl, inr, append_assoc}
 use Rattle.std.specs.Prelude.{codes}
 use Rattle.std.specs.Fmt.{decimal}
 use Rattle.std.specs.Str.{bytes_eq}
-use Rattle.std.specs.List.{AllByRecursion, slice_split, join_with_byte}
 use Rattle.std.proofs.lemmas.List.{append-nil}
-use Rattle.std.proofs.lemmas.List.Splits.{join_with_byte-slice_split}
 use Rattle.std.proofs.lemmas.Slice.Eq.{bytes_eq-Decides}
 use Rattle.rational.specs.Rational.{Rational, whole}
 use Rattle.fraction.specs.Text.{text_of}
 use Rattle.fraction.specs.Fits.{fits, num_fits}
 use Rattle.milp.specs.Form.{Entry}
-use Rattle.verdicts.specs.Certificate.{Verdict, Optimal, Infeasible, Unbounded, Weights, Split, FormSplit, Proof, Plain, BySplit, Derived, TreeNode, Branch, Empty, Bound, Certificate}
-use Rattle.certificate_lines.specs.declared.fault.FaultKind.{FaultKind}
-use Rattle.certificate_lines.specs.declared.fault.FaultKind.TheVariants.{BadLine, Unended, Extra}
-use Rattle.certificate_lines.specs.declared.fault.CertFault.{CertFault}
-use Rattle.certificate.specs.Written.{count_max, open_after, fills, is_tree, AreWeights, IsForm, IsSplit, IsFormSplit, IsProof, IsDerived, IsNode, IsPoint, HasTree, HasText}
-use Rattle.certificate.specs.Text.{weights_text, form_text, numbers_text, form_split_text, proof_text, derived_text, derived_rows_text, node_text, tree_text, head_text, value_text, point_text, shown_text, body_text, certificate_text}
+use Rattle.verdicts.specs.Certificate.{Verdict, Optimal, Infeasible, Unbounded, Weights, Split, TreeNode, Branch, Empty, Bound}
+use Rattle.certificate_lines.specs.declared.fault.FaultKind.TheVariants.{BadLine}
+use Rattle.certificate.specs.Written.{count_max, AreWeights, IsForm, IsNode, IsPoint}
+use Rattle.certificate.specs.Text.{weights_text, form_text, numbers_text, node_text}
 use Rattle.certificate_lines.specs.Fields.{◌>>=◌, count_of, index_of, number_of, whole_of, fields_of, next_field, first_by, after_word, ended, numbers_of, form_of, weights_of}
-use Rattle.certificate_lines.specs.Lines.{Rest, Line, is_nil, is_feed, fault_at, line_of, closed, line_by, is_over}
-use Rattle.certificate_reader.specs.Reading.{version_in, size_in, verdict_named, verdict_in, value_in, point_in, count_in, word_in, derive_in, side_in, ProofLine, PlainLine, SplitLine, plain_in, split_in, proof_after, proof_in, proof_from, derived_at, derived_rows_at, branch_in, empty_in, bound_in, node_after, node_in, nodes_at, Shown, shown_at, optimal_at, infeasible_at, unbounded_at, body_at, over, certificate_at, read_of}
+use Rattle.certificate_reader.specs.Reading.{version_in, size_in, verdict_named, verdict_in, value_in, point_in, count_in, word_in, derive_in, side_in, ProofLine, PlainLine, SplitLine, plain_in, split_in, proof_after, proof_in, branch_in, empty_in, bound_in, node_after, node_in}
 use Rattle.certificate_lines.proofs.Taken.{bind_ok}
-use Rattle.certificate_reader.proofs.LinesTaken.{made_is, made_of_is, chosen, LineTakes, line_takes, closed_ok, numbers_count, nodes_fill}
-use Rattle.certificate_lines.proofs.Pieces.{line_some}
+use Rattle.certificate_reader.proofs.LinesTaken.{made_of_is, chosen, numbers_count}
 use Rattle.certificate_reader.proofs.FieldsFound.{Texts, blanked, line_is, after_word_found, next_found, ended_found, first_found, number_found, count_found, index_found, whole_found, numbers_found, form_found, weights_found}
 
 -- ---- fields after a word

@@ -1,5 +1,5 @@
 -- What is read of lines.
-use Rattle.std.proofs.Common.{◌≡◌, ◌∙◌, ℕ, ℤ, zero, suc, ◌+◌, ◌-◌, ◌≤◌, ◌<◌, List, [], ◌∷◌, ◌++◌, length, Bool, true, false, not, ◌&&◌, Option, Some, None, Result, Ok, Err, IsTrue, refl, sym, ap, subst, arith, if◌then◌else◌, inl, inr, ◌⊎◌, add-one}
+use Rattle.std.proofs.Common.{◌≡◌, ◌∙◌, ℕ, zero, suc, ◌+◌, ◌-◌, ◌≤◌, ◌<◌, List, [], ◌∷◌, ◌++◌, length, Bool, true, false, Result, Ok, Err, refl, sym, ap, subst, arith, if◌then◌else◌, inl, inr, ◌⊎◌}
 use Rattle.std.specs.Prelude.{codes}
 use Rattle.std.specs.Str.{bytes_eq}
 use Rattle.std.proofs.lemmas.List.{append-nil}
@@ -14,7 +14,7 @@ use Rattle.certificate_lines.specs.declared.fault.CertFault.{CertFault}
 use Rattle.certificate_lines.specs.declared.fault.CertError.{CertError}
 use Rattle.certificate_lines.specs.declared.fault.CertError.TheVariants as cert_error
 use Rattle.certificate_lines.specs.Fields.{◌>>=◌, number_of, whole_of, fields_of, next_field, first_by, after_word, ended, numbers_of, form_of, weights_of}
-use Rattle.certificate_lines.specs.Lines.{Rest, Line, is_nil, fault_at, line_of, next_from, next_of, closed, line_by}
+use Rattle.certificate_lines.specs.Lines.{Rest, Line, is_nil, fault_at, line_of, next_from, closed, line_by}
 use Rattle.certificate_reader.specs.Reading.{derive_in, point_in, ProofLine, PlainLine, SplitLine, IsHead, plain_in, split_in, proof_after, proof_in, node_in, nodes_at, count_in, word_in, Shown, shown_at, derived_at, derived_rows_at}
 use Rattle.certificate_lines.specs.Gives.{Fails}
 use Rattle.certificate_lines.proofs.Taken.{bind_ok, form_entries}

@@ -1,2 +1,4 @@
 pub mod Taken
 pub mod Limits
+pub mod Examples
+pub mod Laws

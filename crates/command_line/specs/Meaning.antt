@@ -43,11 +43,14 @@ direction_in rows = direction_by (stands (codes "min") rows) (stands (codes "max
 
 -- the files to be written
 abbrev pub outputs_in : List Row → Outputs
-outputs_in rows = record { certificate = first_of (codes "cert") rows }
+outputs_in rows = record {
+  report = first_of (codes "output") rows;
+  certificate = first_of (codes "cert") rows;
+}
 
 -- the task, where no file is to be written
 abbrev pub alone : Outputs → Task → Option Task
-alone outputs task = option_map_or (λ _. None) outputs.certificate (Some task)
+alone outputs task = option_map_or (λ _. None) outputs.report (option_map_or (λ _. None) outputs.certificate (Some task))
 
 abbrev pub task_by : Bool → Option Text → Outputs → Option Task
 task_by false None outputs = Some (Solve outputs)

@@ -1,5 +1,5 @@
 -- The options of the program, as `clap` sees them.
-use Rattle.std.specs.Prelude.{Bool, true, List, [], ◌∷◌, Some, codes}
+use Rattle.std.specs.Prelude.{ℕ, Bool, true, List, [], ◌∷◌, Some, codes}
 use Rattle.clap.specs.Words.{App, Row, Rule, Text, fault_of, found_of, matches_of, new_rule, rows_of}
 use Rattle.clap.specs.Simple.{new_shape}
 use Rattle.clap.specs.Walk.{is_empty}
@@ -18,7 +18,11 @@ flag_rule name = record (new_rule name) { long = Some name; action = Some SetTru
 abbrev pub option_rule : Text → Rule
 option_rule name = record (new_rule name) { long = Some name }
 
--- what may stand among the words
+-- `--name VALUE`, and `-l VALUE` for its letter
+abbrev pub lettered_rule : Text → ℕ → Rule
+lettered_rule name letter = record (option_rule name) { short = Some letter }
+
+-- what may stand among the words; 111 is the letter o
 abbrev pub rules : List Rule
 rules = file_rule
     ∷ flag_rule (codes "freemps")
@@ -27,6 +31,7 @@ rules = file_rule
     ∷ flag_rule (codes "min")
     ∷ flag_rule (codes "max")
     ∷ flag_rule (codes "exact")
+    ∷ lettered_rule (codes "output") 111
     ∷ option_rule (codes "cert")
     ∷ option_rule (codes "checkcert")
     ∷ option_rule (codes "pivlim")

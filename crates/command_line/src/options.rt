@@ -1,7 +1,7 @@
 // The options of the program, as `clap` takes them.
 ghost use Rattle.std.specs.Prelude.{◌≡◌, IfOk, IfErr, map, string_bytes, true, false};
 ghost use Rattle.clap.specs.Words.{app_of, kind_of, rule_of};
-ghost use Rattle.command_line.specs.Options.{command, file_rule, flag_rule, given, given_in, is_taken, option_rule};
+ghost use Rattle.command_line.specs.Options.{command, file_rule, flag_rule, given, given_in, is_taken, lettered_rule, option_rule};
 ghost use Rattle.clap.specs.declared.error.kind.ErrorKind.TheVariants.{OutOfMemory};
 ghost use Rattle.command_line.specs.declared.settings.WordsFault.TheVariants.{Usage};
 
@@ -35,6 +35,7 @@ fn command<'a>(alloc: Global) -> Result<Command<'a>, AllocError>
         .arg(flag(alloc, "min"))?
         .arg(flag(alloc, "max"))?
         .arg(flag(alloc, "exact"))?
+        .arg(lettered(alloc, "output", 'o'))?
         .arg(option(alloc, "cert"))?
         .arg(option(alloc, "checkcert"))?
         .arg(option(alloc, "pivlim"))
@@ -54,6 +55,14 @@ fn option<'a>(alloc: Global, name: &'a str) -> Arg<'a>
     ensures local { result.global ≡ false }
 {
     Arg::new(alloc, name).long(name)
+}
+
+/// `--name VALUE`, and `-l VALUE` for its letter.
+fn lettered<'a>(alloc: Global, name: &'a str, letter: char) -> Arg<'a>
+    ensures rule { rule_of result ≡ lettered_rule name.entry.now letter }
+    ensures local { result.global ≡ false }
+{
+    Arg::new(alloc, name).long(name).short(letter)
 }
 
 impl From<Error> for WordsFault {

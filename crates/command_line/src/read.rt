@@ -94,9 +94,9 @@ fn task_by(translates: bool, certificate: Option<Name>, outputs: Outputs) -> Opt
 fn alone(outputs: Outputs, task: Task) -> Option<Task>
     ensures { result ≡ alone outputs task }
 {
-    match outputs.certificate {
-        None => Some(task),
-        Some(_) => None,
+    match (outputs.report, outputs.certificate) {
+        (None, None) => Some(task),
+        _ => None,
     }
 }
 
@@ -151,6 +151,7 @@ fn outputs_in(alloc: Global, matches: &ArgMatches<'_>) -> Result<Outputs, AllocE
     ensures { IfOk result (λ outputs. outputs ≡ outputs_in (given_in matches.now)) }
 {
     Ok(Outputs {
+        report: name_in(alloc, matches, "output")?,
         certificate: name_in(alloc, matches, "cert")?,
     })
 }

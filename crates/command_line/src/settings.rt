@@ -44,6 +44,8 @@ pub enum Task {
 /// The files that are written when a model is solved.
 #[derive(Drop)]
 pub struct Outputs {
+    /// The file of the report, which is printed too.
+    pub report: Option<Name>,
     /// The file of the certificate.
     pub certificate: Option<Name>,
 }

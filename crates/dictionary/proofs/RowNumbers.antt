@@ -1,16 +1,13 @@
 -- Rows, number by number.
 use Rattle.std.proofs.Common.{◌≡◌, ◌∙◌, ℕ, zero, suc, ◌+◌, ◌<◌, ◌≤◌, ◌≢◌, List, [], ◌∷◌, length, get_or, set, refl, sym, ap, subst, arith}
-use Rattle.std.proofs.lemmas.Int.{ints}
 use Rattle.std.proofs.lemmas.List.{length-set, get_or-set_same, get_or-set_other}
 use Rattle.std.proofs.Math.Decide.{ℕ_discrete}
-use Rattle.std.specs.Prelude.{pos, negsuc, ℤ, ◌==◌, cond, unsigned_abs, Bool, true, false, Result, Ok, Err, IfOk, IfErr, IsErrAnd}
-use Rattle.std.proofs.lemmas.Bool.Decides.{nat_tests}
+use Rattle.std.specs.Prelude.{negsuc, cond, Bool, true, false, Result, Ok, Err, IfOk, IfErr, IsErrAnd}
 use mathlib.Core.Path.{ap₂}
 use Rattle.rational.specs.Rational.{Rational, zero_ℚ, whole, neg_ℚ, inv_ℚ, ◌+ℚ◌, ◌*ℚ◌, ◌/ℚ◌}
 use Rattle.rational.proofs.Laws as Q
 use Rattle.milp.specs.Form.{number_at}
 use Rattle.verdicts.proofs.Laws.{minus_one-mul}
-use Rattle.basis.proofs.Laws.{zero_numerator}
 use Rattle.rational.specs.Compare.{is_zero}
 use Rattle.fraction.specs.Fits.{fits}
 use Rattle.fraction.specs.Answers.{mul_add_answer, result_fits}

@@ -1,7 +1,7 @@
 -- The table at the start of a run.
-use Rattle.std.proofs.Common.{◌≡◌, ◌∙◌, ℕ, zero, suc, ◌+◌, ◌<◌, ◌≤◌, ◌≢◌, List, [], ◌∷◌, ◌++◌, length, get_or, set, drop, replicate, refl, sym, ap, subst, arith, true, false, ◌==◌, Option, Some, IfSome, slice_get}
+use Rattle.std.proofs.Common.{◌≡◌, ◌∙◌, ℕ, zero, suc, ◌+◌, ◌<◌, ◌≤◌, ◌≢◌, List, [], ◌∷◌, length, get_or, set, drop, replicate, refl, sym, ap, subst, arith, true, false, ◌==◌}
 use mathlib.Core.Path.{ap₂}
-use Rattle.std.proofs.lemmas.List.{drop_more, length-set, get_or-set_same, get_or-set_other, length-append, get_or_append_left, get_or-append-add}
+use Rattle.std.proofs.lemmas.List.{drop_more, length-set, get_or-set_same, get_or-set_other}
 use Rattle.std.proofs.lemmas.Bool.Decides.{nat_tests}
 use Rattle.std.proofs.Math.Decide.{ℕ_discrete, dec_lt}
 use Rattle.rational.specs.Rational.{Rational, zero_ℚ, ◌+ℚ◌}
@@ -9,7 +9,6 @@ use Rattle.rational.proofs.Laws as Q
 use Rattle.milp.specs.Form.{Entry, number_at}
 use Rattle.verdicts.specs.WeightedSums.{AllBelow, coefficient_of}
 use Rattle.dictionary.specs.Ascending.{IsAscending}
-use Rattle.dictionary.specs.Start.{IsDense, AreCounted}
 
 -- ---- one row
 

@@ -1,5 +1,5 @@
 -- The numbers of the variables at the start of a run.
-use Rattle.std.proofs.Common.{◌≡◌, ◌∙◌, ℕ, zero, suc, ◌+◌, ◌<◌, ◌≤◌, List, [], ◌∷◌, ◌++◌, length, get_or, set, refl, sym, ap, subst, arith, Option, Some, IfSome, slice_get}
+use Rattle.std.proofs.Common.{◌≡◌, ◌∙◌, ℕ, ◌+◌, ◌<◌, ◌≤◌, List, [], ◌∷◌, ◌++◌, length, get_or, set, refl, sym, ap, subst, arith, Option, Some, IfSome, slice_get}
 use Rattle.std.specs.Prelude.{option_and_then}
 use mathlib.Core.Path.{ap₂}
 use Rattle.std.proofs.lemmas.List.{length-set, get_or-set_same, get_or-set_other, length-append, get_or_append_left, get_or-append-add, get_or_default}
@@ -13,7 +13,7 @@ use Rattle.basis.specs.Bland.{first_number, start_point}
 use Rattle.basis.specs.Numbers.{products_of, prefix_sum}
 use Rattle.basis.proofs.Laws.{same_below, extended_satisfies}
 use Rattle.fraction.specs.declared.frac.NoFit.{NoFit}
-use Rattle.dictionary.specs.Sums.{IsTermFault, IsSumFault, IsStartFault, AreLonger, AreFirstNumbers, AreStartNumbers}
+use Rattle.dictionary.specs.Sums.{IsTermFault, IsSumFault, IsStartFault, AreLonger, AreFirstNumbers}
 use Rattle.dictionary.proofs.SumLemmas.{entry_below}
 
 -- ---- columns

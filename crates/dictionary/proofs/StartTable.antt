@@ -1,18 +1,16 @@
 -- The table at the start of a run is the dictionary there.
-use Rattle.std.proofs.Common.{◌≡◌, ◌∙◌, ℕ, ◌+◌, ◌-◌, ◌<◌, ◌≤◌, ◌≢◌, List, [], ◌∷◌, ◌++◌, length, get_or, refl, sym, ap, subst, arith, Option, Some, None, slice_get, inl, inr}
-use Rattle.std.specs.Prelude.{option_and_then}
+use Rattle.std.proofs.Common.{◌≡◌, ◌∙◌, ℕ, ◌+◌, ◌-◌, ◌<◌, ◌≤◌, ◌≢◌, List, [], length, get_or, refl, sym, ap, subst, arith, Option, Some, None, inl, inr}
 use mathlib.Core.Path.{ap₂}
-use Rattle.std.proofs.lemmas.List.{length-append, get_or_append_left, get_or-append-add}
-use Rattle.std.proofs.Math.Decide.{ℕ_discrete, dec_lt}
+use Rattle.std.proofs.Math.Decide.{dec_lt}
 use Rattle.rational.specs.Rational.{Rational}
 use Rattle.milp.specs.Form.{Entry, value_at, number_at}
 use Rattle.verdicts.specs.WeightedSums.{coefficient_of}
 use Rattle.verdicts.proofs.Laws.{same_value}
-use Rattle.basis.specs.System.{Bounds, System, size, lower_of, upper_of}
+use Rattle.basis.specs.System.{System, size, lower_of, upper_of}
 use Rattle.basis.specs.Dictionary.{place_of, IsBasic, IsResting, AllResting, IsOverResting, Dictionary, Solves, IsDictionary, rate_of, gain_of}
 use Rattle.basis.specs.Bland.{first_place, IsStart, start_dictionary}
 use Rattle.basis.specs.declared.Place.{Place}
-use Rattle.basis.specs.declared.Place.TheVariants.{Basic, AtZero}
+use Rattle.basis.specs.declared.Place.TheVariants.{Basic}
 use Rattle.basis.proofs.Laws.{below, basic_known, rests_or, not_resting}
 use Rattle.dictionary.specs.Start.{IsDense, AreDense, AreCounted, AreBasicPast, ArePositions, IsStartTable}
 use Rattle.dictionary.specs.Table.{Table, dictionary_of, IsTable}

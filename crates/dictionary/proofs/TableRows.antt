@@ -5,7 +5,7 @@ use Rattle.std.proofs.Math.Decide.{ℕ_discrete}
 use Rattle.rational.specs.Rational.{Rational}
 use Rattle.fraction.specs.declared.frac.NoFit.{NoFit}
 use Rattle.dictionary.specs.Rows.{IsSolved, IsSubstituted, IsSolvingFault, IsSubstitutionFault}
-use Rattle.dictionary.specs.Table.{AreSubstituted, IsRowsFault, ArePivoted, IsPivotedFault}
+use Rattle.dictionary.specs.Table.{IsRowsFault, IsPivotedFault}
 
 Rows : Type 0
 Rows = List (List Rational)

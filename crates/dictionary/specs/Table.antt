@@ -3,9 +3,11 @@ use Rattle.std.specs.Prelude.{ℕ, zero, suc, ◌<◌, ◌≡◌, ◌≢◌, Lis
 use Rattle.rational.specs.Rational.{Rational}
 use Rattle.milp.specs.Form.{Entry, number_at}
 use Rattle.basis.specs.Dictionary.{place_of, IsBasic, IsResting, Dictionary}
-use Rattle.basis.specs.Pivots.{IsPivotOperation}
+use Rattle.basis.specs.Pivots.{Operation, Plus, Minus, Times, DividedBy, IsPivotOperation}
 use Rattle.fraction.specs.Answers.{DoesNotFit}
 use Rattle.fraction.specs.declared.frac.NoFit.{NoFit}
+use Rattle.fraction.specs.declared.frac.Op.{Op}
+use Rattle.fraction.specs.declared.frac.Op.TheVariants.{Add, Sub, Mul, Div}
 use Rattle.dictionary.specs.Rows.{IsSolved, IsSubstituted, IsSolvingFault, IsSubstitutionFault}
 use Rattle.basis.specs.declared.Place.{Place}
 use Rattle.basis.specs.declared.Place.TheVariants.{Basic, AtLower, AtUpper, AtZero}
@@ -84,7 +86,14 @@ pub data IsPivotedFault (old : List (List Rational)) (gains : List Rational) (li
   in_rows : (solved : List Rational) (i : ℕ) → IsSolved (get_or old line []) column solved → i < length old → i ≢ line → IsSubstitutionFault (get_or old i []) solved column e → IsPivotedFault old gains line column e
   in_objective : (solved : List Rational) → IsSolved (get_or old line []) column solved → IsSubstitutionFault gains solved column e → IsPivotedFault old gains line column e
 
+-- what the fractions call an operation
+abbrev pub operation_of : Op → Operation
+operation_of Add = Plus
+operation_of Sub = Minus
+operation_of Mul = Times
+operation_of Div = DividedBy
+
 -- e is an operation of the pivot of q into the place of r, and does not fit
 pub record IsPivotFault (t : Table) (q r : ℕ) (e : NoFit) : Type 0 where
-  pub operation : IsPivotOperation t.places (dictionary_of t) q r e.a e.b
+  pub operation : IsPivotOperation t.places (dictionary_of t) q r e.a (operation_of e.op) e.b
   pub not_fit : DoesNotFit e

@@ -6,7 +6,7 @@ use Rattle.verdicts.specs.Certificate.{Certificate, Verdict}
 use Rattle.verdicts.specs.Certificate as kind
 use Rattle.outside.specs.declared.store.LoadFault.{LoadFault}
 use Rattle.outside.specs.declared.store.LoadFault.TheVariants.{Missing as LoadMissing, Open, Read, TooLong as LoadTooLong, NoMemory as LoadNoMemory}
-use Rattle.branch_solve.specs.declared.fault.SolveFault.TheVariants.{Node as AtSite, Part as AtPart, PivotLimit, NoMemory as SolveNoMemory}
+use Rattle.branch_solve.specs.declared.fault.SolveFault.TheVariants.{NoFit as SolveNoFit, PivotLimit, NoMemory as SolveNoMemory}
 use Rattle.command_line.specs.declared.settings.Settings.{Settings}
 use Rattle.command_line.specs.declared.settings.WordsFault.TheVariants.{Usage as WordsUsage, NoMemory as WordsNoMemory}
 use Rattle.glpsol_cli.specs.Asked.{ToldNames, OfTexts, AreTexts, IsInTurn, names_read}
@@ -73,8 +73,7 @@ module _ (words : List (List ℕ)) (told : ToldNames) (files_rose out_rose : Typ
   unfound_cause : (unfound : Unfound) → OfTexts words told (IsUnfound unfound) → Cause words told files_rose out_rose (unfound_answer unfound)
   unfound_cause (Text (TextHas fault)) h = h
   unfound_cause (Text TextNoMemory) h = tt
-  unfound_cause (Solve (AtSite site)) h = h
-  unfound_cause (Solve (AtPart f)) h = h
+  unfound_cause (Solve (SolveNoFit site)) h = h
   unfound_cause (Solve (PivotLimit bases)) h = h
   unfound_cause (Solve SolveNoMemory) h = executed words told (IsUnfound (Solve SolveNoMemory)) (λ done. Unit {0}) h tt
   unfound_cause (Check (BadText fault)) h = h
@@ -106,8 +105,7 @@ module _ (words : List (List ℕ)) (old new : Outside) (files_rose : Type 0) whe
   unfound_written : (unfound : Unfound) → OfTexts words old.told (IsUnfound unfound) → IsWrittenInPart Out (line_of (unfound_answer unfound)) old new → Written words old new (unfound_answer unfound)
   unfound_written (Text (TextHas fault)) h line = line_alone (IsUnfound (Text (TextHas fault))) (line_of (unfound_answer (Text (TextHas fault)))) h line
   unfound_written (Text TextNoMemory) h line = (old, nothing old, line)
-  unfound_written (Solve (AtSite site)) h line = line_alone (IsUnfound (Solve (AtSite site))) (line_of (unfound_answer (Solve (AtSite site)))) h line
-  unfound_written (Solve (AtPart f)) h line = line_alone (IsUnfound (Solve (AtPart f))) (line_of (unfound_answer (Solve (AtPart f)))) h line
+  unfound_written (Solve (SolveNoFit site)) h line = line_alone (IsUnfound (Solve (SolveNoFit site))) (line_of (unfound_answer (Solve (SolveNoFit site)))) h line
   unfound_written (Solve (PivotLimit bases)) h line = line_alone (IsUnfound (Solve (PivotLimit bases))) (line_of (unfound_answer (Solve (PivotLimit bases)))) h line
   unfound_written (Solve SolveNoMemory) h line = some_line_alone (IsUnfound (Solve SolveNoMemory)) (line_of (unfound_answer (Solve SolveNoMemory))) h line
   unfound_written (Check (BadText fault)) h line = line_alone (IsUnfound (Check (BadText fault))) (line_of (unfound_answer (Check (BadText fault)))) h line

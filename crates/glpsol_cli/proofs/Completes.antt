@@ -157,7 +157,7 @@ last_same (a ∷ xs) (b ∷ ys) x y e = last_same xs ys x y (rest a b (xs ++ x �
     rest : (a b : List ℕ) (xs ys : List (List ℕ)) → a ∷ xs ≡ b ∷ ys → xs ≡ ys
     rest a b xs ys e = cc
 
-declared_same : (p q : Problem) → Some (Declared p) ≡ Some (Declared q) → p ≡ q
+pub declared_same : (p q : Problem) → Some (Declared p) ≡ Some (Declared q) → p ≡ q
 declared_same p q e = cc
 
 ok_same : (c d : Certificate) → ◌≡◌ {A = Result Certificate CertFault} (Ok c) (Ok d) → c ≡ d

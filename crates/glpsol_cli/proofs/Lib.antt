@@ -7,3 +7,5 @@ pub mod FilesRead
 pub mod Carried
 pub mod Verdicts
 pub mod Completes
+mod OneColumn
+mod WorkedExample

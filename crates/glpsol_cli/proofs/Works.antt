@@ -1,14 +1,12 @@
 -- What the work on a problem gives of the texts.
 use Rattle.std.proofs.Common.{◌≡◌, ◌∙◌, ℕ, List, [], ◌∷◌, Some, None, refl, sym, ap, subst}
 use Rattle.milp.specs.Problem.{Problem}
-use Rattle.basis.specs.Numbers.{node_numbers}
 use Rattle.fraction.specs.declared.frac.NoFit.{NoFit}
-use Rattle.search_node.specs.Faults.{IsSiteFault}
 use Rattle.search_node.specs.Sides.{sides_of}
 use Rattle.search_node.specs.declared.node.Node.{Node}
-use Rattle.branch_solve.specs.Solved.{IsRoot, IsNoFit, IsAtLimit}
+use Rattle.branch_solve.specs.Solved.{IsRoot, IsWorkFault, IsNoFit, IsAtLimit}
 use Rattle.branch_solve.specs.declared.fault.SolveFault.{SolveFault}
-use Rattle.branch_solve.specs.declared.fault.SolveFault.TheVariants.{Node as AtSite, Part as AtPart, PivotLimit, NoMemory as SolveNoMemory}
+use Rattle.branch_solve.specs.declared.fault.SolveFault.TheVariants.{NoFit as SolveNoFit, PivotLimit, NoMemory as SolveNoMemory}
 use Rattle.command_line.specs.declared.settings.Outputs.{Outputs}
 use Rattle.command_line.specs.declared.settings.Settings.{Settings}
 use Rattle.command_line.specs.declared.settings.Task.{Task}
@@ -29,19 +27,18 @@ asked s text others p is = ap (λ e. Some (end_of s.direction e)) is.means ∙ a
 -- ---- solving
 
 module _ (s : Settings) (texts : List (List ℕ)) (p : Problem) (asks : IsAsked s texts p) (solves : Solves s) where
-  at_node : (node : Node) (e : NoFit) → IsRoot node → IsSiteFault (node_numbers p [] []) e → IsNodeOverflow node e s texts
+  at_node : (node : Node) (e : NoFit) → IsRoot node → IsWorkFault p [] [] e → IsNodeOverflow node e s texts
   at_node node e root operation = record {
     problem = p;
     asked = asks;
     solves = solves;
     derived = [];
     work = record { root = root; none = refl };
-    operation = subst (λ (n : Node). IsSiteFault (node_numbers p [] (sides_of n.splits)) e) (sym root) operation;
+    operation = subst (λ (n : Node). IsWorkFault p [] (sides_of n.splits) e) (sym root) operation;
   }
 
   pub unsolved : (fault : SolveFault) → IsNoFit p fault → IsAtLimit p s.pivot_limit fault → IsUnfound (SolveStop fault) s texts
-  unsolved (AtSite site) no_fit limit = at_node site.node site.fault no_fit.0 no_fit.1
-  unsolved (AtPart f) no_fit limit = at_node (record { root_basis = None; splits = [] }) f.fault refl no_fit.operation
+  unsolved (SolveNoFit site) no_fit limit = at_node site.node site.fault no_fit.0 no_fit.1
   unsolved (PivotLimit bases) no_fit limit = record {
     problem = p;
     asked = asks;

@@ -3,6 +3,7 @@ use Rattle.std.specs.Prelude.{◌≡◌, ◌≤◌, ℕ, List, [], ◌∷◌, �
 use Rattle.std.specs.declared.option.Option.{Option}
 use Rattle.outside.specs.Told.{Lacks, Has}
 use Rattle.command_line.specs.Meaning.{settings_of}
+use Rattle.command_line.specs.declared.settings.Outputs.{Outputs}
 use Rattle.command_line.specs.declared.settings.Settings.{Settings}
 use Rattle.command_line.specs.declared.settings.Task.{Task}
 use Rattle.command_line.specs.declared.settings.Task.TheVariants.{Solve, Translate, CheckCertificate}
@@ -30,11 +31,11 @@ Translates s = s.task ≡ Translate
 abbrev pub Checks : Settings → List ℕ → Type 0
 Checks s name = s.task ≡ CheckCertificate name
 
--- the file that the certificate is written to, where one is named
-abbrev pub certificate_file : Task → Option (List ℕ)
-certificate_file (Solve outputs) = outputs.certificate
-certificate_file Translate = None
-certificate_file (CheckCertificate name) = None
+-- the files that are to be written, where the problem is to be solved
+abbrev pub outputs_of : Task → Option Outputs
+outputs_of (Solve outputs) = Some outputs
+outputs_of Translate = None
+outputs_of (CheckCertificate name) = None
 
 -- ---- the files that are read
 

@@ -9,13 +9,11 @@ use Rattle.verdicts.specs.Certificate.{Certificate, Derived}
 use Rattle.verdicts.specs.Certificate as kind
 use Rattle.verdicts.specs.Proves.{Proves, Holds, tests, first_failing}
 use Rattle.basis.specs.Node.{system_of}
-use Rattle.basis.specs.Numbers.{node_numbers}
 use Rattle.basis.specs.declared.Place.{Place}
-use Rattle.search_node.specs.Faults.{IsSiteFault}
 use Rattle.search_node.specs.Sides.{sides_of}
 use Rattle.search_node.specs.declared.node.Node.{Node}
 use Rattle.simplex.specs.Run.{IsLimited}
-use Rattle.branch_solve.specs.Solved.{IsRoot}
+use Rattle.branch_solve.specs.Solved.{IsRoot, IsWorkFault}
 use Rattle.certificate_reader.specs.Reading.{read_of}
 use Rattle.certificate_lines.specs.declared.fault.CertFault.{CertFault}
 use Rattle.cert_check.specs.Outcome.{Acceptance as Accepting, Fault, outcome, trials, part_of}
@@ -126,14 +124,14 @@ pub record IsWorkedAt (node : Node) (derived : List Derived) : Type 0 where
   pub root : IsRoot node
   pub none : derived ≡ []
 
--- the operation is on numbers that the work at the node meets, and does not fit
+-- the operation is one of the work at the node, and does not fit
 pub record IsNodeOverflow (node : Node) (e : NoFit) (s : Settings) (texts : List (List ℕ)) : Type 0 where
   pub problem : Problem
   pub asked : IsAsked s texts problem
   pub solves : Solves s
   pub derived : List Derived
   pub work : IsWorkedAt node derived
-  pub operation : IsSiteFault (node_numbers problem derived (sides_of node.splits)) e
+  pub operation : IsWorkFault problem derived (sides_of node.splits) e
 
 abbrev pub IsOverflow : OverflowSite → NoFit → Settings → List (List ℕ) → Type 0
 IsOverflow (AtNode node) e s texts = IsNodeOverflow node e s texts

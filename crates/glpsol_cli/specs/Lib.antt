@@ -6,3 +6,4 @@ pub mod Complete
 pub mod Code
 pub mod Written
 pub mod Stages
+pub mod WorkedExample

@@ -11,10 +11,11 @@ use Rattle.mps_reader.specs.FreeMps.{declared as declared_by_free_mps}
 use Rattle.cplex_lp_reader.specs.CplexLp.{declared as declared_by_cplex_lp}
 use Rattle.command_line.specs.declared.settings.Language.{Language}
 use Rattle.command_line.specs.declared.settings.Language.TheVariants.{FreeMps, CplexLp}
+use Rattle.command_line.specs.declared.settings.Outputs.{Outputs}
 use Rattle.command_line.specs.declared.settings.Settings.{Settings}
 use Rattle.command_line.specs.declared.settings.Task.{Task}
 use Rattle.solution_writer.specs.Report.{solved_report, translated_report, accepted_report}
-use Rattle.glpsol_cli.specs.Asked.{ToldNames, OfTexts, certificate_file}
+use Rattle.glpsol_cli.specs.Asked.{ToldNames, OfTexts, outputs_of}
 use Rattle.glpsol_cli.specs.Pieces.{Piece}
 use Rattle.glpsol_cli.specs.declared.answer.Reached.{Reached}
 use Rattle.glpsol_cli.specs.declared.answer.Reached.TheVariants.{Nothing, Executed, Size, Acceptance, Verdict}
@@ -72,9 +73,14 @@ saved_in (Some name) text = record { target = File name; text = text } ∷ []
 abbrev pub printed : List ℕ → List Piece
 printed text = record { target = Out; text = text } ∷ []
 
--- the report on the output, and then the certificate to its file
+-- what goes to the files, in order: the report, and the certificate
+abbrev pub saved_pieces : Option Outputs → Certificate → List ℕ → List Piece
+saved_pieces None c report = []
+saved_pieces (Some outputs) c report = saved_in outputs.report report ++ saved_in outputs.certificate (certificate_text c)
+
+-- the report on the output, and then the files
 abbrev pub solved_pieces : Task → Certificate → List ℕ → List Piece
-solved_pieces task c report = printed report ++ saved_in (certificate_file task) (certificate_text c)
+solved_pieces task c report = printed report ++ saved_pieces (outputs_of task) c report
 
 -- what is written of a problem once this was reached; none where a certificate lacks a part that its report shows
 abbrev pub found_pieces : Task → Problem → Reached → Option (List Piece)

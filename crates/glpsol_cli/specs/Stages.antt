@@ -7,7 +7,7 @@ use Rattle.verdicts.specs.Certificate.{Certificate, Verdict}
 use Rattle.verdicts.specs.Certificate as kind
 use Rattle.verdicts.specs.Proves.{Proves}
 use Rattle.branch_solve.specs.declared.fault.SolveFault.{SolveFault}
-use Rattle.branch_solve.specs.declared.fault.SolveFault.TheVariants.{Node as AtSite, Part as AtPart, PivotLimit, NoMemory as SolveNoMemory}
+use Rattle.branch_solve.specs.declared.fault.SolveFault.TheVariants.{NoFit as SolveNoFit, PivotLimit, NoMemory as SolveNoMemory}
 use Rattle.cert_check.specs.Outcome.{Acceptance as Accepting, outcome, trials}
 use Rattle.outside.specs.Told.{Lacks, Has}
 use Rattle.outside.specs.declared.store.LoadFault.{LoadFault}
@@ -117,8 +117,7 @@ IsCheckStop p bytes CheckNoMemory = Unit {0}
 abbrev pub IsUnfound : Unfound → Settings → List (List ℕ) → Type 0
 IsUnfound (Text (TextHas fault)) s texts = IsRefused fault s texts
 IsUnfound (Text TextNoMemory) s texts = Unit {0}
-IsUnfound (Solve (AtSite site)) s texts = IsNodeOverflow site.node site.fault s texts
-IsUnfound (Solve (AtPart f)) s texts = IsNodeOverflow (record { root_basis = None; splits = [] }) f.fault s texts
+IsUnfound (Solve (SolveNoFit site)) s texts = IsNodeOverflow site.node site.fault s texts
 IsUnfound (Solve (PivotLimit bases)) s texts = IsUndecided bases s texts
 IsUnfound (Solve SolveNoMemory) s texts = Unit {0}
 IsUnfound (Check (BadText fault)) s texts = OfCertificate (IsNoCertificate fault) s texts
@@ -157,8 +156,7 @@ unread_answer name LoadTooLong = TooLong name
 unread_answer name LoadNoMemory = NoMemory Nothing
 
 abbrev pub solve_answer : SolveFault → Answer
-solve_answer (AtSite site) = Overflow (AtNode site.node) site.fault
-solve_answer (AtPart f) = Overflow (AtNode (record { root_basis = None; splits = [] })) f.fault
+solve_answer (SolveNoFit site) = Overflow (AtNode site.node) site.fault
 solve_answer (PivotLimit bases) = Undecided bases
 solve_answer SolveNoMemory = NoMemory Executed
 

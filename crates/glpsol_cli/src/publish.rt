@@ -1,17 +1,18 @@
-// What is found is written: the report, and then the certificate's file.
+// What is found is written: the report, and then the files that the task names.
 ghost use Rattle.std.specs.Prelude.{◌≡◌, ◌≤◌, ◌++◌, List, ℕ, IfOk, IfErr, OnOk, Some, string_bytes};
 ghost use Rattle.std.specs.Option.{option_map};
 ghost use Rattle.outside.specs.Causes.{Rose};
 ghost use Rattle.solution_writer.specs.Report.{IsReportable, solved_report};
-ghost use Rattle.glpsol_cli.specs.Asked.{certificate_file};
-ghost use Rattle.glpsol_cli.specs.Meaning.{found_pieces, printed, saved_in, solved_pieces};
+ghost use Rattle.certificate.specs.Text.{certificate_text};
+ghost use Rattle.glpsol_cli.specs.Asked.{outputs_of};
+ghost use Rattle.glpsol_cli.specs.Meaning.{found_pieces, printed, saved_in, saved_pieces, solved_pieces};
 ghost use Rattle.glpsol_cli.specs.Stages.{reached_by, piece_of, pieces_of, IsShown, EndsPiece, EndsWriting, HasFailed, IsPublished};
 
 use crate::Target;
 use crate::found::{Finding, Found};
 use certificate::Certificate;
 use certificate_writer::text;
-use command_line::Task;
+use command_line::{Outputs, Task};
 use instance::{Instance, Name};
 use outside::{Sink, Store, Trouble, write_all, write_file};
 use solution_writer::{accepted_report, solved_report, translated_report};
@@ -65,7 +66,7 @@ fn pieces(alloc: Global, found: &Found) -> Result<Vec<Piece>, AllocError>
     }
 }
 
-// The report of a certificate on the output, and its text to the file that the task names, if it names one.
+// The report of a certificate on the output, and then the files that the task names.
 fn solved(
     alloc: Global,
     task: &Task,
@@ -77,18 +78,65 @@ fn solved(
 {
     let report = solved_report(alloc, problem, certificate)?;
     let mut pieces = output(alloc, &report)?;
-    if let Some(name) = certificate_file(task) {
-        add_file(alloc, &mut pieces, name, text(alloc, certificate)?)?;
-    }
+    add_files(alloc, &mut pieces, task, certificate, &report)?;
     Ok(pieces)
 }
 
-fn certificate_file(task: &Task) -> Option<&Name>
-    ensures { option_map (λ n. n.now) result ≡ certificate_file task.now }
+// The files that the task names.
+fn add_files(
+    alloc: Global,
+    pieces: &mut Vec<Piece>,
+    task: &Task,
+    certificate: &Certificate,
+    report: &str,
+) -> Result<(), AllocError>
+    ensures { OnOk result (pieces_of pieces.new.items ≡ pieces_of pieces.old.items ++ saved_pieces (outputs_of task.now) certificate.now report.now) }
 {
     match task {
-        Task::Solve(outputs) => outputs.certificate.as_ref(),
-        Task::Translate | Task::CheckCertificate(_) => None,
+        Task::Solve(outputs) => add_outputs(alloc, pieces, outputs, certificate, report),
+        Task::Translate | Task::CheckCertificate(_) => Ok(()),
+    }
+}
+
+// The files of a problem that is solved, in order.
+fn add_outputs(
+    alloc: Global,
+    pieces: &mut Vec<Piece>,
+    outputs: &Outputs,
+    certificate: &Certificate,
+    report: &str,
+) -> Result<(), AllocError>
+    ensures { OnOk result (pieces_of pieces.new.items ≡ pieces_of pieces.old.items ++ saved_pieces (Some outputs.now) certificate.now report.now) }
+{
+    add_report(alloc, pieces, &outputs.report, report)?;
+    add_certificate(alloc, pieces, &outputs.certificate, certificate)
+}
+
+fn add_report(
+    alloc: Global,
+    pieces: &mut Vec<Piece>,
+    file: &Option<Name>,
+    report: &str,
+) -> Result<(), AllocError>
+    ensures { OnOk result (pieces_of pieces.new.items ≡ pieces_of pieces.old.items ++ saved_in file.now report.now) }
+{
+    match file {
+        Some(name) => add_file(alloc, pieces, name, report.as_bytes().to_vec(alloc)?),
+        None => Ok(()),
+    }
+}
+
+fn add_certificate(
+    alloc: Global,
+    pieces: &mut Vec<Piece>,
+    file: &Option<Name>,
+    certificate: &Certificate,
+) -> Result<(), AllocError>
+    ensures { OnOk result (pieces_of pieces.new.items ≡ pieces_of pieces.old.items ++ saved_in file.now (certificate_text certificate.now)) }
+{
+    match file {
+        Some(name) => add_file(alloc, pieces, name, text(alloc, certificate)?),
+        None => Ok(()),
     }
 }
 

@@ -10,8 +10,6 @@ use command_line::WordsFault;
 use instance::Name;
 use model_text::FileFault;
 use outside::LoadFault;
-use search_node::Node;
-use std::alloc::Global;
 
 #[derive(Drop)]
 pub enum Stop {
@@ -52,13 +50,13 @@ pub enum CheckStop {
 }
 
 /// The answer that a stop stands for.
-pub fn stop_answer(alloc: Global, stop: Stop) -> Answer
+pub fn stop_answer(stop: Stop) -> Answer
     ensures { result ≡ stop_answer stop }
 {
     match stop {
         Stop::Words(fault) => words_answer(fault),
         Stop::File(unread) => unread_answer(unread.name, unread.fault),
-        Stop::Work(unfound) => unfound_answer(alloc, unfound),
+        Stop::Work(unfound) => unfound_answer(unfound),
     }
 }
 
@@ -83,12 +81,12 @@ fn unread_answer(name: Name, fault: LoadFault) -> Answer
     }
 }
 
-fn unfound_answer(alloc: Global, unfound: Unfound) -> Answer
+fn unfound_answer(unfound: Unfound) -> Answer
     ensures { result ≡ unfound_answer unfound }
 {
     match unfound {
         Unfound::Text(fault) => text_answer(fault),
-        Unfound::Solve(fault) => solve_answer(alloc, fault),
+        Unfound::Solve(fault) => solve_answer(fault),
         Unfound::Check(stop) => check_answer(stop),
     }
 }
@@ -102,18 +100,13 @@ fn text_answer(fault: TextFault) -> Answer
     }
 }
 
-fn solve_answer(alloc: Global, fault: SolveFault) -> Answer
+fn solve_answer(fault: SolveFault) -> Answer
     ensures { result ≡ solve_answer fault }
 {
     match fault {
-        SolveFault::Node(site) => Answer::Overflow {
+        SolveFault::NoFit(site) => Answer::Overflow {
             at: OverflowSite::AtNode(site.node),
             fault: site.fault,
-        },
-        // the certificate is the root's
-        SolveFault::Part(part) => Answer::Overflow {
-            at: OverflowSite::AtNode(Node::root(alloc)),
-            fault: part.fault,
         },
         SolveFault::PivotLimit(bases) => Answer::Undecided(bases),
         SolveFault::NoMemory => no_memory(Reached::Executed),

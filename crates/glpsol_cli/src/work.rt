@@ -41,7 +41,7 @@ pub fn run<T: Threads + Sync, S: Store, O: Sink>(
     ensures cause { Cause (map string_bytes words.items) (S.told files.old)
         (Rose (S.faults files.old) (S.faults files.new)) (Rose (O.faults out.old) (O.faults out.new)) result }
 
-    // It writes the report and then the certificate's file, or the first part of this, and then the line of a fault or a part of it.
+    // It writes the report and then the files, or the first part of this, and then the line of a fault or a part of it.
     ensures written { Written (map string_bytes words.items) (record { taken = O.taken out.old; told = S.told files.old })
         (record { taken = O.taken out.new; told = S.told files.new }) result }
 
@@ -67,7 +67,7 @@ fn carried_out<S: Store, O: Sink>(
 {
     let found = match work_out(alloc, words, files) {
         Ok(found) => found,
-        Err(stop) => return tell(alloc, out, stop_answer(alloc, stop)),
+        Err(stop) => return tell(alloc, out, stop_answer(stop)),
     };
     match publish(alloc, files, out, &found) {
         Ok(()) => found.finding.answer(),

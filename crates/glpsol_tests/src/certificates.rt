@@ -134,16 +134,18 @@ fn checked<T: Threads + Sync>(
     Ok(out.bytes().to_vec(alloc)?)
 }
 
+// The report and the certificate go to their files, in short writes.
 #[test]
-fn the_certificate_is_written(rt: HostRuntime) -> Result<(), Fail> {
+fn the_files_are_written(rt: HostRuntime) -> Result<(), Fail> {
     let alloc = rt.alloc();
     let mut files = MemStore::new(alloc, Vec::new(alloc), 7);
     files.add("row1.mps", MODEL.as_bytes())?;
     let mut out = MemSink::new(alloc, Vec::new(alloc), 4096);
-    let words = words_of(alloc, &["--cert", "c", "--freemps", "row1.mps"])?;
+    let words = words_of(alloc, &["--cert", "c", "-o", "r", "--freemps", "row1.mps"])?;
     let answer = run(&rt, alloc, words, &mut files, &mut out);
     assert!(rt; matches!(answer, Answer::Optimal(_)));
     assert_eq!(rt; out.bytes(), REPORT.as_bytes());
+    assert!(rt; files.bytes("r") == Some(REPORT.as_bytes()));
     assert!(rt; files.bytes("c") == Some(CERTIFICATE.as_bytes()));
     Ok(())
 }

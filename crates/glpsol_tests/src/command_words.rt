@@ -5,7 +5,7 @@ use std::alloc::{AllocError, Global};
 use std::test::Fail;
 
 /// Words, parted by `|`, and what they ask for: the language, the model's file, the direction, the task and its file.
-const COMMANDS: [(&str, &str); 20] = [
+const COMMANDS: [(&str, &str); 23] = [
     ("--freemps|f", "mps f, own direction, solve, no cert"),
     ("--lp|f", "lp f, own direction, solve, no cert"),
     ("f|--freemps", "mps f, own direction, solve, no cert"),
@@ -29,6 +29,18 @@ const COMMANDS: [(&str, &str); 20] = [
         "mps f, own direction, solve, cert c=d",
     ),
     ("--freemps|f|--cert=", "mps f, own direction, solve, cert "),
+    (
+        "--freemps|f|-o|r",
+        "mps f, own direction, solve, report r, no cert",
+    ),
+    (
+        "-or|--freemps|f",
+        "mps f, own direction, solve, report r, no cert",
+    ),
+    (
+        "--freemps|f|--cert|c|--output=r",
+        "mps f, own direction, solve, report r, cert c",
+    ),
     ("--freemps|f|--check|--min", "mps f, min, translate"),
     ("--freemps|f|--checkcert|c", "mps f, own direction, check c"),
     ("--checkcert=c|--freemps|f|--max", "mps f, max, check c"),
@@ -47,7 +59,7 @@ const COMMANDS: [(&str, &str); 20] = [
 ];
 
 /// Words, parted by `|`, that are no command.
-const NO_COMMANDS: [&str; 37] = [
+const NO_COMMANDS: [&str; 42] = [
     "--freemps",
     "f",
     "--freemps|f|g",
@@ -69,6 +81,11 @@ const NO_COMMANDS: [&str; 37] = [
     "--freemps|f|--cert|c|--cert|c",
     "--freemps|--cert|--|f",
     "--freemps|f|--certificate|c",
+    "--freemps|f|-o",
+    "--freemps|f|-o|r|--output|r",
+    "--freemps|f|-output|r",
+    "--freemps|f|--check|-o|r",
+    "--freemps|f|--checkcert|c|-o|r",
     "--freemps|f|--help",
     "--freemps|f|-h",
     "--freemps|f|--version",
@@ -149,11 +166,19 @@ fn steps_shown(alloc: Global, limit: u32) -> Result<String, AllocError> {
 fn task_shown(alloc: Global, task: &Task) -> Result<String, AllocError> {
     match task {
         Task::Solve(outputs) => {
+            let report = report_shown(alloc, &outputs.report)?;
             let certificate = file_shown(alloc, "cert", &outputs.certificate)?;
-            format!(in alloc; "solve, {certificate}")
+            format!(in alloc; "solve, {report}{certificate}")
         }
         Task::Translate => "translate".to_string(alloc),
         Task::CheckCertificate(file) => format!(in alloc; "check {}", file.as_str()),
+    }
+}
+
+fn report_shown(alloc: Global, file: &Option<Name>) -> Result<String, AllocError> {
+    match file {
+        Some(name) => format!(in alloc; "report {}, ", name.as_str()),
+        None => Ok(String::new(alloc)),
     }
 }
 

@@ -41,8 +41,8 @@ fn a_file_that_is_missing(rt: HostRuntime) -> Result<(), Fail> {
     Ok(())
 }
 
-// The k-th call on the store fails: opening, two reads and the end of the model, making, writing and ending the
-// certificate.
+// The k-th call on the store fails: opening, two reads and the end of the model, making, writing and ending the report's
+// file, and then the certificate's.
 #[test]
 fn each_call_on_the_store_fails(rt: HostRuntime) -> Result<(), Fail> {
     let alloc = rt.alloc();
@@ -51,15 +51,21 @@ fn each_call_on_the_store_fails(rt: HostRuntime) -> Result<(), Fail> {
         (2, "read fault: row1.mps\n"),
         (3, "read fault: row1.mps\n"),
         (4, "read fault: row1.mps\n"),
-        (5, "OPTIMAL\nobjective cost 2\ncolumn x 2\nwrite fault: c\n"),
-        (6, "OPTIMAL\nobjective cost 2\ncolumn x 2\nwrite fault: c\n"),
-        (7, "OPTIMAL\nobjective cost 2\ncolumn x 2\nwrite fault: c\n"),
-        (8, REPORT),
+        (5, "OPTIMAL\nobjective cost 2\ncolumn x 2\nwrite fault: r\n"),
+        (6, "OPTIMAL\nobjective cost 2\ncolumn x 2\nwrite fault: r\n"),
+        (7, "OPTIMAL\nobjective cost 2\ncolumn x 2\nwrite fault: r\n"),
+        (8, "OPTIMAL\nobjective cost 2\ncolumn x 2\nwrite fault: c\n"),
+        (9, "OPTIMAL\nobjective cost 2\ncolumn x 2\nwrite fault: c\n"),
+        (
+            10,
+            "OPTIMAL\nobjective cost 2\ncolumn x 2\nwrite fault: c\n",
+        ),
+        (11, REPORT),
     ] {
         let mut files = MemStore::new(alloc, vec![in alloc; k]?, 4096);
         files.add("row1.mps", MODEL.as_bytes())?;
         let mut out = MemSink::new(alloc, Vec::new(alloc), 1);
-        let words = words_of(alloc, &["--freemps", "row1.mps", "--cert", "c"])?;
+        let words = words_of(alloc, &["--freemps", "row1.mps", "--cert", "c", "-o", "r"])?;
         let _answer = run(&rt, alloc, words, &mut files, &mut out);
         assert_eq!(rt; out.bytes(), want.as_bytes(), "at call {k}");
     }

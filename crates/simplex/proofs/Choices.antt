@@ -8,8 +8,8 @@ use Rattle.verdicts.specs.Proves.{lies_above, lies_below}
 use Rattle.rational.specs.Compare.{is_less}
 use Rattle.rational.proofs.Laws.{at_most_true, at_most_false, less_true, less_false}
 use Rattle.basis.specs.System.{Bounds, System, lower_of, upper_of, CanRise, CanFall}
-use Rattle.basis.specs.Dictionary.{place_of, IsResting, Dictionary, rate_of, gain_of}
-use Rattle.basis.specs.Bland.{IsOutside, HasPassed, CanRaise, CanMend, Mends, Improves}
+use Rattle.basis.specs.Dictionary.{place_of, IsResting, Dictionary, rate_of}
+use Rattle.basis.specs.Bland.{IsOutside, HasPassed, CanRaise, CanMend, Mends}
 use Rattle.basis.specs.declared.Place.{Place}
 use Rattle.basis.specs.declared.Place.TheVariants.{Basic, AtLower, AtUpper, AtZero}
 use Rattle.basis.proofs.Laws.{basic_known}
@@ -115,9 +115,6 @@ resting places q h e = record { known = h; not_basic = λ w. clash (sym (ap is_b
   where
     clash : ¬ (true ≡ false)
     clash k = cc
-
-pub is_resting : (places : List Place) (q : ℕ) → q < length places → is_basic (place_of places q) ≡ false → IsResting places q
-is_resting places q h e = resting places q h e
 
 mend_false : (s : System) (x : ℕ → Rational) (q : ℕ) (p : Place) (b : Bounds) (a rate : Rational) → slice_get s.bounds q ≡ Some b → a ≡ x q → can_mend p b a rate ≡ false → ¬ (CanMend s x p q rate)
 mend_false s x q Basic b a rate e f h = λ k. k

@@ -1,10 +1,10 @@
 -- What the test for crossed bounds tells.
-use Rattle.std.proofs.Common.{◌≡◌, ◌∙◌, ℕ, ◌+◌, ◌<◌, sym, ap, subst, arith, Bool, true, false, Option, Some, None, IfSome, slice_get}
+use Rattle.std.proofs.Common.{◌≡◌, ◌∙◌, ℕ, ◌<◌, sym, ap, arith, Bool, true, false, Option, Some, None, slice_get}
 use Rattle.std.specs.Prelude.{option_and_then}
-use Rattle.std.proofs.Math.Decide.{ℕ_discrete, dec_lt}
+use Rattle.std.proofs.Math.Decide.{dec_lt}
 use Rattle.std.proofs.lemmas.Option.{slice_get_past}
-use Rattle.rational.specs.Rational.{Rational, ◌≤ℚ◌}
-use Rattle.rational.proofs.Laws.{less_true, less_false}
+use Rattle.rational.specs.Rational.{Rational}
+use Rattle.rational.proofs.Laws.{less_true}
 use Rattle.basis.specs.System.{Bounds, System, size, lower_of, upper_of, IsSystem, AreBoundsInOrder}
 use Rattle.basis.specs.Weights.{IsContradictory}
 use Rattle.simplex.specs.Crossed.{are_crossed, IsInOrder}

@@ -7,24 +7,25 @@ use Rattle.milp.specs.Form.{number_at}
 use Rattle.rational.specs.Compare.{is_less}
 use Rattle.rational.proofs.Laws.{less_true, less_false}
 use Rattle.verdicts.proofs.Laws.{minus_one-mul}
-use Rattle.basis.specs.System.{Bounds, System, size, lower_of, upper_of}
+use Rattle.basis.specs.System.{Bounds, System, size}
 use Rattle.basis.specs.Dictionary.{IsBasic, IsResting, RestsAt, rate_of, gain_of}
 use Rattle.basis.specs.Bland.{exchanged, IsOutside, HasPassed, IsLeast, Improves, MendStep, ImproveStep, IsHeading, IsDirection, Reaches, ReachesNone, BlandStep, IsOptimalBasis}
+use Rattle.basis.specs.Operations.{IsBoundAt, IsRunOperation}
 use Rattle.basis.specs.Relaxation.{IsUnboundedBasis}
 use Rattle.basis.specs.declared.Place.{Place}
 use Rattle.basis.specs.declared.Place.TheVariants.{Basic, AtLower, AtUpper, AtZero}
-use Rattle.basis.proofs.Laws.{length_operation, neg_above, neg_below, mend_exchanges, improve_exchanges, none_outside_inside, basic_known}
+use Rattle.basis.proofs.Laws.{neg_above, neg_below, mend_exchanges, improve_exchanges, none_outside_inside, basic_known}
 use Rattle.fraction.specs.declared.frac.NoFit.{NoFit}
 use Rattle.dictionary.specs.Table.{Table, dictionary_of}
 use Rattle.dictionary.specs.Values.{direction_of}
-use Rattle.simplex.specs.Ratio.{turned, along, IsStepFault, IsLengthFault, IsFirstReach}
+use Rattle.simplex.specs.Ratio.{turned, along, IsStepFault, IsWayFault, IsLengthFault, IsFirstReach}
 use Rattle.simplex.specs.Run.{IsRunFault}
 use Rattle.simplex.specs.Steps.{IsReached, IsStep, bound_at}
 use Rattle.simplex.specs.declared.ratio.Reach.{Reach}
 use Rattle.simplex.specs.declared.decision.Step.{Step}
 use Rattle.simplex.proofs.Choices.{lower_at, upper_at}
 use Rattle.dictionary.proofs.Laws.{is_direction}
-use Rattle.simplex.proofs.RatioLemmas.{length_fault}
+use Rattle.simplex.proofs.RatioLemmas.{way_fault}
 
 pub if_err : {X : Type 0} (r : Result X NoFit) (P R : NoFit → Type 0) → ((e : NoFit) → P e → R e) → IfErr r P → IfErr r R
 if_err (Ok u) P R f h = tt
@@ -56,11 +57,11 @@ turned_direction t q rises h = let d = is_direction t q h in record {
 -- ---- bounds that are passed
 
 pub bound_rests : (s : System) (x : ℕ → Rational) (v : ℕ) (p : Place) (b : Bounds) (o : Option Rational) (bound : Rational) → HasPassed s x v p → slice_get s.bounds v ≡ Some b → o ≡ bound_at b p → o ≡ Some bound
-    → (lower_of s v ≡ Some bound) ⊎ (upper_of s v ≡ Some bound)
+    → IsBoundAt s v p bound
 bound_rests s x v Basic b o bound h e f g = absurd h
 bound_rests s x v AtZero b o bound h e f g = absurd h
-bound_rests s x v AtLower b o bound h e f g = inl (lower_at s v b e ∙ sym f ∙ g)
-bound_rests s x v AtUpper b o bound h e f g = inr (upper_at s v b e ∙ sym f ∙ g)
+bound_rests s x v AtLower b o bound h e f g = lower_at s v b e ∙ sym f ∙ g
+bound_rests s x v AtUpper b o bound h e f g = upper_at s v b e ∙ sym f ∙ g
 
 pub mend_moves : (s : System) (t : Table) (xs : List Rational) (q v : ℕ) (p : Place) → MendStep s t.places (number_at xs) (dictionary_of t) q v p → ¬ ((direction_of t q v).numerator ≡ pos 0)
 mend_moves s t xs q v p m = let k = mend_exchanges s t.places (number_at xs) (dictionary_of t) q v p m in
@@ -69,9 +70,9 @@ mend_moves s t xs q v p m = let k = mend_exchanges s t.places (number_at xs) (di
 -- ---- from a state of a run
 
 module _ (s : System) (t : Table) (xs : List Rational) (bases : List (List Place)) (at : IsReached s t xs bases) where
-  pub run_fault : (q : ℕ) (e : NoFit) → IsLengthFault s xs t q e → IsRunFault s e
-  run_fault q e f = record {
-    operation = λ integer. length_operation s integer t.places at.before (dictionary_of t) (number_at xs) q at.is_state.is_run at.is_state.is_dictionary at.is_state.is_point e.a e.b f.operation;
+  mending_fault : (q v : ℕ) (p : Place) (bound : Rational) (e : NoFit) → MendStep s t.places (number_at xs) (dictionary_of t) q v p → IsBoundAt s v p bound → IsWayFault xs t q v bound e → IsRunFault s e
+  mending_fault q v p bound e m at_bound f = record {
+    operation = IsRunOperation.of_mending t.places at.before (dictionary_of t) (number_at xs) q v p bound at.is_state.is_run at.is_state.is_dictionary at.is_state.is_point m at_bound f.operation;
     not_fit = f.not_fit;
   }
 
@@ -83,7 +84,7 @@ module _ (s : System) (t : Table) (xs : List Rational) (bases : List (List Place
       → o ≡ bound_at b p → o ≡ Some bound → (v < size s → a ≡ number_at xs v) → IfErr r (IsStepFault t q v a bound) → IfErr r (IsRunFault s)
   way_back_fault q v p b o a bound r m e f g read h =
       let known = basic_below v m.first_outside.holds.basic in
-      if_err r (IsStepFault t q v a bound) (IsRunFault s) (λ d k. run_fault q d (length_fault s t xs q v a bound d known (bound_rests s (number_at xs) v p b o bound m.passed e f g) (read known) k)) h
+      if_err r (IsStepFault t q v a bound) (IsRunFault s) (λ d k. mending_fault q v p bound d m (bound_rests s (number_at xs) v p b o bound m.passed e f g) (way_fault t xs q v a bound d (read known) k)) h
 
   bland_step : (step : Step)
       → MendStep s t.places (number_at xs) (dictionary_of t) step.enters step.leaves step.place ⊎ ImproveStep s t.places (number_at xs) (dictionary_of t) step.enters step.leaves step.place
@@ -124,6 +125,14 @@ module _ (s : System) (t : Table) (xs : List Rational) (bases : List (List Place
 
           rises_by : neg_ℚ gain <ℚ zero_ℚ → zero_ℚ <ℚ gain
           rises_by w = subst (λ g. zero_ℚ <ℚ g) (Q.neg_neg gain) (neg_below (neg_ℚ gain) w)
+
+  pub improving_fault : (q : ℕ) (rises : Bool) (gain : Rational) (e : NoFit) → ((v : ℕ) → ¬ (IsOutside s t.places (number_at xs) v)) → IsLeast (Improves s t.places (number_at xs) (dictionary_of t)) q
+      → gain ≡ gain_of (dictionary_of t) q → rises ≡ is_less gain zero_ℚ → IsLengthFault s xs t q rises e → IsRunFault s e
+  improving_fault q rises gain e inside first g r f = record {
+    operation = IsRunOperation.of_improving t.places at.before (dictionary_of t) (number_at xs) q (turned rises one_ℚ) (along t q rises) f.variable f.bound at.is_state.is_run at.is_state.is_dictionary at.is_state.is_point
+        inside first (heads q rises gain g r first.holds) (turned_direction t q rises first.holds.resting) f.known f.ahead f.fault.operation;
+    not_fit = f.fault.not_fit;
+  }
 
   pub is_optimal : ((v : ℕ) → ¬ (IsOutside s t.places (number_at xs) v)) → ((q : ℕ) → ¬ (Improves s t.places (number_at xs) (dictionary_of t) q)) → IsOptimalBasis s t.places (dictionary_of t) (number_at xs)
   is_optimal inside none = record {

@@ -1,34 +1,26 @@
 -- What the ends of a run tell of a node.
-use Rattle.std.proofs.Common.{◌≡◌, ◌∙◌, ℕ, ◌<◌, ◌≤◌, ◌≢◌, List, length, refl, sym, ap, subst, arith, ◌⊎◌, inl, inr}
-use Rattle.std.specs.Prelude.{pos, negsuc, Bool, true, false, Result, Ok, Err, IfErr, IsErrAnd}
-use Rattle.std.proofs.Math.Decide.{ℕ_discrete}
-use Rattle.std.proofs.lemmas.List.{take_all}
-use Rattle.rational.specs.Rational.{Rational, one_ℚ, whole, ◌*ℚ◌}
-use Rattle.rational.proofs.Laws as Q
-use Rattle.verdicts.proofs.Laws.{minus_one-mul}
+use Rattle.std.proofs.Common.{◌≡◌, ◌∙◌, ℕ, ◌≤◌, List, length, sym, ap, subst, arith}
+use Rattle.std.specs.Prelude.{Bool, Result, Ok, Err, IfErr, IsErrAnd}
+use Rattle.rational.specs.Rational.{Rational}
 use Rattle.milp.specs.Form.{number_at}
 use Rattle.milp.specs.Problem.{Column, Problem}
 use Rattle.verdicts.specs.Certificate.{Side, Weights, Derived}
 use Rattle.basis.specs.System.{System, size}
-use Rattle.basis.specs.Dictionary.{place_of, IsBasic, rate_of}
-use Rattle.basis.specs.Bland.{IsHeading}
-use Rattle.basis.specs.Node.{system_of, integer_at}
-use Rattle.rational.specs.Denominators.{common_denominator}
-use Rattle.basis.specs.Weights.{weights_of, contradiction_weights, numbers_from, IsContradictory, IsDirectionOfRun}
-use Rattle.basis.specs.Numbers.{IsSiteNumber, IsSitePair, IsRunBase, IsCoefficient, IsRunCommon, IsProblemNumber, IsNodeBase, run_numbers, node_numbers}
+use Rattle.basis.specs.Node.{system_of}
+use Rattle.basis.specs.Weights.{weights_of, contradiction_weights, numbers_from, IsContradictory}
+use Rattle.basis.specs.Operations.{IsNodeOperation}
 use Rattle.basis.specs.Relaxation.{IsBlocked, IsOptimalRelaxation, IsInfeasibleRelaxation, IsUnboundedRelaxation}
 use Rattle.basis.specs.declared.Place.{Place}
 use Rattle.basis.specs.declared.Place.TheVariants.{Basic, AtLower, AtUpper, AtZero}
-use Rattle.basis.proofs.Laws.{node_size, pair_within, run_within_node}
+use Rattle.basis.proofs.Laws.{node_size}
 use Rattle.fraction.specs.declared.frac.NoFit.{NoFit}
-use Rattle.search_node.specs.Faults.{IsSiteFault}
-use Rattle.dictionary.specs.Table.{Table, is_basic, dictionary_of}
+use Rattle.dictionary.specs.Table.{Table, dictionary_of, operation_of}
 use Rattle.simplex.specs.Ratio.{along}
 use Rattle.simplex.specs.Narrowed.{AreSplitFaults}
-use Rattle.simplex.specs.Rays.{IsFault, IsRayFault, numbers_to_be_whole, whole_ray}
+use Rattle.simplex.specs.Rays.{IsFault, IsRayFault, whole_ray}
 use Rattle.simplex.specs.Sources.{weights_from}
 use Rattle.simplex.specs.Run.{IsEnded, IsFaultOf}
-use Rattle.simplex.specs.Answer.{IsNodeStop, source_of, stop_of}
+use Rattle.simplex.specs.Answer.{IsNodeFault, IsNodeStop, source_of, stop_of}
 use Rattle.simplex.specs.declared.fault.Fault.{Fault}
 use Rattle.simplex.specs.declared.fault.Fault.TheVariants as F
 use Rattle.simplex.specs.declared.runs.End.TheVariants.{Optimal, Blocked, Endless}
@@ -36,8 +28,6 @@ use Rattle.simplex.specs.declared.runs.RunFault.{RunFault}
 use Rattle.simplex.specs.declared.runs.RunFault.TheVariants as R
 use Rattle.simplex.specs.declared.weights.Source.{Source}
 use Rattle.simplex.specs.declared.weights.Source.TheVariants as W
-use Rattle.simplex.proofs.Choices.{is_resting}
-use Rattle.dictionary.proofs.Laws.{basic_test}
 
 -- ---- faults on their way
 
@@ -100,62 +90,17 @@ module _ (p : Problem) (ds : List Derived) (sides : List Side) where
     abbrev r : ℕ → Rational
     r = along t q rises
 
-    abbrev of_run : IsDirectionOfRun s r
-    of_run = record {
-      basis = t.places;
-      before = h.is_end.before;
-      is_run = h.is_end.is_run;
-      dictionary = dictionary_of t;
-      is_dictionary = h.is_end.is_dictionary;
-      mover = q;
-      resting = h.is_end.first_improving.holds.resting;
-      heading = h.is_end.heading;
-      up_or_down = up_or_down h.is_end.is_heading;
-      is_direction = h.is_end.is_direction;
-    }
-      where
-        up_or_down : IsHeading (dictionary_of t) q h.is_end.heading → (h.is_end.heading ≡ one_ℚ) ⊎ (h.is_end.heading ≡ whole (negsuc 0))
-        up_or_down (inl k) = inl k.1
-        up_or_down (inr k) = inr k.1
-
-    headed : (a rate : Rational) → IsCoefficient s rate → (a ≡ one_ℚ) ⊎ (a ≡ whole (negsuc 0)) → IsRunBase s (integer_at p) (a *ℚ rate)
-    headed a rate c (inl e) = IsRunBase.coefficient (subst (IsCoefficient s) (sym (ap (λ u. u *ℚ rate) e ∙ Q.one-mul rate)) c)
-    headed a rate c (inr e) = IsRunBase.minus_coefficient rate c (ap (λ u. u *ℚ rate) e ∙ minus_one-mul rate)
-
-    unit_base : (a : Rational) → (a ≡ one_ℚ) ⊎ (a ≡ whole (negsuc 0)) → IsRunBase s (integer_at p) a
-    unit_base a (inl e) = IsRunBase.one_number e
-    unit_base a (inr e) = IsRunBase.minus_one e
-
-    base : (j : ℕ) → j < length t.places → IsRunBase s (integer_at p) (r j)
-    base j k = elim (ℕ_discrete j q) [
-      | yes same ↦ subst (IsRunBase s (integer_at p)) (sym (ap r same ∙ of_run.is_direction.mover)) (unit_base of_run.heading of_run.up_or_down)
-      | no differ ↦ go differ (is_basic (place_of t.places j)) refl
-    ]
-      where
-        go : j ≢ q → (u : Bool) → is_basic (place_of t.places j) ≡ u → IsRunBase s (integer_at p) (r j)
-        go n true e =
-            let basic : IsBasic t.places j = basic_test (place_of t.places j) e in
-            subst (IsRunBase s (integer_at p)) (sym (of_run.is_direction.basics j basic))
-            (headed of_run.heading (rate_of (dictionary_of t) q j) (IsCoefficient.of_row t.places of_run.before (dictionary_of t) j q of_run.is_run of_run.is_dictionary basic refl) of_run.up_or_down)
-        go n false e = IsRunBase.zero_number (of_run.is_direction.others j (is_resting t.places j k e) n)
-
-    common : IsRunCommon s (integer_at p) (numbers_to_be_whole p.columns r)
-    common = IsRunCommon.along_direction r of_run refl
-
-    ray_site : (f : NoFit) → IsRayFault p.columns r f → IsSiteFault (node_numbers p ds sides) f
+    ray_site : (f : NoFit) → IsRayFault p.columns r f → IsNodeFault p ds sides f
     ray_site f (IsRayFault.denominators d) = record {
-      numbers = pair_within (run_numbers s (integer_at p)) (node_numbers p ds sides) (run_within_node p ds sides) f.a f.b
-          (IsSitePair.next_denominator (numbers_to_be_whole p.columns r) d.index d.number common d.fault.left d.is_number d.fault.right);
+      operation = IsNodeOperation.of_denominators t.places (dictionary_of t) (number_at values) q r d.index d.number h.is_end d.is_number d.fault.left d.fault.right;
       not_fit = d.fault.not_fit;
     }
     ray_site f (IsRayFault.product j k d) = record {
-      numbers = pair_within (run_numbers s (integer_at p)) (node_numbers p ds sides) (run_within_node p ds sides) f.a f.b
-          (IsSitePair.left_base (subst (IsRunBase s (integer_at p)) (sym d.left) (base j (let e = h.places in let z = columns_inside (length t.places) h.places in omega arith)))
-          (IsSiteNumber.denominator (numbers_to_be_whole p.columns r) (length (numbers_to_be_whole p.columns r)) common (d.right ∙ ap (λ l. whole (pos (common_denominator 1 l))) (sym (take_all (length (numbers_to_be_whole p.columns r)) (numbers_to_be_whole p.columns r) (omega arith))))));
+      operation = IsNodeOperation.of_ray t.places (dictionary_of t) (number_at values) q r j h.is_end k d.left (ap operation_of d.times) d.right;
       not_fit = d.not_fit;
     }
 
-    pub ray_fault : (columns : List Column) (f : NoFit) → columns ≡ p.columns → IsRayFault columns r f → IsSiteFault (node_numbers p ds sides) f
+    pub ray_fault : (columns : List Column) (f : NoFit) → columns ≡ p.columns → IsRayFault columns r f → IsNodeFault p ds sides f
     ray_fault columns f same fault = ray_site f (subst (λ (cs : List Column). IsRayFault cs r f) same fault)
 
   -- ---- stops
@@ -164,13 +109,13 @@ module _ (p : Problem) (ds : List Derived) (sides : List Side) where
   run_stop now limit e same h = go e (subst (λ (z : System). IsFaultOf z limit e) same h)
     where
       go : (g : RunFault) → IsFaultOf s limit g → IsNodeStop p ds sides limit g
-      go (R.NoFit f) k = record { numbers = pair_within (run_numbers s (integer_at p)) (node_numbers p ds sides) (run_within_node p ds sides) f.a f.b (k.operation (integer_at p)); not_fit = k.not_fit }
+      go (R.NoFit f) k = record { operation = IsNodeOperation.of_run k.operation; not_fit = k.not_fit }
       go (R.PivotLimit bases) k = k
       go R.NoMemory k = tt
 
-  split_site : (f : NoFit) → AreSplitFaults sides f → IsSiteFault (node_numbers p ds sides) f
+  split_site : (f : NoFit) → AreSplitFaults sides f → IsNodeFault p ds sides f
   split_site f h = record {
-    numbers = IsSitePair.left_base (IsNodeBase.of_problem (IsProblemNumber.of_split h.index h.side h.is_side h.fault.left)) (IsSiteNumber.base_number (IsNodeBase.of_run (IsRunBase.one_number h.fault.right)));
+    operation = IsNodeOperation.above_split h.index h.side h.is_side h.fault.left (ap operation_of h.fault.adds) h.fault.right;
     not_fit = h.fault.not_fit;
   }
 

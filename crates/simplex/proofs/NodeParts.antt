@@ -1,13 +1,10 @@
 -- The system of a node, from its parts.
-use Rattle.std.proofs.Common.{◌≡◌, ◌∙◌, ℕ, zero, suc, ◌+◌, ◌<◌, ◌≤◌, ◌&&◌, nat_le, nat_lt, not, List, [], ◌∷◌, ◌++◌, length, map, drop, refl, sym, ap, arith, true, Option, Some, IfSome, slice_get}
-use Rattle.std.specs.Prelude.{negsuc, option_and_then}
+use Rattle.std.proofs.Common.{◌≡◌, ◌∙◌, ℕ, zero, suc, ◌+◌, ◌<◌, ◌&&◌, nat_le, nat_lt, not, List, [], ◌∷◌, ◌++◌, length, map, drop, refl, sym, ap, arith, true, Option, Some, IfSome, slice_get}
+use Rattle.std.specs.Prelude.{option_and_then}
 use Rattle.std.specs.List.{list_all, AllByRecursion}
 use Rattle.std.proofs.lemmas.Bool.{and_parts, leb-true}
-use Rattle.std.proofs.lemmas.Bool.Decides.{nat_tests}
 use Rattle.std.proofs.lemmas.List.{drop_all}
-use Rattle.rational.specs.Rational.{Rational, one_ℚ, whole, neg_ℚ, ◌*ℚ◌}
-use Rattle.rational.proofs.Laws as Q
-use Rattle.verdicts.proofs.Laws.{minus_one-mul}
+use Rattle.rational.specs.Rational.{Rational}
 use Rattle.milp.specs.Form.{Entry}
 use Rattle.milp.specs.declared.Direction.{Direction}
 use mathlib.Core.Path.{ap₂}

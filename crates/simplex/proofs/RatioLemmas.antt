@@ -12,6 +12,7 @@ use Rattle.basis.specs.System.{Bounds, System, size, lower_of, upper_of}
 use Rattle.basis.specs.Dictionary.{place_of, rate_of}
 use Rattle.basis.specs.Bland.{Reaches}
 use Rattle.basis.specs.Pivots.{IsLengthOperation}
+use Rattle.basis.specs.Operations.{LiesAhead}
 use Rattle.basis.specs.declared.Place.{Place}
 use Rattle.basis.specs.declared.Place.TheVariants.{Basic, AtLower, AtUpper, AtZero}
 use Rattle.basis.proofs.Laws.{above_some, below_some, not_le, zero_numerator, arrives}
@@ -21,7 +22,7 @@ use Rattle.fraction.specs.declared.frac.Op.TheVariants.{Sub, Div}
 use Rattle.fraction.specs.declared.frac.NoFit.{NoFit}
 use Rattle.dictionary.specs.Table.{Table, is_basic, dictionary_of}
 use Rattle.dictionary.specs.Values.{direction_of}
-use Rattle.simplex.specs.Ratio.{turned, along, bound_ahead, IsReach, IsLengthFault, IsStepFault, IsReachOf, IsFirstReach, sooner_reach, sooner_of}
+use Rattle.simplex.specs.Ratio.{turned, along, bound_ahead, IsReach, IsWayFault, IsLengthFault, IsStepFault, IsReachOf, IsFirstReach, sooner_reach, sooner_of}
 use Rattle.simplex.specs.declared.ratio.Reach.{Reach}
 use Rattle.simplex.proofs.Choices.{lower_at, upper_at}
 use Rattle.dictionary.proofs.Laws.{direction-self, direction-basic}
@@ -133,11 +134,11 @@ ahead_moves s v c a AtZero h = absurd h
 ahead_moves s v c a AtLower h = below_some c h.0
 ahead_moves s v c a AtUpper h = above_some c h.0
 
-ahead_bound : (s : System) (v : ℕ) (c a : Rational) (p : Place) → IsAhead s v c a p → (lower_of s v ≡ Some a) ⊎ (upper_of s v ≡ Some a)
-ahead_bound s v c a Basic h = absurd h
-ahead_bound s v c a AtZero h = absurd h
-ahead_bound s v c a AtLower h = inl h.1
-ahead_bound s v c a AtUpper h = inr h.1
+ahead_lies : (s : System) (v : ℕ) (c a : Rational) (p : Place) → IsAhead s v c a p → LiesAhead s v c a
+ahead_lies s v c a Basic h = absurd h
+ahead_lies s v c a AtZero h = absurd h
+ahead_lies s v c a AtLower h = inr h
+ahead_lies s v c a AtUpper h = inl h
 
 -- ---- the reach of one variable
 
@@ -178,11 +179,10 @@ turned_some : (rises : Bool) (c : Rational) → ¬ ((turned rises c).numerator �
 turned_some true c h = h
 turned_some false c h = λ e. h (zero_turned c e)
 
-pub length_fault : (s : System) (t : Table) (xs : List Rational) (q v : ℕ) (x bound : Rational) (e : NoFit) → v < size s → (lower_of s v ≡ Some bound) ⊎ (upper_of s v ≡ Some bound) → x ≡ number_at xs v → IsStepFault t q v x bound e
-    → IsLengthFault s xs t q e
-length_fault s t xs q v x bound e known is_bound read (IsStepFault.way named fit) = rw named (record { operation = IsLengthOperation.way v known is_bound read; not_fit = fit })
-length_fault s t xs q v x bound e known is_bound read (IsStepFault.length basic fault) = rw fault.named
-    (record { operation = IsLengthOperation.length v bound known is_bound basic (ap (λ k. bound -ℚ k) read) refl; not_fit = fault.not_fit })
+pub way_fault : (t : Table) (xs : List Rational) (q v : ℕ) (x bound : Rational) (e : NoFit) → x ≡ number_at xs v → IsStepFault t q v x bound e → IsWayFault xs t q v bound e
+way_fault t xs q v x bound e read (IsStepFault.way named fit) = rw named (record { operation = IsLengthOperation.way refl refl read; not_fit = fit })
+way_fault t xs q v x bound e read (IsStepFault.length basic fault) = rw fault.named
+    (record { operation = IsLengthOperation.length basic (ap (λ k. bound -ℚ k) read) refl refl; not_fit = fault.not_fit })
 
 module _ (s : System) (t : Table) (xs : List Rational) (q : ℕ) (rises : Bool) (v : ℕ) (b : Bounds) (c rate : Rational) (o : Option (Rational × Place))
     (is_change : c ≡ direction_of t q v) (is_rate : rate ≡ turned rises c) (are_bounds : slice_get s.bounds v ≡ Some b) (ahead : o ≡ bound_ahead b rate) where
@@ -207,8 +207,8 @@ module _ (s : System) (t : Table) (xs : List Rational) (q : ℕ) (rises : Bool) 
         (g ∙ ap (λ k. k +ℚ step *ℚ direction_of t q v) f ∙ ap (λ k. number_at xs v +ℚ k) (turned_product rises step (direction_of t q v) ∙ ap (λ k. k *ℚ along t q rises v) (sym h))),
   )
 
-  pub reach_fault : (w : Rational × Place) (x : Rational) (e : NoFit) → o ≡ Some w → v < size s → x ≡ number_at xs v → IsStepFault t q v x w.0 e → IsLengthFault s xs t q e
-  reach_fault w x e f known read fault = length_fault s t xs q v x w.0 e known (ahead_bound s v (along t q rises v) w.0 w.1 (some_ahead w f)) read fault
+  pub reach_fault : (w : Rational × Place) (x : Rational) (e : NoFit) → o ≡ Some w → v < size s → x ≡ number_at xs v → IsStepFault t q v x w.0 e → IsLengthFault s xs t q rises e
+  reach_fault w x e f known read fault = record { variable = v; bound = w.0; known = known; ahead = ahead_lies s v (along t q rises v) w.0 w.1 (some_ahead w f); fault = way_fault t xs q v x w.0 e read fault }
 
 -- ---- the first of all
 

@@ -1,7 +1,7 @@
 -- States of a run: the first one, and what a step makes of one.
-use Rattle.std.proofs.Common.{◌≡◌, ◌∙◌, ℕ, ◌+◌, ◌<◌, ◌≢◌, List, [], ◌∷◌, length, refl, sym, ap, subst, arith, Bool, false, Option, Some, None, IfSome, slice_get, inl, inr}
-use Rattle.std.specs.Prelude.{pos, option_map, Result, Ok, Err, IfOk, IfErr, IsErrAnd}
-use Rattle.std.proofs.lemmas.Option.{slice_get-map, slice_get_within}
+use Rattle.std.proofs.Common.{◌≡◌, ◌∙◌, ℕ, ◌+◌, ◌<◌, ◌≢◌, List, [], ◌∷◌, length, refl, sym, ap, subst, arith, false, Option, Some, None, IfSome, slice_get, inl, inr}
+use Rattle.std.specs.Prelude.{pos, Result, Ok, Err, IfOk, IfErr, IsErrAnd}
+use Rattle.std.proofs.lemmas.Option.{slice_get_within}
 use Rattle.rational.specs.Rational.{Rational, one_ℚ, ◌+ℚ◌, ◌*ℚ◌}
 use Rattle.milp.specs.Form.{Entry, value_at, number_at}
 use Rattle.verdicts.specs.WeightedSums.{AllBelow}
@@ -9,17 +9,18 @@ use Rattle.basis.specs.System.{System, size, IsSystem, AreBoundsInOrder}
 use Rattle.basis.specs.Dictionary.{place_of, IsBasic, IsResting, IsDictionary, RestsAt, IsBasicPoint, rate_of}
 use Rattle.basis.specs.Bland.{exchanged, IsStart, IsRun, start_point}
 use Rattle.basis.specs.Pivots.{IsPivoted, IsMoveOperation}
-use Rattle.basis.specs.Numbers.{IsSitePair, IsRunBase, IsRunProducts, IsGivenNumber, IsSiteNumber, IsPointOfRun, products_of, prefix_sum, run_numbers}
+use Rattle.basis.specs.Operations.{IsSumOperation, IsRunOperation}
+use Rattle.basis.specs.Numbers.{products_of, prefix_sum}
 use Rattle.basis.specs.declared.Place.{Place}
 use Rattle.basis.specs.declared.Place.TheVariants.{Basic}
-use Rattle.basis.proofs.Laws.{pivot_operation, move_operation, pivot_keeps, basic_known, point_after, same_below, start_is_point}
+use Rattle.basis.proofs.Laws.{pivot_keeps, basic_known, point_after, same_below, start_is_point}
 use Rattle.fraction.specs.Answers.{result_fits}
 use Rattle.fraction.specs.declared.frac.NoFit.{NoFit}
 use Rattle.search_node.specs.Bases.{next_bases}
 use Rattle.search_node.specs.declared.bases.Exchange.{Exchange}
 use Rattle.dictionary.specs.Rows.{IsProductOrSum}
 use Rattle.dictionary.specs.Sums.{IsTermFault, IsStartFault, AreStartNumbers}
-use Rattle.dictionary.specs.Table.{Table, dictionary_of, IsPivotFault}
+use Rattle.dictionary.specs.Table.{Table, dictionary_of, operation_of, IsPivotFault}
 use Rattle.dictionary.specs.Values.{direction_of, AreMoved, IsVariableFault}
 use Rattle.simplex.specs.Run.{IsRunFault, IsFaultOf}
 use Rattle.simplex.specs.Steps.{IsReached, CanLeave, IsStep, IsStepOperation, IsStepFailure}
@@ -27,7 +28,7 @@ use Rattle.simplex.specs.declared.decision.Step.{Step}
 use Rattle.simplex.specs.declared.runs.RunFault.{RunFault}
 use Rattle.simplex.specs.declared.runs.RunFault.TheVariants.{NoFit as NotFitting, PivotLimit, NoMemory}
 use Rattle.simplex.proofs.DecisionLemmas.{if_err}
-use Rattle.dictionary.proofs.Laws.{is_direction, entry_below, is_over_resting}
+use Rattle.dictionary.proofs.Laws.{is_direction, is_over_resting}
 
 pub failed : {X : Type 0} (r : Result X RunFault) (f : RunFault) (P : RunFault → Type 0) → IsErrAnd r (λ d. d ≡ f) → P f → IfErr r P
 failed (Ok u) f P h p = tt
@@ -35,37 +36,15 @@ failed (Err d) f P h p = subst P (sym h) p
 
 -- ---- the first state
 
-module _ (s : System) (b : List Place) (is_system : IsSystem s) (start : IsStart s b) where
-  point_of_run : IsPointOfRun s (start_point s)
-  point_of_run = record { basis = b; before = []; is_run = start; is_point = start_is_point s b is_system start }
+start_operation : (s : System) (b : List Place) (k : ℕ) (form : List Entry) (i : ℕ) (entry : Entry) (e : NoFit) → IsStart s b → slice_get s.forms k ≡ Some form → slice_get form i ≡ Some entry
+    → IsTermFault (prefix_sum (products_of form (start_point s)) i) entry.coefficient (start_point s entry.column) e → IsRunFault s e
+start_operation s b k form i entry e start is_form is_entry (IsTermFault.product named fit) =
+    rw named (record { operation = IsRunOperation.at_start b k form start is_form (IsSumOperation.product i entry is_entry refl refl refl); not_fit = fit })
+start_operation s b k form i entry e start is_form is_entry (IsTermFault.sum named fit) =
+    rw named (record { operation = IsRunOperation.at_start b k form start is_form (IsSumOperation.sum i entry is_entry refl refl refl); not_fit = fit })
 
-  module _ (integer : ℕ → Bool) (k : ℕ) (form : List Entry) (i : ℕ) (entry : Entry) (is_form : slice_get s.forms k ≡ Some form) (is_entry : slice_get form i ≡ Some entry) where
-    given : IsRunBase s integer entry.coefficient
-    given = IsRunBase.given (IsGivenNumber.of_form k form i entry is_form is_entry refl)
-
-    below : entry.column < size s
-    below = let P : Option (List Entry) → Type 0 = λ o. IfSome o (AllBelow s.columns) in
-        let h = entry_below s.columns form i entry (subst P is_form (is_system.forms k)) is_entry in omega arith
-
-    coordinate : IsRunBase s integer (start_point s entry.column)
-    coordinate = IsRunBase.coordinate (record { point = start_point s; is_point = point_of_run; variable = entry.column; known = below; same = refl })
-
-    next_term : slice_get (products_of form (start_point s)) i ≡ Some (entry.coefficient *ℚ start_point s entry.column)
-    next_term = slice_get-map (λ (e : Entry). e.coefficient *ℚ start_point s e.column) form i ∙ ap (option_map (λ (e : Entry). e.coefficient *ℚ start_point s e.column)) is_entry
-
-    term_operation : (e : NoFit) → IsTermFault (prefix_sum (products_of form (start_point s)) i) entry.coefficient (start_point s entry.column) e → IsSitePair (run_numbers s integer) e.a e.b
-    term_operation e (IsTermFault.product named fit) = rw named (IsSitePair.left_base given (IsSiteNumber.base_number coordinate))
-    term_operation e (IsTermFault.sum named fit) = rw named (IsSitePair.next_product (products_of form (start_point s)) i (IsRunProducts.along_form k form (start_point s) is_form (inl point_of_run) refl) refl next_term)
-
-  term_fit : (total a c : Rational) (e : NoFit) → IsTermFault total a c e → result_fits e ≡ false
-  term_fit total a c e (IsTermFault.product named fit) = rw named fit
-  term_fit total a c e (IsTermFault.sum named fit) = rw named fit
-
-  pub start_run_fault : (e : NoFit) → IsStartFault s e → IsRunFault s e
-  start_run_fault e f = record {
-    operation = λ integer. term_operation integer f.index f.form f.fault.index f.fault.entry f.is_form f.fault.is_entry e f.fault.fault;
-    not_fit = term_fit _ _ _ e f.fault.fault;
-  }
+pub start_run_fault : (s : System) (b : List Place) (e : NoFit) → IsStart s b → IsStartFault s e → IsRunFault s e
+start_run_fault s b e start f = start_operation s b f.index f.form f.fault.index f.fault.entry e start f.is_form f.fault.is_entry f.fault.fault
 
 -- ---- points with the same numbers
 
@@ -134,19 +113,19 @@ module _ (s : System) (t : Table) (xs : List Rational) (bases : List (List Place
   next_point = point_after s t.places (dictionary_of t) (number_at xs) step.enters step.leaves step.place one_ℚ step.by (direction_of t step.enters) at.is_state.is_dictionary at.is_state.is_point
       (is_direction t step.enters is_step.enters) is_step.enters.known leaves_known is_step.lands
 
-  variable_operation : (v : ℕ) (e : NoFit) → v < length xs → IsVariableFault t step.enters step.by v (number_at xs v) e → IsMoveOperation s t.places (number_at xs) (dictionary_of t) step.enters step.by e.a e.b × (result_fits e ≡ false)
-  variable_operation v e h (IsVariableFault.mover same named fit) = rw named (IsMoveOperation.mover (ap (number_at xs) same) refl, fit)
-  variable_operation v e h (IsVariableFault.basic basic (IsProductOrSum.product named fit)) = rw named (IsMoveOperation.product v (let k = at.is_state.size in omega arith) basic refl refl, fit)
-  variable_operation v e h (IsVariableFault.basic basic (IsProductOrSum.sum named fit)) = rw named (IsMoveOperation.sum v (let k = at.is_state.size in omega arith) basic refl refl, fit)
+  variable_operation : (v : ℕ) (e : NoFit) → v < length xs → IsVariableFault t step.enters step.by v (number_at xs v) e → IsMoveOperation s t.places (number_at xs) (dictionary_of t) step.enters step.by e.a (operation_of e.op) e.b × (result_fits e ≡ false)
+  variable_operation v e h (IsVariableFault.mover same named fit) = rw named (IsMoveOperation.mover (ap (number_at xs) same) refl refl, fit)
+  variable_operation v e h (IsVariableFault.basic basic (IsProductOrSum.product named fit)) = rw named (IsMoveOperation.product v (let k = at.is_state.size in omega arith) basic refl refl refl, fit)
+  variable_operation v e h (IsVariableFault.basic basic (IsProductOrSum.sum named fit)) = rw named (IsMoveOperation.sum v (let k = at.is_state.size in omega arith) basic refl refl refl, fit)
 
   step_operation : (e : NoFit) → IsStepOperation t xs step e → IsRunFault s e
   step_operation e (IsStepOperation.move f) = let w = variable_operation f.variable e f.known f.fault in record {
-    operation = λ integer. move_operation s integer t.places (exchanged t.places step.enters step.leaves step.place) at.before (dictionary_of t) (number_at xs) step.enters step.by (direction_of t step.enters) next_run at.is_state.is_dictionary at.is_state.is_point
-        (is_direction t step.enters is_step.enters) enters_known next_point e.a e.b w.0;
+    operation = IsRunOperation.of_move t.places (exchanged t.places step.enters step.leaves step.place) at.before (dictionary_of t) (number_at xs) step.enters step.by (direction_of t step.enters) next_run at.is_state.is_dictionary at.is_state.is_point
+        (is_direction t step.enters is_step.enters) enters_known next_point w.0;
     not_fit = w.1;
   }
   step_operation e (IsStepOperation.pivot basic f) = record {
-    operation = λ integer. pivot_operation s integer t.places at.before (dictionary_of t) step.enters step.leaves step.place next_run at.is_state.is_dictionary basic is_step.enters is_step.stops some_rate e.a e.b f.operation;
+    operation = IsRunOperation.of_pivot t.places at.before (dictionary_of t) step.enters step.leaves step.place next_run at.is_state.is_dictionary basic is_step.enters is_step.stops some_rate f.operation;
     not_fit = f.not_fit;
   }
     where

@@ -3,17 +3,18 @@ use Rattle.std.specs.Prelude.{ℕ, ◌≡◌, List}
 use Rattle.milp.specs.Problem.{Problem}
 use Rattle.verdicts.specs.Certificate.{Side, Derived}
 use Rattle.basis.specs.Node.{system_of}
-use Rattle.basis.specs.Numbers.{node_numbers}
+use Rattle.basis.specs.Operations.{IsNodeOperation}
 use Rattle.basis.specs.Relaxation.{IsOptimalRelaxation, IsInfeasibleRelaxation, IsUnboundedRelaxation}
 use Rattle.basis.specs.declared.Place.{Place}
 use Rattle.basis.specs.declared.Place.TheVariants.{Basic, AtLower, AtUpper, AtZero}
-use Rattle.search_node.specs.Faults.{IsSiteFault}
+use Rattle.fraction.specs.Answers.{DoesNotFit}
+use Rattle.fraction.specs.declared.frac.NoFit.{NoFit}
 use Rattle.search_node.specs.Sides.{sides_of}
 use Rattle.search_node.specs.declared.node.Node.{Node}
 use Rattle.search_node.specs.declared.fault.Site.{Site}
 use Rattle.search_node.specs.declared.fault.Stuck.{Stuck}
 use Rattle.search_node.specs.declared.fault.Stuck.TheVariants as S
-use Rattle.dictionary.specs.Table.{dictionary_of}
+use Rattle.dictionary.specs.Table.{dictionary_of, operation_of}
 use Rattle.simplex.specs.Run.{IsLimited}
 use Rattle.simplex.specs.declared.fault.Fault.{Fault}
 use Rattle.simplex.specs.declared.fault.Fault.TheVariants as F
@@ -30,16 +31,21 @@ IsRelaxed p ds sides (Optimal best) = IsOptimalRelaxation p ds sides best.point 
 IsRelaxed p ds sides (Infeasible w) = IsInfeasibleRelaxation p ds sides w
 IsRelaxed p ds sides (Unbounded endless) = IsUnboundedRelaxation p ds sides endless.point endless.ray
 
+-- e is an operation of the simplex method at the node, and does not fit
+pub record IsNodeFault (p : Problem) (ds : List Derived) (sides : List Side) (e : NoFit) : Type 0 where
+  pub operation : IsNodeOperation p ds sides e.a (operation_of e.op) e.b
+  pub not_fit : DoesNotFit e
+
 -- why the run at the node does not end
 abbrev pub IsNodeStop : Problem → List Derived → List Side → ℕ → RunFault → Type 0
-IsNodeStop p ds sides limit (R.NoFit f) = IsSiteFault (node_numbers p ds sides) f
+IsNodeStop p ds sides limit (R.NoFit f) = IsNodeFault p ds sides f
 IsNodeStop p ds sides limit (R.PivotLimit bases) = IsLimited (system_of p ds sides) limit bases
 IsNodeStop p ds sides limit R.NoMemory = Unit {0}
 
--- the site is at the node, and its operation is on site numbers of the node and does not fit
+-- the site is at the node, and its operation is one of the simplex method there and does not fit
 pub record IsSiteOf (p : Problem) (ds : List Derived) (node : Node) (site : Site) : Type 0 where
   pub same_node : site.node ≡ node
-  pub fault : IsSiteFault (node_numbers p ds (sides_of node.splits)) site.fault
+  pub fault : IsNodeFault p ds (sides_of node.splits) site.fault
 
 -- why the node's relaxation is not solved
 abbrev pub IsStuck : Problem → List Derived → Node → ℕ → Stuck → Type 0

@@ -1,5 +1,5 @@
 -- Bounds under splits.
-use Rattle.std.specs.Prelude.{ℕ, ◌<◌, ◌≡◌, pos, ◌+ℤ◌, false, List, get_or, Some, None, IfSome, slice_get}
+use Rattle.std.specs.Prelude.{ℕ, ◌<◌, ◌≡◌, pos, ◌+ℤ◌, List, get_or, Some, None, IfSome, slice_get}
 use Rattle.rational.specs.Rational.{Rational, one_ℚ, whole}
 use Rattle.verdicts.specs.Certificate.{Side, Low, High}
 use Rattle.verdicts.specs.Proves.{lesser, greater}
@@ -7,6 +7,7 @@ use Rattle.basis.specs.System.{Bounds}
 use Rattle.basis.specs.Numbers.{at_of}
 use Rattle.fraction.specs.Answers.{DoesNotFit}
 use Rattle.fraction.specs.declared.frac.NoFit.{NoFit}
+use Rattle.fraction.specs.declared.frac.Op.TheVariants.{Add}
 use Rattle.search_node.specs.declared.node.SplitTaken.{SplitTaken}
 
 -- the bounds of a column after one more split of it
@@ -27,6 +28,7 @@ AreOnColumns n taken = (k : ℕ) → IfSome (slice_get taken k) (λ t. t.split.c
 -- f is the sum of a and 1, and does not fit
 pub record IsNextFault (a : Rational) (f : NoFit) : Type 0 where
   pub left : f.a ≡ a
+  pub adds : f.op ≡ Add
   pub right : f.b ≡ one_ℚ
   pub not_fit : DoesNotFit f
 

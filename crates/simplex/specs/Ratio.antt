@@ -6,13 +6,14 @@ use Rattle.rational.specs.Compare.{is_less}
 use Rattle.basis.specs.System.{Bounds, System, size}
 use Rattle.basis.specs.Dictionary.{IsBasic, rate_of}
 use Rattle.basis.specs.Bland.{Reaches, IsFirst, ReachesNone}
+use Rattle.basis.specs.Operations.{LiesAhead}
 use Rattle.basis.specs.Pivots.{IsLengthOperation}
 use Rattle.fraction.specs.Fits.{sum_fits}
 use Rattle.fraction.specs.Answers.{DoesNotFit}
 use Rattle.fraction.specs.declared.frac.Op.TheVariants.{Sub}
 use Rattle.fraction.specs.declared.frac.NoFit.{NoFit}
 use Rattle.dictionary.specs.Rows.{IsQuotient}
-use Rattle.dictionary.specs.Table.{Table, dictionary_of}
+use Rattle.dictionary.specs.Table.{Table, dictionary_of, operation_of}
 use Rattle.dictionary.specs.Values.{direction_of}
 use Rattle.simplex.specs.declared.ratio.Reach.{Reach}
 use Rattle.basis.specs.declared.Place.{Place}
@@ -36,10 +37,18 @@ pub record IsReach (s : System) (x r : ℕ → Rational) (v : ℕ) (t : Rational
   pub reaches : Reaches s x r t v place
   pub only : (u : Rational) (p : Place) → Reaches s x r u v p → u ≡ t
 
--- e is an operation that finds the length of a step, and does not fit
-pub record IsLengthFault (s : System) (x : List Rational) (t : Table) (q : ℕ) (e : NoFit) : Type 0 where
-  pub operation : IsLengthOperation s t.places (number_at x) (dictionary_of t) q e.a e.b
+-- e is an operation that finds how far q has to move until v is at the bound, and does not fit
+pub record IsWayFault (x : List Rational) (t : Table) (q v : ℕ) (bound : Rational) (e : NoFit) : Type 0 where
+  pub operation : IsLengthOperation t.places (number_at x) (dictionary_of t) q v bound e.a (operation_of e.op) e.b
   pub not_fit : DoesNotFit e
+
+-- e is such an operation for a variable and the bound ahead of it
+pub record IsLengthFault (s : System) (x : List Rational) (t : Table) (q : ℕ) (rises : Bool) (e : NoFit) : Type 0 where
+  pub variable : ℕ
+  pub bound : Rational
+  pub known : variable < size s
+  pub ahead : LiesAhead s variable (along t q rises variable) bound
+  pub fault : IsWayFault x t q variable bound e
 
 -- e is the way from x to the bound, or the quotient of this way by the rate of the basic variable v, and does not fit
 pub data IsStepFault (t : Table) (q v : ℕ) (x bound : Rational) (e : NoFit) : Type 0 where

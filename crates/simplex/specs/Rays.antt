@@ -9,6 +9,7 @@ use Rattle.basis.specs.Weights.{numbers_from}
 use Rattle.fraction.specs.Answers.{DoesNotFit}
 use Rattle.fraction.specs.Denominators.{IsDenominatorFault}
 use Rattle.fraction.specs.declared.frac.NoFit.{NoFit}
+use Rattle.fraction.specs.declared.frac.Op.TheVariants.{Mul}
 use Rattle.simplex.specs.declared.fault.Fault.{Fault}
 use Rattle.simplex.specs.declared.fault.Fault.TheVariants as F
 
@@ -37,6 +38,7 @@ pub record AreScaled (old : List Rational) (b : Rational) (new : List Rational) 
 -- f is the product a * b, and does not fit
 pub record IsProduct (a b : Rational) (f : NoFit) : Type 0 where
   pub left : f.a ≡ a
+  pub times : f.op ≡ Mul
   pub right : f.b ≡ b
   pub not_fit : DoesNotFit f
 

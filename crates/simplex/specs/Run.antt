@@ -1,15 +1,15 @@
 -- Runs of Bland's rule: their states and how they end.
-use Rattle.std.specs.Prelude.{ℕ, ◌≡◌, List, ◌∷◌, length, Bool, false}
+use Rattle.std.specs.Prelude.{ℕ, ◌≡◌, List, ◌∷◌, length}
 use Rattle.rational.specs.Rational.{Rational}
 use Rattle.milp.specs.Form.{number_at}
 use Rattle.basis.specs.System.{System, size}
 use Rattle.basis.specs.Dictionary.{IsDictionary, IsBasicPoint}
 use Rattle.basis.specs.Bland.{IsRun, IsOptimalBasis, IsPivotLimit}
 use Rattle.basis.specs.Relaxation.{IsBlocked, IsUnboundedBasis}
-use Rattle.basis.specs.Numbers.{IsSitePair, run_numbers}
+use Rattle.basis.specs.Operations.{IsRunOperation}
 use Rattle.fraction.specs.Answers.{DoesNotFit}
 use Rattle.fraction.specs.declared.frac.NoFit.{NoFit}
-use Rattle.dictionary.specs.Table.{Table, dictionary_of}
+use Rattle.dictionary.specs.Table.{Table, dictionary_of, operation_of}
 use Rattle.simplex.specs.Ratio.{along}
 use Rattle.simplex.specs.declared.runs.End.{End}
 use Rattle.simplex.specs.declared.runs.End.TheVariants.{Optimal, Blocked, Endless}
@@ -38,7 +38,7 @@ pub record IsEnded (s : System) (t : Table) (numbers : List Rational) (end : End
 
 -- e is an operation of a run, and does not fit
 pub record IsRunFault (s : System) (e : NoFit) : Type 0 where
-  pub operation : (integer : ℕ → Bool) → IsSitePair (run_numbers s integer) e.a e.b
+  pub operation : IsRunOperation s e.a (operation_of e.op) e.b
   pub not_fit : DoesNotFit e
 
 -- bases are all that a run of `limit` steps went through, the latest first, and one more step leads on

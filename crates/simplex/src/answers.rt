@@ -2,15 +2,13 @@
 ghost use Rattle.std.specs.Prelude.{ℕ, List, ◌≡◌, IfOk, IfErr, Ok};
 ghost use Rattle.milp.specs.Problem.{Problem};
 ghost use Rattle.verdicts.specs.Certificate.{Derived as DerivedOf};
-ghost use Rattle.search_node.specs.Faults.{IsSiteFault};
 ghost use Rattle.search_node.specs.Sides.{sides_of};
 ghost use Rattle.basis.specs.System.{AreBoundsInOrder};
 ghost use Rattle.basis.specs.Node.{system_of, IsOverColumns};
 ghost use Rattle.basis.specs.Weights.{IsContradictory};
-ghost use Rattle.basis.specs.Numbers.{node_numbers};
 ghost use Rattle.simplex.specs.Rays.{IsFault};
 ghost use Rattle.simplex.specs.Run.{IsEnded, IsFaultOf};
-ghost use Rattle.simplex.specs.Answer.{IsRelaxed, IsNodeStop, IsStuck, source_of, stop_of};
+ghost use Rattle.simplex.specs.Answer.{IsRelaxed, IsNodeFault, IsNodeStop, IsStuck, source_of, stop_of};
 ghost use Rattle.simplex.specs.declared.runs.End.TheVariants as EndOf;
 
 use crate::contradiction::{contradiction, contradiction_weights};
@@ -59,7 +57,7 @@ pub enum Relaxed {
 /// there is no point, or no best one. Contradictory bounds are found before the first step. The derived rows' forms
 /// have to be over the instance's columns, and the splits on them.
 ///
-/// `NoFit` tells of an operation on numbers of the node whose result really does not fit, `PivotLimit` that the run has
+/// `NoFit` tells of an operation of the work at the node whose result really does not fit, `PivotLimit` that the run has
 /// more than `pivot_limit` steps.
 pub fn relax(
     alloc: Global,
@@ -192,7 +190,7 @@ fn answer(
 ) -> Result<Relaxed, Fault>
     requires { IsEnded (system_of instance.now derived.now (sides_of node.now.splits)) ended.dictionary ended.values.items ended.end }
     ensures ok { IfOk result (IsRelaxed instance.now derived.now (sides_of node.now.splits)) }
-    ensures err { IfErr result (IsFault (IsSiteFault (node_numbers instance.now derived.now (sides_of node.now.splits)))) }
+    ensures err { IfErr result (IsFault (IsNodeFault instance.now derived.now (sides_of node.now.splits))) }
 {
     match ended.end {
         End::Optimal => Ok(optimal(alloc, instance, node, derived, ended)?),
@@ -263,7 +261,7 @@ fn unbounded(
 ) -> Result<Relaxed, Fault>
     requires { IsEnded (system_of instance.now derived.now (sides_of node.now.splits)) ended.now.dictionary ended.now.values.items (EndOf.Endless q rises) }
     ensures ok { IfOk result (IsRelaxed instance.now derived.now (sides_of node.now.splits)) }
-    ensures err { IfErr result (IsFault (IsSiteFault (node_numbers instance.now derived.now (sides_of node.now.splits)))) }
+    ensures err { IfErr result (IsFault (IsNodeFault instance.now derived.now (sides_of node.now.splits))) }
 {
     let columns = instance.columns();
     let point = point_of(alloc, &ended.values, columns.len())?;

@@ -31,7 +31,7 @@ pub(crate) fn first_reach(
     requires values { length values.now ≡ size system.now }
     requires resting { IsResting dictionary.now.places q }
     ensures ok { IfOk result (IsFirstReach system.now (number_at values.now) (along dictionary.now q rises)) }
-    ensures err { IfErr result (IsLengthFault system.now values.now dictionary.now q) }
+    ensures err { IfErr result (IsLengthFault system.now values.now dictionary.now q rises) }
 {
     let mut first = None;
     for v in 0..values.len() {
@@ -55,7 +55,7 @@ fn reach_of(
     requires values { length values.now ≡ size system.now }
     requires resting { IsResting dictionary.now.places q }
     ensures ok { IfOk result (IsReachOf system.now (number_at values.now) (along dictionary.now q rises) v) }
-    ensures err { IfErr result (IsLengthFault system.now values.now dictionary.now q) }
+    ensures err { IfErr result (IsLengthFault system.now values.now dictionary.now q rises) }
 {
     let rate = turned(rises, change(dictionary, q, v));
     match bound_ahead(system.bounds(v), rate) {

@@ -26,7 +26,8 @@ const DECIDED: &str =
 const PROPOSED: &str =
     "cert 1\nsize 0 2\nverdict optimal\nvalue 2\npoint 2 1\nderived 0\ntree\nbound c1:1\nend\n";
 
-fn problem_of(alloc: Global, text: &str) -> Result<Instance, Fail>
+/// The problem that a free MPS text declares.
+pub(crate) fn problem_of(alloc: Global, text: &str) -> Result<Instance, Fail>
     ensures { IfOk result (λ p. NoneInteger p.columns) }
 {
     mps_reader::declared_problems_are_continuous();

@@ -3,3 +3,5 @@
 
 #[cfg(test)]
 mod candidates;
+#[cfg(test)]
+mod shapes;

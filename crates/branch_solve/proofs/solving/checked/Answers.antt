@@ -1,5 +1,7 @@
-use Rattle.branch_solve.proofs.RootCertificates.{root_proves}
-use Rattle.branch_solve.proofs.Answered.{not_refused, part_fault}
+use Rattle.std.proofs.Common.{sym}
+use Rattle.cert_check.specs.Outcome.{part_of}
+use Rattle.branch_solve.proofs.RootCertificates.{root_proves, root_faults}
+use Rattle.branch_solve.proofs.Answered.{not_refused, at_root}
 use Rattle.branch_solve.proofs.solving.checked.Goals as goal
 
 pub unreachable-requires : goal.unreachable-requires
@@ -9,4 +11,5 @@ unreachable-requires c =
     not_refused p c.args.certificate c.in-Ok-Refused.field-0 c.in-Ok-Refused.field-0-0 proves c.in-Ok-Refused.ensures.refused c.in-Ok-Refused.field-0-is
 
 pub returns-in-Err-clause-fault : goal.returns-in-Err-clause-fault
-returns-in-Err-clause-fault c = part_fault c.args.problem.now c.args.certificate c.in-Err.fault c.keeps_its_limits.ensures.well_formed c.requires.made c.in-Err.ensures.exact
+returns-in-Err-clause-fault c =
+    at_root c.args.problem.now c.in-Err.fault.fault c.at_root.result c.at_root.ensures (root_faults c.args.problem.now c.args.certificate c.requires.made (part_of c.in-Err.fault.part) c.in-Err.fault.fault (sym c.in-Err.ensures.exact))

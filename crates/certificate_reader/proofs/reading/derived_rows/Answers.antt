@@ -1,6 +1,5 @@
-use Rattle.std.proofs.Common.{◌≡◌, ◌++◌, ◌∷◌, [], arith, length, length-append}
+use Rattle.std.proofs.Common.{◌∷◌, [], arith, length-append}
 use Rattle.std.proofs.lemmas.Result.{err_from_is_err_and}
-use Rattle.verdicts.specs.Certificate.{Derived}
 use Rattle.certificate_reader.specs.Reading.{derived_rows_at}
 use Rattle.certificate_reader.proofs.LinesTaken.{rows_more, rows_fault, rows_all}
 use Rattle.certificate_reader.proofs.reading.derived_rows.Goals as goal

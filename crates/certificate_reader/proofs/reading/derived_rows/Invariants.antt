@@ -1,4 +1,4 @@
-use Rattle.std.proofs.Common.{◌≡◌, ◌-◌, ◌≤◌, length}
+use Rattle.std.proofs.Common.{◌≡◌, ◌-◌, length}
 use Rattle.certificate_reader.specs.Reading.{derived_rows_at}
 use Rattle.certificate_lines.proofs.Fronts.{with_front_of}
 use Rattle.certificate_reader.proofs.reading.derived_rows.Given as goal

@@ -1,4 +1,4 @@
-use Rattle.std.proofs.Common.{◌≡◌, ◌∙◌, ◌++◌, ◌∷◌, [], arith, ℕ, ap, ◌-◌}
+use Rattle.std.proofs.Common.{arith, ◌-◌}
 use Rattle.std.proofs.lemmas.Result.{err_from_is_err_and}
 use Rattle.certificate.specs.Values.{node_of}
 use Rattle.certificate_reader.specs.Reading.{nodes_at, node_in}

@@ -1,4 +1,3 @@
-use Rattle.std.proofs.Common.{◌≡◌}
 use Rattle.command_line.proofs.Limits.{no_limit}
 use Rattle.command_line.proofs.read.limit_in_digits.Goals as goal
 

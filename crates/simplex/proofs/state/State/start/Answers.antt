@@ -6,7 +6,7 @@ use Rattle.simplex.proofs.state.State.start.Goals as goal
 pub returns-in_err-set_forms-clause-fault : goal.returns-in_err-set_forms-clause-fault
 returns-in_err-set_forms-clause-fault c = λ limit.
     failed c.from_residual-in_err-set_forms.result _ _ c.from_residual-in_err-set_forms.ensures.1
-    (start_run_fault c.args.system.now c.in_ok-dictionary.dictionary.places c.in_err-set_forms.ensures.system c.in_ok-dictionary.ensures.basis _ c.in_err-set_forms.ensures.err)
+    (start_run_fault c.args.system.now c.in_ok-dictionary.dictionary.places _ c.in_ok-dictionary.ensures.basis c.in_err-set_forms.ensures.err)
 
 pub returns-clause-state : goal.returns-clause-state
 returns-clause-state c =

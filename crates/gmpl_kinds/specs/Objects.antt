@@ -1,0 +1,54 @@
+-- The objects that an expression names, and where they may stand (GNU MathProg Language Reference, chapter on expressions).
+use Rattle.std.specs.Prelude.{ℕ, ◌==◌, Bool, true, false, not, if◌then◌else◌, List, slice_get, Option, Some, None, Ok, Err}
+use Rattle.gmpl_syntax.specs.declared.fault.SyntaxFaultKind.TheVariants.{WrongKind, WrongDimension}
+use Rattle.gmpl_resolved.specs.declared.expression.Meaning.{Meaning}
+use Rattle.gmpl_resolved.specs.declared.expression.Meaning.TheVariants as m
+use Rattle.gmpl_kinds.specs.declared.shape.Shape.{Shape}
+use Rattle.gmpl_kinds.specs.declared.shape.Shape.TheVariants.{Scalar, SetOf}
+use Rattle.gmpl_kinds.specs.declared.shape.Sort.{Sort}
+use Rattle.gmpl_kinds.specs.declared.shape.Sort.TheVariants as sort
+use Rattle.gmpl_kinds.specs.declared.shape.Object.{Object}
+use Rattle.gmpl_kinds.specs.declared.shape.Site.{Site}
+use Rattle.gmpl_kinds.specs.declared.shape.Site.TheVariants as site
+use Rattle.gmpl_kinds.specs.Demands.{Judged}
+
+-- a variable stands in a constraint or an objective, and with a suffix or without one behind `solve`
+abbrev pub may_hold_variable : Site → Bool → Bool
+may_hold_variable site.Constant has_suffix = false
+may_hold_variable site.Linear has_suffix = not has_suffix
+may_hold_variable site.Solved has_suffix = true
+
+abbrev pub is_solved : Site → Bool
+is_solved site.Solved = true
+is_solved _ = false
+
+-- a constraint or an objective stands behind `solve` alone; no suffix stands behind a set or a parameter
+abbrev pub may_stand : Site → Sort → Bool → Bool
+may_stand stands sort.Set has_suffix = not has_suffix
+may_stand stands sort.Param has_suffix = not has_suffix
+may_stand stands sort.Var has_suffix = may_hold_variable stands has_suffix
+may_stand stands sort.Constraint has_suffix = is_solved stands
+may_stand stands sort.Objective has_suffix = is_solved stands
+
+abbrev pub shape_by : Sort → Option ℕ → Shape
+shape_by sort.Set n = SetOf n
+shape_by _ n = Scalar
+
+-- an index takes no subscripts
+abbrev pub index_shape : ℕ → Bool → Judged
+index_shape count has_suffix = if has_suffix then Err WrongKind else if count == 0 then Ok Scalar else Err WrongDimension
+
+abbrev pub object_shape : Site → Object → ℕ → Bool → Judged
+object_shape stands object count has_suffix =
+    if not (may_stand stands object.sort has_suffix) then Err WrongKind
+    else if object.subscripts == count then Ok (shape_by object.sort object.elements)
+    else Err WrongDimension
+
+abbrev pub object_at : Site → Option Object → ℕ → Bool → Judged
+object_at stands None count has_suffix = Err WrongKind
+object_at stands (Some object) count has_suffix = object_shape stands object count has_suffix
+
+-- a name with so many subscripts
+abbrev pub named : List Object → Site → Meaning → ℕ → Bool → Judged
+named objects stands (m.Index place) count has_suffix = index_shape count has_suffix
+named objects stands (m.Object place) count has_suffix = object_at stands (slice_get objects place) count has_suffix

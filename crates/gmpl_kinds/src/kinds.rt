@@ -1,0 +1,238 @@
+// The kinds of expressions, part by part.
+ghost use Rattle.std.specs.Prelude.{◌≡◌};
+ghost use Rattle.gmpl_kinds.specs.Kinds as spec;
+
+use crate::demands::{
+    add_dimensions, as_branch, as_logic, as_scalar, as_set, gathered, gathered_shape, iterated_by,
+    joined, left_of, or_one, part_of, related, right_of, same_branch, same_dimension, within_most,
+};
+use crate::objects::named;
+use crate::shape::{Gathered, Object, Shape, Site};
+use gmpl_resolved::{Component, Entry, Expr, Indexing, Link};
+use gmpl_syntax::{Function, SyntaxFaultKind};
+
+/// What an expression is where these objects are declared, or its first fault (`WrongKind` or `WrongDimension`).
+#[cycle(kinds)]
+pub fn shape_of(objects: &[Object], site: Site, whole: &Expr) -> Result<Shape, SyntaxFaultKind>
+    ensures { result ≡ spec.shape_of objects.now site whole.now }
+{
+    match whole {
+        Expr::Number(_) | Expr::Text(_) => Ok(Shape::Scalar),
+        Expr::Named(meaning, subscripts, suffix) => {
+            all_scalars(objects, site, subscripts.as_slice())?;
+            named(objects, site, *meaning, subscripts.len(), suffix.is_some())
+        }
+        Expr::Call(function, arguments) => match function {
+            Function::Card => all_sets(objects, site, arguments.as_slice()),
+            _ => all_scalars(objects, site, arguments.as_slice()),
+        },
+        Expr::Group(parts) => group(objects, site, parts.as_slice()),
+        Expr::Braces(indexing) => braces(objects, site, indexing),
+        Expr::Iterated(iteration, indexing, body) => {
+            indexing_dimension(objects, site, indexing)?;
+            iterated_by(*iteration, shape_of(objects, site, body.get())?)
+        }
+        Expr::If(condition, first, other) => {
+            as_logic(shape_of(objects, site, condition.get())?)?;
+            let first = as_branch(shape_of(objects, site, first.get())?)?;
+            match other {
+                None => Ok(first),
+                Some(other) => {
+                    let other = as_branch(shape_of(objects, site, other.get())?)?;
+                    same_branch(first, other)
+                }
+            }
+        }
+        Expr::Signed(_, part) => as_scalar(shape_of(objects, site, part.get())?),
+        Expr::Power(base, exponent) => {
+            as_scalar(shape_of(objects, site, base.get())?)?;
+            as_scalar(shape_of(objects, site, exponent.get())?)
+        }
+        Expr::Chain(first, links) => {
+            let before = shape_of(objects, site, first.get())?;
+            match links.as_slice() {
+                [] => Ok(before),
+                [link, ..] => {
+                    let before = part_of(link.operator, before)?;
+                    all_links(objects, site, before, links.as_slice())
+                }
+            }
+        }
+        Expr::Range(first, last, step) => {
+            as_scalar(shape_of(objects, site, first.get())?)?;
+            as_scalar(shape_of(objects, site, last.get())?)?;
+            match step {
+                None => Ok(Shape::SetOf(Some(1))),
+                Some(step) => {
+                    as_scalar(shape_of(objects, site, step.get())?)?;
+                    Ok(Shape::SetOf(Some(1)))
+                }
+            }
+        }
+        Expr::Compared(relation, left, right) => {
+            let left = left_of(*relation, shape_of(objects, site, left.get())?)?;
+            let right = right_of(*relation, shape_of(objects, site, right.get())?)?;
+            related(left, right)
+        }
+        Expr::Not(part) => as_logic(shape_of(objects, site, part.get())?),
+    }
+}
+
+#[cycle(kinds)]
+fn all_scalars(objects: &[Object], site: Site, all: &[Expr]) -> Result<Shape, SyntaxFaultKind>
+    ensures { result ≡ spec.all_scalars (spec.shapes_of objects.now site all.now) }
+{
+    for one in all {
+        as_scalar(shape_of(objects, site, one)?)?;
+    }
+    Ok(Shape::Scalar)
+}
+
+#[cycle(kinds)]
+fn all_sets(objects: &[Object], site: Site, all: &[Expr]) -> Result<Shape, SyntaxFaultKind>
+    ensures { result ≡ spec.all_sets (spec.shapes_of objects.now site all.now) }
+{
+    for one in all {
+        as_set(shape_of(objects, site, one)?)?;
+    }
+    Ok(Shape::Scalar)
+}
+
+#[cycle(kinds)]
+fn group(objects: &[Object], site: Site, parts: &[Expr]) -> Result<Shape, SyntaxFaultKind>
+    ensures { result ≡ spec.group (spec.shapes_of objects.now site parts.now) }
+{
+    match parts {
+        [] => Ok(Shape::Scalar),
+        [only] => shape_of(objects, site, only),
+        [_, _, ..] => {
+            all_scalars(objects, site, parts)?;
+            Ok(Shape::Tuple(within_most(parts.len())?))
+        }
+    }
+}
+
+#[cycle(kinds)]
+fn all_links(
+    objects: &[Object],
+    site: Site,
+    first: Shape,
+    links: &[Link],
+) -> Result<Shape, SyntaxFaultKind>
+    ensures { result ≡ spec.links_from first (spec.all_link_parts objects.now site links.now) }
+{
+    let mut shape = first;
+    for link in links {
+        let part = part_of(link.operator, shape_of(objects, site, &link.operand)?)?;
+        shape = joined(link.operator, shape, part)?;
+    }
+    Ok(shape)
+}
+
+// ---- indexing expressions
+
+/// The dimension of an indexing expression: how many components a tuple of its indices has.
+#[cycle(kinds)]
+pub fn indexing_dimension(
+    objects: &[Object],
+    site: Site,
+    whole: &Indexing,
+) -> Result<usize, SyntaxFaultKind>
+    ensures { result ≡ spec.indexing_dimension (spec.indexing_parts objects.now site whole.now) }
+{
+    let dimension = dimensions_from(objects, site, 0, whole.entries.as_slice())?;
+    match &whole.condition {
+        None => Ok(dimension),
+        Some(condition) => {
+            as_logic(shape_of(objects, site, condition.get())?)?;
+            Ok(dimension)
+        }
+    }
+}
+
+#[cycle(kinds)]
+fn dimensions_from(
+    objects: &[Object],
+    site: Site,
+    before: usize,
+    entries: &[Entry],
+) -> Result<usize, SyntaxFaultKind>
+    ensures { result ≡ spec.dimensions_from before (spec.all_entry_parts objects.now site entries.now) }
+{
+    let mut dimension = before;
+    for one in entries {
+        let more = entry_dimension(objects, site, one)?;
+        dimension = add_dimensions(dimension, more)?;
+    }
+    Ok(dimension)
+}
+
+#[cycle(kinds)]
+fn entry_dimension(objects: &[Object], site: Site, whole: &Entry) -> Result<usize, SyntaxFaultKind>
+    ensures { result ≡ spec.entry_dimension (spec.entry_parts objects.now site whole.now) }
+{
+    match &whole.index {
+        None => Ok(or_one(as_set(shape_of(objects, site, &whole.set)?)?)),
+        Some(index) => {
+            all_parts(objects, site, index.as_slice())?;
+            let set = as_set(shape_of(objects, site, &whole.set)?)?;
+            same_dimension(Some(index.len()), set)?;
+            Ok(index.len())
+        }
+    }
+}
+
+#[cycle(kinds)]
+fn all_parts(objects: &[Object], site: Site, all: &[Component]) -> Result<Shape, SyntaxFaultKind>
+    ensures { result ≡ spec.all_parts (spec.component_parts objects.now site all.now) }
+{
+    for one in all {
+        component(objects, site, one)?;
+    }
+    Ok(Shape::Scalar)
+}
+
+#[cycle(kinds)]
+fn component(objects: &[Object], site: Site, whole: &Component) -> Result<Shape, SyntaxFaultKind>
+    ensures { result ≡ spec.part (spec.component_part objects.now site whole.now) }
+{
+    match whole {
+        Component::New => Ok(Shape::Scalar),
+        Component::Value(value) => as_scalar(shape_of(objects, site, value)?),
+    }
+}
+
+// ---- braces
+
+fn is_indexed(objects: &[Object], site: Site, entries: &[Entry]) -> bool
+    ensures { result ≡ spec.is_indexed (spec.all_entry_parts objects.now site entries.now) }
+{
+    for one in entries {
+        if one.index.is_some() {
+            return true;
+        }
+    }
+    false
+}
+
+#[cycle(kinds)]
+fn braces(objects: &[Object], site: Site, whole: &Indexing) -> Result<Shape, SyntaxFaultKind>
+    ensures { result ≡ spec.braces (spec.indexing_parts objects.now site whole.now) }
+{
+    if whole.condition.is_some() || is_indexed(objects, site, whole.entries.as_slice()) {
+        Ok(Shape::SetOf(Some(indexing_dimension(objects, site, whole)?)))
+    } else {
+        plain_braces(objects, site, whole.entries.as_slice())
+    }
+}
+
+#[cycle(kinds)]
+fn plain_braces(objects: &[Object], site: Site, entries: &[Entry]) -> Result<Shape, SyntaxFaultKind>
+    ensures { result ≡ spec.plain_braces (spec.all_entry_parts objects.now site entries.now) }
+{
+    let mut all = Gathered::Nothing;
+    for one in entries {
+        all = gathered(all, shape_of(objects, site, &one.set)?)?;
+    }
+    Ok(gathered_shape(all))
+}

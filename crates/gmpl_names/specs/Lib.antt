@@ -1,0 +1,4 @@
+pub mod Names
+pub mod Supported
+pub mod Meanings
+pub mod Expressions

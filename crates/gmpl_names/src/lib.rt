@@ -1,0 +1,12 @@
+//! The second pass over a MathProg model: what its names mean.
+#![tactic(auto)]
+
+mod error;
+mod expressions;
+mod meanings;
+mod names;
+
+pub use error::NamesError;
+pub use expressions::{resolve_expr, resolve_exprs, resolve_indexing};
+pub use meanings::{Objects, resolve_name};
+pub use names::Names;

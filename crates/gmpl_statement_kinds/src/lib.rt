@@ -1,0 +1,11 @@
+//! The third pass over a MathProg model, on its statements: their kinds and dimensions.
+//!
+//! Statements are judged in order, each with the objects that those before it declare.
+#![tactic(auto)]
+
+mod attributes;
+mod judgement;
+mod statements;
+
+pub use judgement::Judgement;
+pub use statements::judge_statements;

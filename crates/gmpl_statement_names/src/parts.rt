@@ -1,0 +1,167 @@
+// The names of the parts of statements, resolved.
+ghost use Rattle.gmpl_names.specs.Expressions.{Follows};
+ghost use Rattle.gmpl_statement_names.specs.Statements as spec;
+
+use crate::sort::{Sort, supports_attribute};
+use gmpl_names::{Names, NamesError, Objects, resolve_expr, resolve_indexing};
+use gmpl_resolved as resolved;
+use gmpl_syntax::{
+    Attribute, Constraint, Declaration, Expr, Head, Indexing, Objective, SyntaxFaultKind,
+};
+use sqlite_items::Items;
+use std::alloc::Global;
+
+pub(crate) fn optional_indexing(
+    alloc: Global,
+    objects: &Objects,
+    scope: &mut Names,
+    whole: &Option<Indexing>,
+) -> Result<Option<resolved::Indexing>, NamesError>
+    ensures { Follows (spec.optional_indexing objects.now whole.now scope.old) result scope.new }
+{
+    match whole {
+        None => Ok(None),
+        Some(whole) => Ok(Some(resolve_indexing(alloc, objects, scope, whole)?)),
+    }
+}
+
+pub(crate) fn optional_side(
+    alloc: Global,
+    objects: &Objects,
+    scope: &mut Names,
+    whole: &Option<Expr>,
+) -> Result<Option<resolved::Expr>, NamesError>
+    ensures { Follows (spec.optional_side objects.now whole.now scope.old) result scope.new }
+{
+    match whole {
+        None => Ok(None),
+        Some(whole) => Ok(Some(resolve_expr(alloc, objects, scope, whole)?)),
+    }
+}
+
+fn head(
+    alloc: Global,
+    objects: &Objects,
+    scope: &mut Names,
+    whole: &Head,
+) -> Result<resolved::Head, NamesError>
+    ensures { Follows (spec.head objects.now whole.now scope.old) result scope.new }
+{
+    let domain = optional_indexing(alloc, objects, scope, &whole.domain)?;
+    Ok(resolved::Head {
+        name: whole.name.copied(alloc)?,
+        domain,
+    })
+}
+
+fn attribute_of(
+    alloc: Global,
+    objects: &Objects,
+    scope: &mut Names,
+    whole: &Attribute,
+) -> Result<resolved::Attribute, NamesError>
+    ensures { Follows (spec.attribute_of objects.now whole.now scope.old) result scope.new }
+{
+    match whole {
+        Attribute::Dimension(dimension) => Ok(resolved::Attribute::Dimension(*dimension)),
+        Attribute::Restriction(relation, value) => Ok(resolved::Attribute::Restriction(
+            *relation,
+            resolve_expr(alloc, objects, scope, value)?,
+        )),
+        Attribute::Assigned(value) => Ok(resolved::Attribute::Assigned(resolve_expr(
+            alloc, objects, scope, value,
+        )?)),
+        Attribute::Default(value) => Ok(resolved::Attribute::Default(resolve_expr(
+            alloc, objects, scope, value,
+        )?)),
+        Attribute::Integer => Ok(resolved::Attribute::Integer),
+        Attribute::Binary => Ok(resolved::Attribute::Binary),
+        Attribute::Symbolic => Ok(resolved::Attribute::Symbolic),
+    }
+}
+
+fn attribute(
+    alloc: Global,
+    objects: &Objects,
+    scope: &mut Names,
+    sort: Sort,
+    whole: &Attribute,
+) -> Result<resolved::Attribute, NamesError>
+    ensures { Follows (spec.attribute objects.now sort whole.now scope.old) result scope.new }
+{
+    let made = attribute_of(alloc, objects, scope, whole)?;
+    if supports_attribute(sort, whole) {
+        Ok(made)
+    } else {
+        Err(NamesError::Fault(SyntaxFaultKind::Unsupported))
+    }
+}
+
+fn attributes(
+    alloc: Global,
+    objects: &Objects,
+    scope: &mut Names,
+    sort: Sort,
+    all: &[Attribute],
+) -> Result<Items<resolved::Attribute>, NamesError>
+    ensures { Follows (spec.attributes objects.now sort all.now scope.old) result scope.new }
+{
+    let mut made = Items::new(alloc);
+    for one in all {
+        made.push(attribute(alloc, objects, scope, sort, one)?)?;
+    }
+    Ok(made)
+}
+
+/// The declaration of a set, a parameter or a variable.
+pub(crate) fn declaration(
+    alloc: Global,
+    objects: &Objects,
+    scope: &mut Names,
+    sort: Sort,
+    whole: &Declaration,
+) -> Result<resolved::Declaration, NamesError>
+    ensures { Follows (spec.declaration objects.now sort whole.now scope.old) result scope.new }
+{
+    let head = head(alloc, objects, scope, &whole.head)?;
+    let attributes = attributes(alloc, objects, scope, sort, whole.attributes.as_slice())?;
+    Ok(resolved::Declaration { head, attributes })
+}
+
+pub(crate) fn constraint(
+    alloc: Global,
+    objects: &Objects,
+    scope: &mut Names,
+    whole: &Constraint,
+) -> Result<resolved::Constraint, NamesError>
+    ensures { Follows (spec.constraint objects.now whole.now scope.old) result scope.new }
+{
+    let head = head(alloc, objects, scope, &whole.head)?;
+    let left = resolve_expr(alloc, objects, scope, &whole.left)?;
+    let right = resolve_expr(alloc, objects, scope, &whole.right)?;
+    let last = optional_side(alloc, objects, scope, &whole.last)?;
+    Ok(resolved::Constraint {
+        head,
+        left,
+        relation: whole.relation,
+        right,
+        last,
+    })
+}
+
+pub(crate) fn objective(
+    alloc: Global,
+    objects: &Objects,
+    scope: &mut Names,
+    whole: &Objective,
+) -> Result<resolved::Objective, NamesError>
+    ensures { Follows (spec.objective objects.now whole.now scope.old) result scope.new }
+{
+    let head = head(alloc, objects, scope, &whole.head)?;
+    let form = resolve_expr(alloc, objects, scope, &whole.form)?;
+    Ok(resolved::Objective {
+        direction: whole.direction,
+        head,
+        form,
+    })
+}
