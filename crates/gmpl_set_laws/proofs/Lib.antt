@@ -1,2 +1,4 @@
+mod PlainCross
 mod PlainLists
+mod PlainRanges
 mod SameTuples

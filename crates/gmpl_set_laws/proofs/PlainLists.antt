@@ -14,10 +14,10 @@ use Rattle.gmpl_value.proofs.Distinct.{tuple_laws}
 use Rattle.gmpl_value.proofs.SetLemmas.{with_all_append}
 use Rattle.gmpl_set_laws.specs.PlainSets.{IsSet, limited}
 
-abbrev answer_at : Bool → Elements → Result Elements SetFault
+abbrev pub answer_at : Bool → Elements → Result Elements SetFault
 answer_at b xs = if b then Ok xs else Err TooMany
 
-within_limit : (n : ℕ) (xs : Elements) → n ≤ most_elements → answer_at (nat_le n most_elements) xs ≡ Ok xs
+pub within_limit : (n : ℕ) (xs : Elements) → n ≤ most_elements → answer_at (nat_le n most_elements) xs ≡ Ok xs
 within_limit n xs h = by (nat_le n most_elements) refl
   where
     by : (b : Bool) → nat_le n most_elements ≡ b → answer_at b xs ≡ Ok xs

@@ -1,6 +1,6 @@
 -- Sets, and lists that are sets where they are within the limit.
-use Rattle.std.specs.Prelude.{◌≤◌, nat_le, Result, Ok, Err, length, if◌then◌else◌}
-use Rattle.std.specs.List.{IsDistinct}
+use Rattle.std.specs.Prelude.{◌≡◌, ◌≤◌, ℕ, nat_le, Result, Ok, Err, length, if◌then◌else◌}
+use Rattle.std.specs.List.{AllByRecursion, IsDistinct}
 use Rattle.gmpl_value.specs.declared.fault.SetFault.{SetFault}
 use Rattle.gmpl_value.specs.declared.fault.SetFault.TheVariants.{TooMany}
 use Rattle.gmpl_value.specs.SymbolEquality.{tuple_eq}
@@ -13,3 +13,7 @@ pub record IsSet (xs : Elements) : Type 0 where
 
 abbrev pub limited : Elements → Result Elements SetFault
 limited xs = if nat_le (length xs) most_elements then Ok xs else Err TooMany
+
+-- each tuple has so many symbols
+abbrev pub AreOfDimension : ℕ → Elements → Type 0
+AreOfDimension dimension = AllByRecursion (λ t. length t ≡ dimension)

@@ -1,10 +1,13 @@
 // Sets as lists without repeats.
-ghost use Rattle.std.specs.Prelude.{◌≡◌, ◌++◌, ◌↔◌, List, Ok, true};
-ghost use Rattle.std.specs.List.{IsDistinct};
+ghost use Rattle.std.specs.Prelude.{◌≡◌, ◌≢◌, pos, map, ℕ, ◌++◌, ◌↔◌, List, Ok, true};
+ghost use Rattle.std.specs.List.{IsDistinct, flat_map};
 ghost use Rattle.gmpl_value.specs.declared.symbol.Symbol.{Symbol};
 ghost use Rattle.gmpl_value.specs.SymbolEquality.{tuple_eq};
-ghost use Rattle.gmpl_value.specs.Sets.{Elements, set_of, union_of, diff_of, inter_of, symdiff_of, without, common};
-ghost use Rattle.gmpl_set_laws.specs.PlainSets.{IsSet, limited};
+ghost use Rattle.rational.specs.Rational.{Rational};
+ghost use Rattle.gmpl_value.specs.Follows.{then_do};
+ghost use Rattle.gmpl_value.specs.Range.{number_tuple, progression_of, range_of};
+ghost use Rattle.gmpl_value.specs.Sets.{Elements, set_of, union_of, diff_of, inter_of, symdiff_of, cross_of, without, common, joined_with};
+ghost use Rattle.gmpl_set_laws.specs.PlainSets.{AreOfDimension, IsSet, limited};
 
 /// Tuples that the test for members takes for the same are the same.
 #[tactic(auto, using(crate::proofs::SameTuples::tuples_decided))]
@@ -25,4 +28,16 @@ pub fn operations()
     ensures diff { (xs ys : Elements) → IsSet xs → diff_of xs ys ≡ Ok (without xs ys) }
     ensures inter { (xs ys : Elements) → IsSet xs → inter_of xs ys ≡ Ok (common xs ys) }
     ensures symdiff { (xs ys : Elements) → IsSet xs → IsSet ys → symdiff_of xs ys ≡ limited (without xs ys ++ without ys xs) }
+{}
+
+/// A cross is each element of the first set joined with each of the second, where those of the first have one dimension.
+#[tactic(auto, using(crate::proofs::PlainCross::cross_plain))]
+pub fn crosses()
+    ensures { (d : ℕ) (xs ys : Elements) → IsSet xs → IsSet ys → AreOfDimension d xs → cross_of xs ys ≡ limited (flat_map (joined_with ys) xs) }
+{}
+
+/// A range is its numbers in order.
+#[tactic(auto, using(crate::proofs::PlainRanges::range_plain))]
+pub fn ranges()
+    ensures { (from to by : Rational) → by.numerator ≢ pos 0 → range_of from to by ≡ then_do (λ numbers. Ok (map number_tuple numbers)) (progression_of from to by) }
 {}

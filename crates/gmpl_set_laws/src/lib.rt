@@ -3,4 +3,4 @@
 
 mod laws;
 
-pub use laws::{operations, same_tuples, sets_of_lists};
+pub use laws::{crosses, operations, ranges, same_tuples, sets_of_lists};
