@@ -25,13 +25,15 @@ fn certificates_are_checked(rt: HostRuntime) -> Result<(), Fail> {
     check_table(&rt, rt.alloc(), CHECKED)
 }
 
-// The certificate comes in pieces of seven bytes.
+// The report and the certificate go to their files, in pieces of seven bytes.
 #[test]
-fn the_certificate_is_written(rt: HostRuntime) -> Result<(), Fail> {
+fn the_files_are_written(rt: HostRuntime) -> Result<(), Fail> {
     let alloc = rt.alloc();
     let mut files = model_alone(alloc, None, 7)?;
-    let found = outcome(&rt, alloc, "--cert c --freemps f", &mut files)?;
+    let found = outcome(&rt, alloc, "--cert c -o r --freemps f", &mut files)?;
     assert_eq!(rt; found.as_str(), "0 OPTIMAL\nobjective cost 2\ncolumn x 2\n");
+    let report = b"OPTIMAL\nobjective cost 2\ncolumn x 2\n";
+    assert!(rt; files.bytes("r") == Some(report.as_slice()));
     let certificate =
         b"cert 1\nsize 0 1\nverdict optimal\nvalue 2\npoint 2\nderived 0\ntree\nbound c1:1\nend\n";
     assert!(rt; files.bytes("c") == Some(certificate.as_slice()));

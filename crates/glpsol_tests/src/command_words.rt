@@ -21,6 +21,9 @@ mps , own direction, solve, no cert <- --freemps|
 mps f, own direction, solve, cert c <- --freemps|f|--cert|c
 mps f, own direction, solve, cert c=d <- --freemps|--cert=c=d|f
 mps f, own direction, solve, cert  <- --freemps|f|--cert=
+mps f, own direction, solve, report r, no cert <- --freemps|f|-o|r
+mps f, own direction, solve, report r, no cert <- -or|--freemps|f
+mps f, own direction, solve, report r, cert c <- --freemps|f|--cert|c|--output=r
 mps f, min, translate <- --freemps|f|--check|--min
 mps f, own direction, check c <- --freemps|f|--checkcert|c
 mps f, max, check c <- --checkcert=c|--freemps|f|--max
@@ -52,6 +55,11 @@ usage <- --freemps|f|--cert|-c
 usage <- --freemps|f|--cert|c|--cert|c
 usage <- --freemps|--cert|--|f
 usage <- --freemps|f|--certificate|c
+usage <- --freemps|f|-o
+usage <- --freemps|f|-o|r|--output|r
+usage <- --freemps|f|-output|r
+usage <- --freemps|f|--check|-o|r
+usage <- --freemps|f|--checkcert|c|-o|r
 usage <- --freemps|f|--help
 usage <- --freemps|f|-h
 usage <- --freemps|f|--version
@@ -136,11 +144,19 @@ fn steps_shown(alloc: Global, limit: u32) -> Result<String, AllocError> {
 fn task_shown(alloc: Global, task: &Task) -> Result<String, AllocError> {
     match task {
         Task::Solve(outputs) => {
+            let report = report_shown(alloc, &outputs.report)?;
             let certificate = file_shown(alloc, "cert", &outputs.certificate)?;
-            format!(in alloc; "solve, {certificate}")
+            format!(in alloc; "solve, {report}{certificate}")
         }
         Task::Translate => "translate".to_string(alloc),
         Task::CheckCertificate(file) => format!(in alloc; "check {}", file.as_str()),
+    }
+}
+
+fn report_shown(alloc: Global, file: &Option<Name>) -> Result<String, AllocError> {
+    match file {
+        Some(name) => format!(in alloc; "report {}, ", name.as_str()),
+        None => Ok(String::new(alloc)),
     }
 }
 

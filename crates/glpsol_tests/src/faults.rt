@@ -29,16 +29,19 @@ fn a_file_that_is_missing(rt: HostRuntime) -> Result<(), Fail> {
 }
 
 // The number of the call on the store that fails, and what is printed: opening, two reads and the end of the model, making,
-// writing and ending the certificate; the eighth never comes.
+// writing and ending the report's file, and then the certificate's; the eleventh never comes.
 const FAILING_CALLS: &str = "\
 1 open fault: f$
 2 read fault: f$
 3 read fault: f$
 4 read fault: f$
-5 OPTIMAL$objective cost 2$column x 2$write fault: c$
-6 OPTIMAL$objective cost 2$column x 2$write fault: c$
-7 OPTIMAL$objective cost 2$column x 2$write fault: c$
-8 OPTIMAL$objective cost 2$column x 2$
+5 OPTIMAL$objective cost 2$column x 2$write fault: r$
+6 OPTIMAL$objective cost 2$column x 2$write fault: r$
+7 OPTIMAL$objective cost 2$column x 2$write fault: r$
+8 OPTIMAL$objective cost 2$column x 2$write fault: c$
+9 OPTIMAL$objective cost 2$column x 2$write fault: c$
+10 OPTIMAL$objective cost 2$column x 2$write fault: c$
+11 OPTIMAL$objective cost 2$column x 2$
 ";
 
 fn check_failing_call<T: Threads + Sync + Abort>(
@@ -52,7 +55,7 @@ fn check_failing_call<T: Threads + Sync + Abort>(
     };
     let mut files = model_alone(alloc, Some(number), 4096)?;
     let mut out = MemSink::new(alloc, Vec::new(alloc), 1);
-    let words = words_of(alloc, "--freemps f --cert c")?;
+    let words = words_of(alloc, "--freemps f --cert c -o r")?;
     let _status = status(rt, alloc, words, &mut files, &mut out);
     assert_eq!(rt;
         out.bytes(),
