@@ -1,0 +1,2 @@
+mod PlainLists
+mod SameTuples
