@@ -2,133 +2,111 @@
 use command_line::{Language, Settings, Task, WordsFault, read_words};
 use instance::{Direction, Name};
 use std::alloc::{AllocError, Global};
+use std::process::Abort;
 use std::test::Fail;
 
-/// Words, parted by `|`, and what they ask for: the language, the model's file, the direction, the task and its file.
-const COMMANDS: [(&str, &str); 23] = [
-    ("--freemps|f", "mps f, own direction, solve, no cert"),
-    ("--lp|f", "lp f, own direction, solve, no cert"),
-    ("f|--freemps", "mps f, own direction, solve, no cert"),
-    ("--freemps|f|--min", "mps f, min, solve, no cert"),
-    ("--max|--freemps|f", "mps f, max, solve, no cert"),
-    (
-        "--exact|--freemps|f",
-        "mps f, own direction, solve, no cert",
-    ),
-    ("--freemps|--|f", "mps f, own direction, solve, no cert"),
-    ("--freemps|--|-f", "mps -f, own direction, solve, no cert"),
-    ("--freemps|--|--", "mps --, own direction, solve, no cert"),
-    ("--freemps|-", "mps -, own direction, solve, no cert"),
-    ("--freemps|", "mps , own direction, solve, no cert"),
-    (
-        "--freemps|f|--cert|c",
-        "mps f, own direction, solve, cert c",
-    ),
-    (
-        "--freemps|--cert=c=d|f",
-        "mps f, own direction, solve, cert c=d",
-    ),
-    ("--freemps|f|--cert=", "mps f, own direction, solve, cert "),
-    (
-        "--freemps|f|-o|r",
-        "mps f, own direction, solve, report r, no cert",
-    ),
-    (
-        "-or|--freemps|f",
-        "mps f, own direction, solve, report r, no cert",
-    ),
-    (
-        "--freemps|f|--cert|c|--output=r",
-        "mps f, own direction, solve, report r, cert c",
-    ),
-    ("--freemps|f|--check|--min", "mps f, min, translate"),
-    ("--freemps|f|--checkcert|c", "mps f, own direction, check c"),
-    ("--checkcert=c|--freemps|f|--max", "mps f, max, check c"),
-    (
-        "--freemps|f|--pivlim|1",
-        "mps f, own direction, at most 1 steps, solve, no cert",
-    ),
-    (
-        "--freemps|f|--pivlim=007",
-        "mps f, own direction, at most 7 steps, solve, no cert",
-    ),
-    (
-        "--pivlim|1000000|--freemps|f",
-        "mps f, own direction, at most 1000000 steps, solve, no cert",
-    ),
-];
+// What words ask for, and the words, parted by `|`: the language, the model's file, the direction, the task and its file.
+const COMMANDS: &str = "\
+mps f, own direction, solve, no cert <- --freemps|f
+lp f, own direction, solve, no cert <- --lp|f
+mps f, own direction, solve, no cert <- f|--freemps
+mps f, min, solve, no cert <- --freemps|f|--min
+mps f, max, solve, no cert <- --max|--freemps|f
+mps f, own direction, solve, no cert <- --exact|--freemps|f
+mps f, own direction, solve, no cert <- --freemps|--|f
+mps -f, own direction, solve, no cert <- --freemps|--|-f
+mps --, own direction, solve, no cert <- --freemps|--|--
+mps -, own direction, solve, no cert <- --freemps|-
+mps , own direction, solve, no cert <- --freemps|
+mps f, own direction, solve, cert c <- --freemps|f|--cert|c
+mps f, own direction, solve, cert c=d <- --freemps|--cert=c=d|f
+mps f, own direction, solve, cert  <- --freemps|f|--cert=
+mps f, own direction, solve, report r, no cert <- --freemps|f|-o|r
+mps f, own direction, solve, report r, no cert <- -or|--freemps|f
+mps f, own direction, solve, report r, cert c <- --freemps|f|--cert|c|--output=r
+mps f, min, translate <- --freemps|f|--check|--min
+mps f, own direction, check c <- --freemps|f|--checkcert|c
+mps f, max, check c <- --checkcert=c|--freemps|f|--max
+mps f, own direction, at most 1 steps, solve, no cert <- --freemps|f|--pivlim|1
+mps f, own direction, at most 7 steps, solve, no cert <- --freemps|f|--pivlim=007
+mps f, own direction, at most 1000000 steps, solve, no cert <- --pivlim|1000000|--freemps|f
+";
 
-/// Words, parted by `|`, that are no command.
-const NO_COMMANDS: [&str; 42] = [
-    "--freemps",
-    "f",
-    "--freemps|f|g",
-    "--freemps|--lp|f",
-    "--lp=f",
-    "--freemps=f",
-    "--free|f",
-    "--FREEMPS|f",
-    "-freemps|f",
-    "--freemps|--freemps|f",
-    "--freemps|f|--min|--max",
-    "--freemps|f|--min|--min",
-    "--freemps|f|--exact|--exact",
-    "--freemps|f|--check|--check",
-    "--freemps|f|--check|--cert|c",
-    "--freemps|f|--cert",
-    "--freemps|f|--cert|--min",
-    "--freemps|f|--cert|-c",
-    "--freemps|f|--cert|c|--cert|c",
-    "--freemps|--cert|--|f",
-    "--freemps|f|--certificate|c",
-    "--freemps|f|-o",
-    "--freemps|f|-o|r|--output|r",
-    "--freemps|f|-output|r",
-    "--freemps|f|--check|-o|r",
-    "--freemps|f|--checkcert|c|-o|r",
-    "--freemps|f|--help",
-    "--freemps|f|-h",
-    "--freemps|f|--version",
-    "--|--freemps|f",
-    "help",
-    "--freemps|f|--check|--checkcert|c",
-    "--freemps|f|--checkcert|c|--cert|d",
-    "--freemps|f|--checkcert",
-    "--freemps|f|--checkcert|c|--checkcert|c",
-    "--freemps|f|--pivlim|0",
-    "--freemps|f|--pivlim|1000001",
-    "--freemps|f|--pivlim|99999999999",
-    "--freemps|f|--pivlim|+1",
-    "--freemps|f|--pivlim=",
-    "--freemps|f|--pivlim|1e3",
-    "--freemps|f|--pivlim",
-];
+// Words that are no command.
+const NO_COMMANDS: &str = "\
+usage <- --freemps
+usage <- f
+usage <- --freemps|f|g
+usage <- --freemps|--lp|f
+usage <- --lp=f
+usage <- --freemps=f
+usage <- --free|f
+usage <- --FREEMPS|f
+usage <- -freemps|f
+usage <- --freemps|--freemps|f
+usage <- --freemps|f|--min|--max
+usage <- --freemps|f|--min|--min
+usage <- --freemps|f|--exact|--exact
+usage <- --freemps|f|--check|--check
+usage <- --freemps|f|--check|--cert|c
+usage <- --freemps|f|--cert
+usage <- --freemps|f|--cert|--min
+usage <- --freemps|f|--cert|-c
+usage <- --freemps|f|--cert|c|--cert|c
+usage <- --freemps|--cert|--|f
+usage <- --freemps|f|--certificate|c
+usage <- --freemps|f|-o
+usage <- --freemps|f|-o|r|--output|r
+usage <- --freemps|f|-output|r
+usage <- --freemps|f|--check|-o|r
+usage <- --freemps|f|--checkcert|c|-o|r
+usage <- --freemps|f|--help
+usage <- --freemps|f|-h
+usage <- --freemps|f|--version
+usage <- --|--freemps|f
+usage <- help
+usage <- --freemps|f|--check|--checkcert|c
+usage <- --freemps|f|--checkcert|c|--cert|d
+usage <- --freemps|f|--checkcert
+usage <- --freemps|f|--checkcert|c|--checkcert|c
+usage <- --freemps|f|--pivlim|0
+usage <- --freemps|f|--pivlim|1000001
+usage <- --freemps|f|--pivlim|99999999999
+usage <- --freemps|f|--pivlim|+1
+usage <- --freemps|f|--pivlim=
+usage <- --freemps|f|--pivlim|1e3
+usage <- --freemps|f|--pivlim
+";
 
-#[test]
-fn commands_are_read(rt: HostRuntime) -> Result<(), Fail> {
-    let alloc = rt.alloc();
-    for (row, wanted) in COMMANDS {
-        let words = words_of(alloc, row)?;
-        match read_words(alloc, &words) {
-            Ok(settings) => assert_eq!(rt; shown(alloc, &settings)?.as_str(), wanted, "at {row}"),
-            Err(fault) => panic!(rt; "{fault} at {row}"),
-        }
+fn check_table(rt: &impl Abort, alloc: Global, table: &str) -> Result<(), Fail> {
+    for row in table.lines() {
+        let Some((want, words)) = row.split_once(" <- ") else {
+            panic!(rt; "an answer and words: {row}");
+        };
+        let found = found_of(alloc, &words_of(alloc, words)?)?;
+        assert_eq!(rt; found.as_str(), want, "at {row}");
     }
     Ok(())
 }
 
 #[test]
+fn commands_are_read(rt: HostRuntime) -> Result<(), Fail> {
+    check_table(&rt, rt.alloc(), COMMANDS)
+}
+
+#[test]
 fn other_words_are_no_command(rt: HostRuntime) -> Result<(), Fail> {
-    let alloc = rt.alloc();
-    assert!(rt; read_words(alloc, &[]).err() == Some(WordsFault::Usage));
-    for row in NO_COMMANDS {
-        let words = words_of(alloc, row)?;
-        assert!(rt;
-            read_words(alloc, &words).err() == Some(WordsFault::Usage),
-            "at {row}"
-        );
+    assert!(rt; read_words(rt.alloc(), &[]).err() == Some(WordsFault::Usage));
+    check_table(&rt, rt.alloc(), NO_COMMANDS)
+}
+
+// What words ask for, in the tables' words.
+fn found_of(alloc: Global, words: &[String]) -> Result<String, AllocError> {
+    match read_words(alloc, words) {
+        Ok(settings) => shown(alloc, &settings),
+        Err(WordsFault::Usage) => "usage".to_string(alloc),
+        Err(WordsFault::NoMemory) => Err(AllocError),
     }
-    Ok(())
 }
 
 fn words_of(alloc: Global, row: &str) -> Result<Vec<String>, AllocError> {

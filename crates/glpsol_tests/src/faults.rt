@@ -1,73 +1,77 @@
 // Words that are no command, files that are missing, and an outside that fails.
-use crate::support::{MODEL, REPORT, words_of};
+use crate::runs::{check_table, model_alone, status, words_of, written};
 use glpsol_cli::{Answer, Reached, Target, run};
-use outside::{MemSink, MemStore};
+use outside::MemSink;
+use std::alloc::Global;
+use std::process::Abort;
 use std::test::Fail;
+use std::thread::Threads;
+
+const WORDS: &str = "\
+1 usage: glpsol (--freemps|--lp) FILE [options]$ <- --freemps --min
+1 usage: glpsol (--freemps|--lp) FILE [options]$ <- --math row1.mod
+1 usage: glpsol (--freemps|--lp) FILE [options]$ <- --lp f --workers 0
+";
 
 #[test]
 fn words_that_are_no_command(rt: HostRuntime) -> Result<(), Fail> {
-    let alloc = rt.alloc();
-    for words in [
-        ["--freemps", "--min"].as_slice(),
-        ["--math", "row1.mod"].as_slice(),
-        ["--lp", "f", "--workers", "0"].as_slice(),
-    ] {
-        let mut files = MemStore::new(alloc, Vec::new(alloc), 4096);
-        let mut out = MemSink::new(alloc, Vec::new(alloc), 4096);
-        let answer = run(&rt, alloc, words_of(alloc, words)?, &mut files, &mut out);
-        assert_eq!(rt;
-            out.bytes(),
-            b"usage: glpsol (--freemps|--lp) FILE [options]\n".as_slice()
-        );
-        assert_eq!(rt; answer.code(), 1);
-    }
-    Ok(())
+    check_table(&rt, rt.alloc(), WORDS)
 }
+
+const MISSING: &str = "\
+1 missing: no.mps$ <- --freemps no.mps
+1 missing: no.lp$ <- --lp no.lp
+";
 
 #[test]
 fn a_file_that_is_missing(rt: HostRuntime) -> Result<(), Fail> {
-    let alloc = rt.alloc();
-    for (language, name, want) in [
-        ("--freemps", "no.mps", "missing: no.mps\n"),
-        ("--lp", "no.lp", "missing: no.lp\n"),
-    ] {
-        let mut files = MemStore::new(alloc, Vec::new(alloc), 4096);
-        let mut out = MemSink::new(alloc, Vec::new(alloc), 4096);
-        let words = words_of(alloc, &[language, name])?;
-        let answer = run(&rt, alloc, words, &mut files, &mut out);
-        assert_eq!(rt; out.bytes(), want.as_bytes());
-        assert_eq!(rt; answer.code(), 1);
-    }
+    check_table(&rt, rt.alloc(), MISSING)
+}
+
+// The number of the call on the store that fails, and what is printed: opening, two reads and the end of the model, making,
+// writing and ending the report's file, and then the certificate's; the eleventh never comes.
+const FAILING_CALLS: &str = "\
+1 open fault: f$
+2 read fault: f$
+3 read fault: f$
+4 read fault: f$
+5 OPTIMAL$objective cost 2$column x 2$write fault: r$
+6 OPTIMAL$objective cost 2$column x 2$write fault: r$
+7 OPTIMAL$objective cost 2$column x 2$write fault: r$
+8 OPTIMAL$objective cost 2$column x 2$write fault: c$
+9 OPTIMAL$objective cost 2$column x 2$write fault: c$
+10 OPTIMAL$objective cost 2$column x 2$write fault: c$
+11 OPTIMAL$objective cost 2$column x 2$
+";
+
+fn check_failing_call<T: Threads + Sync + Abort>(
+    rt: &T,
+    alloc: Global,
+    call: &str,
+    want: &str,
+) -> Result<(), Fail> {
+    let Ok(number) = call.parse::<u64>() else {
+        panic!(rt; "a number: {call}");
+    };
+    let mut files = model_alone(alloc, Some(number), 4096)?;
+    let mut out = MemSink::new(alloc, Vec::new(alloc), 1);
+    let words = words_of(alloc, "--freemps f --cert c -o r")?;
+    let _status = status(rt, alloc, words, &mut files, &mut out);
+    assert_eq!(rt;
+        out.bytes(),
+        written(alloc, want)?.as_bytes(),
+        "at call {call}"
+    );
     Ok(())
 }
 
-// The k-th call on the store fails: opening, two reads and the end of the model, making, writing and ending the report's
-// file, and then the certificate's.
 #[test]
 fn each_call_on_the_store_fails(rt: HostRuntime) -> Result<(), Fail> {
-    let alloc = rt.alloc();
-    for (k, want) in [
-        (1, "open fault: row1.mps\n"),
-        (2, "read fault: row1.mps\n"),
-        (3, "read fault: row1.mps\n"),
-        (4, "read fault: row1.mps\n"),
-        (5, "OPTIMAL\nobjective cost 2\ncolumn x 2\nwrite fault: r\n"),
-        (6, "OPTIMAL\nobjective cost 2\ncolumn x 2\nwrite fault: r\n"),
-        (7, "OPTIMAL\nobjective cost 2\ncolumn x 2\nwrite fault: r\n"),
-        (8, "OPTIMAL\nobjective cost 2\ncolumn x 2\nwrite fault: c\n"),
-        (9, "OPTIMAL\nobjective cost 2\ncolumn x 2\nwrite fault: c\n"),
-        (
-            10,
-            "OPTIMAL\nobjective cost 2\ncolumn x 2\nwrite fault: c\n",
-        ),
-        (11, REPORT),
-    ] {
-        let mut files = MemStore::new(alloc, vec![in alloc; k]?, 4096);
-        files.add("row1.mps", MODEL.as_bytes())?;
-        let mut out = MemSink::new(alloc, Vec::new(alloc), 1);
-        let words = words_of(alloc, &["--freemps", "row1.mps", "--cert", "c", "-o", "r"])?;
-        let _answer = run(&rt, alloc, words, &mut files, &mut out);
-        assert_eq!(rt; out.bytes(), want.as_bytes(), "at call {k}");
+    for row in FAILING_CALLS.lines() {
+        let Some((call, want)) = row.split_once(' ') else {
+            panic!(rt; "a call and what is printed: {row}");
+        };
+        check_failing_call(&rt, rt.alloc(), call, want)?;
     }
     Ok(())
 }
@@ -76,16 +80,26 @@ fn each_call_on_the_store_fails(rt: HostRuntime) -> Result<(), Fail> {
 #[test]
 fn the_sink_fails(rt: HostRuntime) -> Result<(), Fail> {
     let alloc = rt.alloc();
-    let mut files = MemStore::new(alloc, Vec::new(alloc), 1);
-    files.add("row1.mps", MODEL.as_bytes())?;
+    let mut files = model_alone(alloc, None, 1)?;
     let mut out = MemSink::new(alloc, vec![in alloc; 2]?, 4);
-    let words = words_of(alloc, &["--freemps", "row1.mps"])?;
-    let answer = run(&rt, alloc, words, &mut files, &mut out);
-    let Answer::WriteFault { target, reached } = answer else {
-        panic!(rt; "a write fault");
-    };
-    assert!(rt; matches!(target, Target::Out));
-    assert!(rt; matches!(reached, Reached::Verdict(_)));
+    let answer = run(
+        &rt,
+        alloc,
+        words_of(alloc, "--freemps f")?,
+        &mut files,
+        &mut out,
+    );
+    assert!(rt; is_unwritten_verdict(&answer));
     assert_eq!(rt; out.bytes(), b"OPTI".as_slice());
     Ok(())
+}
+
+// A verdict was reached, and could not be written on the output.
+fn is_unwritten_verdict(answer: &Answer) -> bool {
+    match answer {
+        Answer::WriteFault { target, reached } => {
+            matches!(target, Target::Out) && matches!(reached, Reached::Verdict(_))
+        }
+        _ => false,
+    }
 }

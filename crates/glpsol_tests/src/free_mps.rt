@@ -1,68 +1,22 @@
 // Free MPS texts of few columns, and their answers.
-use crate::support::{MODEL, REPORT, words_of};
-use glpsol_cli::run;
-use outside::{MemSink, MemStore};
+use crate::runs::check_table;
 use std::test::Fail;
 
-// The words after `--freemps row1.mps`, the model's text, what is printed, and the status.
+const TEXTS: &str = "\
+0 OPTIMAL$objective cost 2$column x 2$ <- --freemps f --exact <- @
+0 OPTIMAL$objective cost 5$column x 5$ <- --freemps f --max <- @
+0 TRANSLATED$rows 0$columns 1$ <- --freemps f --check <- @
+0 INFEASIBLE$ <- --freemps f --min <- NAME t$ROWS$ N cost$COLUMNS$ x cost 1$BOUNDS$ LO b x 3$ UP b x 2$ENDATA$
+0 UNBOUNDED$column x 0 1$ <- --freemps f --min <- NAME t$ROWS$ N cost$COLUMNS$ x cost -1$ENDATA$
+0 OPTIMAL$objective cost -25/2$column x 7$column y -4$column z 0$ <- --freemps f --exact <- ROWS$ N cost$COLUMNS$ x cost -.5$ y cost 2e0$ z cost 0$RHS$ R cost 1$BOUNDS$ UP b x 7$ LO b y -4$ FR b z$ENDATA$
+0 OPTIMAL$objective cost -23/2$column x 7$column y -4$column z 0$ <- --freemps f --exact <- * a comment$ROWS$ N cost$COLUMNS$ x cost -.5$ y cost 2e0$ z cost 0$$BOUNDS$ UP b x 7$ LO b y -4$ FR b z$ENDATA$
+2 file fault: line 4: NoEnd$ <- --freemps f --exact <- ROWS$ N cost$ L c1$
+2 file fault: line 5: Unknown$ <- --freemps f --exact <- NAME t$ROWS$ N cost$COLUMNS$ x cost 1 c1 1$ENDATA$
+2 file fault: line 1: NoEnd$ <- --freemps f --exact <-\x20
+3 overflow: 1000000000000000000000000000000 * 1000000000000000000000000000000$ <- --freemps f --exact <- ROWS$ N cost$COLUMNS$ x cost 1e30$BOUNDS$ LO b x 1e30$ENDATA$
+";
+
 #[test]
 fn texts_and_their_answers(rt: HostRuntime) -> Result<(), Fail> {
-    let alloc = rt.alloc();
-    for (option, text, want, code) in [
-        ("--exact", MODEL, REPORT, 0),
-        ("--max", MODEL, "OPTIMAL\nobjective cost 5\ncolumn x 5\n", 0),
-        ("--check", MODEL, "TRANSLATED\nrows 0\ncolumns 1\n", 0),
-        (
-            "--min",
-            "NAME t\nROWS\n N cost\nCOLUMNS\n x cost 1\nBOUNDS\n LO b x 3\n UP b x 2\nENDATA\n",
-            "INFEASIBLE\n",
-            0,
-        ),
-        (
-            "--min",
-            "NAME t\nROWS\n N cost\nCOLUMNS\n x cost -1\nENDATA\n",
-            "UNBOUNDED\ncolumn x 0 1\n",
-            0,
-        ),
-        (
-            "--exact",
-            "ROWS\n N cost\nCOLUMNS\n x cost -.5\n y cost 2e0\n z cost 0\nRHS\n R cost 1\nBOUNDS\n UP b x 7\n LO b y -4\n FR b z\nENDATA\n",
-            "OPTIMAL\nobjective cost -25/2\ncolumn x 7\ncolumn y -4\ncolumn z 0\n",
-            0,
-        ),
-        (
-            "--exact",
-            "* a comment\nROWS\n N cost\nCOLUMNS\n x cost -.5\n y cost 2e0\n z cost 0\n\nBOUNDS\n UP b x 7\n LO b y -4\n FR b z\nENDATA\n",
-            "OPTIMAL\nobjective cost -23/2\ncolumn x 7\ncolumn y -4\ncolumn z 0\n",
-            0,
-        ),
-        (
-            "--exact",
-            "ROWS\n N cost\n L c1\n",
-            "file fault: line 4: NoEnd\n",
-            2,
-        ),
-        (
-            "--exact",
-            "NAME t\nROWS\n N cost\nCOLUMNS\n x cost 1 c1 1\nENDATA\n",
-            "file fault: line 5: Unknown\n",
-            2,
-        ),
-        ("--exact", "", "file fault: line 1: NoEnd\n", 2),
-        (
-            "--exact",
-            "ROWS\n N cost\nCOLUMNS\n x cost 1e30\nBOUNDS\n LO b x 1e30\nENDATA\n",
-            "overflow: 1000000000000000000000000000000 * 1000000000000000000000000000000\n",
-            3,
-        ),
-    ] {
-        let mut files = MemStore::new(alloc, Vec::new(alloc), 4096);
-        files.add("row1.mps", text.as_bytes())?;
-        let mut out = MemSink::new(alloc, Vec::new(alloc), 4096);
-        let words = words_of(alloc, &["--freemps", "row1.mps", option])?;
-        let answer = run(&rt, alloc, words, &mut files, &mut out);
-        assert_eq!(rt; out.bytes(), want.as_bytes(), "at {option} {text}");
-        assert_eq!(rt; answer.code(), code, "at {option} {text}");
-    }
-    Ok(())
+    check_table(&rt, rt.alloc(), TEXTS)
 }

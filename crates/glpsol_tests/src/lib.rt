@@ -1,4 +1,4 @@
-//! Tests of the program's work, from the words of a command to the bytes that are written. They use public calls alone, and
+//! Tests of the program's work, from the words of a command to the bytes that are written, and of files in memory. They use public calls alone, and
 //! stand above the crates that they try, so that each of those is proved once.
 #![tactic(auto)]
 
@@ -15,4 +15,6 @@ mod free_mps;
 #[cfg(test)]
 mod linear_programs;
 #[cfg(test)]
-mod support;
+mod memory_files;
+#[cfg(test)]
+mod runs;

@@ -1,12 +1,10 @@
 -- The model that statements make, or the first fault. Each pass goes over the statements before the first bad one of the pass
 -- before it, so the first bad statement is the third pass's where that has one, else the second's, else the first's.
-use Rattle.std.specs.Prelude.{◌≡◌, List, Option, Some, None, Result, Ok, Err}
+use Rattle.std.specs.Prelude.{◌≡◌, [], Option, Some, None, Result, Ok, Err}
 use Rattle.gmpl_syntax.specs.declared.fault.SyntaxFault.{SyntaxFault}
 use Rattle.gmpl_syntax.specs.declared.statement.Statements.{Statements}
-use Rattle.gmpl_resolved.specs.declared.statement.Numbered.{Numbered}
-use Rattle.gmpl_kinds.specs.declared.shape.Object.{Object}
-use Rattle.gmpl_statement_names.specs.Statements.{statements}
-use Rattle.gmpl_statement_kinds.specs.StatementKinds.{judgement}
+use Rattle.gmpl_statement_names.specs.Statements.{statements, statements_from}
+use Rattle.gmpl_statement_kinds.specs.StatementKinds.{judgement, judged_from}
 use Rattle.gmpl_parse.specs.declared.model.Model.{Model}
 use Rattle.gmpl_parse.specs.declared.model.ParseError.{ParseError}
 use Rattle.gmpl_parse.specs.declared.model.ParseError.TheVariants.{Fault, NoMemory}
@@ -18,6 +16,24 @@ unless_bad (Some fault) model = Err fault
 -- the statements that the first pass found, judged by the two passes behind it
 abbrev pub model_of : Statements → Result Model SyntaxFault
 model_of found = unless_bad (judgement (statements found)).fault (record { statements = (statements found).items; objects = (judgement (statements found)).objects })
+
+-- ---- the first fault, pass by pass
+
+abbrev pub fault_of : Result Model SyntaxFault → Option SyntaxFault
+fault_of (Ok model) = None
+fault_of (Err fault) = Some fault
+
+abbrev pub or_else : Option SyntaxFault → Option SyntaxFault → Option SyntaxFault
+or_else (Some fault) other = Some fault
+or_else None other = other
+
+-- the fault that the second pass finds among the statements before the first bad one of the first pass
+abbrev pub own_of_names : Statements → Option SyntaxFault
+own_of_names found = (statements_from [] (record { names = []; own = None }) found.items None).fault
+
+-- the fault that the third pass finds among the statements before the first bad one of the second pass
+abbrev pub own_of_kinds : Statements → Option SyntaxFault
+own_of_kinds found = (judged_from [] (statements found).items None).fault
 
 -- the code and the definition go the same way; want of memory is free
 abbrev pub IsOutcome : Result Model SyntaxFault → Result Model ParseError → Type 0

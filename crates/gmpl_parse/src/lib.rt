@@ -1,8 +1,10 @@
 //! The model that the statements of a MathProg text make, or the first fault.
 #![tactic(auto)]
 
+mod laws;
 mod model;
 mod passes;
 
+pub use laws::first_bad_statement_decides;
 pub use model::{Model, ParseError};
 pub use passes::model_of;

@@ -8,8 +8,6 @@ mod real;
 mod sink;
 mod store;
 mod sure_store;
-#[cfg(test)]
-mod tests;
 
 pub use mem_sink::{MemSink, SureSink};
 pub use mem_store::MemStore;

@@ -1,6 +1,6 @@
 // Calls that succeed, that fail when told to, and that take a part.
 
-use crate::{
+use outside::{
     LoadFault, MemSink, MemStore, Store, SureStore, Trouble, read_all, write_all, write_file,
 };
 
