@@ -3,4 +3,6 @@
 #![tactic(auto)]
 
 #[cfg(test)]
+mod statements;
+#[cfg(test)]
 mod tokens;

@@ -1,0 +1,5 @@
+mod Levels
+mod Steps
+mod Quiet
+mod Climb
+mod Formulas
