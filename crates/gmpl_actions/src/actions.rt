@@ -16,7 +16,7 @@ use sqlite_items::Items;
 // ---- the heads of a `for`
 
 #[tactic(auto, unfolding(crate::specs::Actions::one_head))]
-fn one_head(reader: Reader, tokens: &mut Cursor<'_>) -> Result<Indexing, ParseError>
+fn one_head(reader: Reader, tokens: &mut Cursor<'_, '_>) -> Result<Indexing, ParseError>
     ensures { Reads (spec.one_head reader.depth tokens.old) result tokens.new }
 {
     let domain = reader.indexing_expression(tokens)?;
@@ -35,7 +35,7 @@ fn is_for(beginning: Beginning) -> bool
 
 fn more_heads(
     reader: Reader,
-    tokens: &mut Cursor<'_>,
+    tokens: &mut Cursor<'_, '_>,
     most: usize,
     mut found: Items<Indexing>,
 ) -> Result<Items<Indexing>, ParseError>
@@ -52,7 +52,7 @@ fn more_heads(
 }
 
 #[tactic(auto, unfolding(crate::specs::Actions::heads))]
-fn heads(reader: Reader, tokens: &mut Cursor<'_>) -> Result<Items<Indexing>, ParseError>
+fn heads(reader: Reader, tokens: &mut Cursor<'_, '_>) -> Result<Items<Indexing>, ParseError>
     ensures { Reads (spec.heads reader.depth tokens.old) result tokens.new }
 {
     let first = list_of_one(reader.alloc, one_head(reader, tokens)?)?;
@@ -78,7 +78,7 @@ fn into_block(reader: Reader) -> Result<Reader, ParseError>
 }
 
 #[tactic(auto, unfolding(crate::specs::Actions::written_table))]
-fn written_table(reader: Reader, tokens: &mut Cursor<'_>) -> Result<Action, ParseError>
+fn written_table(reader: Reader, tokens: &mut Cursor<'_, '_>) -> Result<Action, ParseError>
     ensures { Reads (spec.written_table reader.depth tokens.old) result tokens.new }
 {
     let name = titled_name(reader.alloc, tokens)?;
@@ -88,7 +88,7 @@ fn written_table(reader: Reader, tokens: &mut Cursor<'_>) -> Result<Action, Pars
 // An inner statement that is no `for`.
 fn simple(
     reader: Reader,
-    tokens: &mut Cursor<'_>,
+    tokens: &mut Cursor<'_, '_>,
     beginning: Beginning,
 ) -> Result<Action, ParseError>
     ensures { Reads (spec.simple_by reader.depth (spec.block reader.depth) beginning tokens.old) result tokens.new }
@@ -117,7 +117,7 @@ fn simple(
 /// A statement that a `for` may hold.
 #[cycle(actions)]
 #[tactic(auto, unfolding(crate::specs::Actions::action_with))]
-pub fn action(reader: Reader, tokens: &mut Cursor<'_>) -> Result<Action, ParseError>
+pub fn action(reader: Reader, tokens: &mut Cursor<'_, '_>) -> Result<Action, ParseError>
     ensures { Reads (spec.action reader.depth tokens.old) result tokens.new }
 {
     let beginning = begins_with(tokens.peek(), tokens.spelling());
@@ -132,7 +132,7 @@ pub fn action(reader: Reader, tokens: &mut Cursor<'_>) -> Result<Action, ParseEr
 
 #[cycle(actions)]
 #[tactic(auto, unfolding(crate::specs::Actions::looped))]
-fn looped(reader: Reader, tokens: &mut Cursor<'_>) -> Result<Action, ParseError>
+fn looped(reader: Reader, tokens: &mut Cursor<'_, '_>) -> Result<Action, ParseError>
     ensures { Reads (spec.looped reader.depth (spec.block reader.depth) tokens.old) result tokens.new }
 {
     let heads = heads(reader, tokens)?;
@@ -142,7 +142,7 @@ fn looped(reader: Reader, tokens: &mut Cursor<'_>) -> Result<Action, ParseError>
 
 #[cycle(actions)]
 #[tactic(auto, unfolding(crate::specs::Actions::body, crate::specs::Actions::simple))]
-fn body(reader: Reader, tokens: &mut Cursor<'_>) -> Result<Items<Action>, ParseError>
+fn body(reader: Reader, tokens: &mut Cursor<'_, '_>) -> Result<Items<Action>, ParseError>
     ensures { Reads (spec.body reader.depth (spec.block reader.depth) tokens.old) result tokens.new }
 {
     if tokens.eat(TokenKind::OpenBrace) {
@@ -156,7 +156,7 @@ fn body(reader: Reader, tokens: &mut Cursor<'_>) -> Result<Items<Action>, ParseE
 
 #[cycle(actions)]
 #[tactic(auto, unfolding(crate::specs::Actions::block_in))]
-fn block(reader: Reader, tokens: &mut Cursor<'_>) -> Result<Items<Action>, ParseError>
+fn block(reader: Reader, tokens: &mut Cursor<'_, '_>) -> Result<Items<Action>, ParseError>
     ensures { Reads (spec.block reader.depth tokens.old) result tokens.new }
 {
     let inside = into_block(reader)?;
@@ -166,7 +166,7 @@ fn block(reader: Reader, tokens: &mut Cursor<'_>) -> Result<Items<Action>, Parse
 }
 
 #[cycle(actions)]
-fn actions(reader: Reader, tokens: &mut Cursor<'_>) -> Result<Items<Action>, ParseError>
+fn actions(reader: Reader, tokens: &mut Cursor<'_, '_>) -> Result<Items<Action>, ParseError>
     ensures { Reads (spec.actions (spec.action reader.depth) tokens.old) result tokens.new }
 {
     let mut found = Items::new(reader.alloc);

@@ -22,12 +22,12 @@ pub fn is_kind(wanted: TokenKind, found: Option<TokenKind>) -> bool
 
 /// The tokens that are left, and why there are no more behind them.
 #[derive(Drop)]
-pub struct Cursor<'a> {
-    rest: &'a [Token<'a>],
+pub struct Cursor<'s, 'a> {
+    rest: &'s [Token<'a>],
     end: SyntaxFaultKind,
 }
 
-impl<'a> Model for Cursor<'a> {
+impl<'s, 'a> Model for Cursor<'s, 'a> {
     ghost use Rattle.gmpl_input.specs.Input.{Input};
 
     ghost Value = { Input };
@@ -35,16 +35,16 @@ impl<'a> Model for Cursor<'a> {
     ghost view = { λ c. record { rest = c.rest.now; end = c.end } };
 }
 
-impl<'a> Cursor<'a> {
+impl<'s, 'a> Cursor<'s, 'a> {
     /// Before these tokens, behind which stands no other for the given cause.
-    pub fn new(rest: &'a [Token<'a>], end: SyntaxFaultKind) -> Self
+    pub fn new(rest: &'s [Token<'a>], end: SyntaxFaultKind) -> Self
         ensures { result ≡ record { rest = rest.now; end = end } }
     {
         Cursor { rest, end }
     }
 
     /// The tokens that are left.
-    pub fn rest(&self) -> &'a [Token<'a>]
+    pub fn rest(&self) -> &'s [Token<'a>]
         ensures { result.now ≡ self.now.rest }
     {
         self.rest

@@ -2,7 +2,9 @@
 -- before it, so the first bad statement is the third pass's where that has one, else the second's, else the first's.
 use Rattle.std.specs.Prelude.{◌≡◌, [], Option, Some, None, Result, Ok, Err}
 use Rattle.gmpl_syntax.specs.declared.fault.SyntaxFault.{SyntaxFault}
+use Rattle.gmpl_token.specs.Token.{Tokens}
 use Rattle.gmpl_syntax.specs.declared.statement.Statements.{Statements}
+use Rattle.gmpl_statements.specs.Statements.{statements_of}
 use Rattle.gmpl_statement_names.specs.Statements.{statements, statements_from}
 use Rattle.gmpl_statement_kinds.specs.StatementKinds.{judgement, judged_from}
 use Rattle.gmpl_parse.specs.declared.model.Model.{Model}
@@ -16,6 +18,10 @@ unless_bad (Some fault) model = Err fault
 -- the statements that the first pass found, judged by the two passes behind it
 abbrev pub model_of : Statements → Result Model SyntaxFault
 model_of found = unless_bad (judgement (statements found)).fault (record { statements = (statements found).items; objects = (judgement (statements found)).objects })
+
+-- the model that the tokens of a text make, or its first fault
+abbrev pub parsed : Tokens → Result Model SyntaxFault
+parsed tokens = model_of (statements_of tokens)
 
 -- ---- the first fault, pass by pass
 

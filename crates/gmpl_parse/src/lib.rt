@@ -3,8 +3,10 @@
 
 mod laws;
 mod model;
+mod parse;
 mod passes;
 
 pub use laws::first_bad_statement_decides;
 pub use model::{Model, ParseError};
+pub use parse::parse;
 pub use passes::model_of;

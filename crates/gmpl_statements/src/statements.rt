@@ -70,7 +70,7 @@ fn second_place(tokens: &[Token]) -> usize
 }
 
 #[tactic(auto, unfolding(crate::specs::Statements::is_last))]
-fn is_end_statement(tokens: &Cursor<'_>) -> bool
+fn is_end_statement(tokens: &Cursor<'_, '_>) -> bool
     ensures { result ≡ spec.is_last is_end_word tokens.now }
 {
     tokens.sees(TokenKind::Name)
@@ -78,7 +78,7 @@ fn is_end_statement(tokens: &Cursor<'_>) -> bool
 }
 
 #[tactic(auto, unfolding(crate::specs::Statements::is_last))]
-fn is_data_statement(tokens: &Cursor<'_>) -> bool
+fn is_data_statement(tokens: &Cursor<'_, '_>) -> bool
     ensures { result ≡ spec.is_last is_data_word tokens.now }
 {
     tokens.sees(TokenKind::Name)
@@ -123,7 +123,10 @@ fn with_data(mut items: Items<Numbered>, tokens: &[Token]) -> Result<Statements,
 
 /// The statements of a model with these tokens, up to its end or to the first bad one, with that one's number, line and kind.
 #[tactic(auto, unfolding(crate::specs::Statements::statements_of))]
-pub fn read_statements<'a>(alloc: Global, tokens: &'a Tokens<'a>) -> Result<Statements, AllocError>
+pub fn read_statements<'s, 'a>(
+    alloc: Global,
+    tokens: &'s Tokens<'a>,
+) -> Result<Statements, AllocError>
     ensures { IfOk result (λ statements. statements ≡ spec.statements_of tokens.now) }
 {
     let fault = tokens.fault();

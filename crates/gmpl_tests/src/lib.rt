@@ -3,4 +3,8 @@
 #![tactic(auto)]
 
 #[cfg(test)]
+mod models;
+#[cfg(test)]
+mod statements;
+#[cfg(test)]
 mod tokens;

@@ -1,0 +1,286 @@
+// Model texts with the objects that they declare, or with their first fault.
+use gmpl_kinds::{Object, Sort};
+use gmpl_lexer::read_tokens;
+use gmpl_parse::{ParseError, parse};
+use gmpl_syntax::{SyntaxFault, SyntaxFaultKind};
+use std::alloc::{AllocError, Global};
+use std::process::Abort;
+use std::test::Fail;
+
+// ---- tables: objects, and the text, in which `$` is a line feed
+
+// An object is a letter (S a set, P a parameter, V a variable, C a constraint, O an objective), the number of its subscripts,
+// and for a set the dimension of its elements behind `/`. A fault is its kind behind `!`, the statement's number and its line.
+// `-` is a model without objects.
+
+// What names mean.
+const NAMES: &str = "\
+- => end;
+S0/1 P0 => set S := {1}; param p := 1;
+!Undeclared 1 1 => param p := q;
+!Undeclared 1 1 => param p := q; param q := 1;
+!Undeclared 2 2 => param p := 1;$param q := p + r;
+P0 P0 => param p := 1; param q := p;
+!Declared 2 1 => param p := 1; set p := {1};
+!Declared 2 1 => param p := 1; param p := q;
+!Declared 2 1 => var x; x: x >= 1;
+!Unsupported 1 1 => param p := p;
+!Unsupported 1 1 => set S{S};
+!Unsupported 1 1 => set S{1..S};
+!Unsupported 1 1 => param p{p in 1..2};
+!Undeclared 2 1 => var x; c: x >= y;
+S0/1 P1 => set S := 1..3; param p{i in S} := i;
+!Undeclared 3 1 => set S := 1..3; param p{i in S} := i; param q := i;
+!Undeclared 2 1 => set S := 1..3; param p := sum{i in S} i + i;
+S0/1 P0 => set S := 1..3; param p := sum{i in S} (i + i);
+S0/1 P0 => set S := 1..3; param p := sum{i in S, j in i..3} j;
+!Undeclared 2 1 => set S := 1..3; param p := sum{j in i..3, i in S} j;
+!Undeclared 1 1 => param p := sum{i in 1..i} i;
+!Declared 2 1 => set S dimen 2; param p := sum{(i,i) in S} i;
+S0/2 P0 => set S dimen 2; param p := sum{i in 1..2, (i,j) in S} j;
+S0/2 P0 => set S dimen 2; param p := sum{(i,j) in S, (j,k) in S} k;
+S0/2 P0 => set S dimen 2; param p := sum{(1,j) in S} j;
+S0/2 P0 => set S dimen 2; param p := sum{(i,j) in S: i < j} i;
+!Undeclared 2 1 => set S dimen 2; param p := sum{(i,j+i) in S} i;
+S0/1 P1 P1 => set S := {1}; param a{i in S} := i; param b{i in S} := a[i];
+!Undeclared 2 1 => set S := {1}; param b{i in S} := a[i];
+!Undeclared 2 1 => set S := {1}; param b{i in S} := a[k];
+!Undeclared 1 1 => param p := q[r];
+!Unsupported 1 1 => param p := sqrt(2);
+!Undeclared 1 1 => param p := sqrt(q);
+!Unsupported 2 1 => var x; param p := x.val;
+!Undeclared 1 1 => param p := x.val;
+";
+
+// What is not supported so far: what is wrong inside comes first.
+const UNSUPPORTED: &str = "\
+!Unsupported 1 1 => param p default 1;
+!Undeclared 1 1 => param p default q;
+!Unsupported 1 1 => param p integer;
+!Unsupported 1 1 => param p binary;
+!Unsupported 1 1 => param p, >= 0;
+!Undeclared 1 1 => param p, >= q, integer;
+!Unsupported 1 1 => param p in 1..2;
+!Unsupported 1 1 => set S within 1..2;
+!Undeclared 1 1 => set S within T;
+!Unsupported 1 1 => set S default 1..2;
+!Unsupported 1 1 => var x integer;
+!Unsupported 1 1 => var x binary;
+V0 => var x >= 0;
+P0 => param p symbolic := 'a';
+!Unsupported 1 1 => solve;
+!Unsupported 1 1 => check: 1 = 1;
+!Undeclared 1 1 => check: q = 1;
+!Unsupported 1 1 => display 1;
+!Undeclared 1 1 => display 1, q;
+!Unsupported 1 1 => printf 'a';
+!Undeclared 1 1 => printf 'a', q;
+!Undeclared 1 1 => printf 'a' > q;
+!Unsupported 1 1 => for {i in 1..2} printf 'a', i;
+!Undeclared 1 1 => for {i in 1..2} printf 'a', j;
+!Undeclared 1 1 => for {i in S} printf 'a', j;
+!Unsupported 1 1 => for {i in 1..2} { display i; }
+!Unsupported 2 3 => var x;$$for {i in 1..2} {$ display i;$ display j; }
+!Unsupported 1 1 => table t {i in 1..2} OUT 'CSV' 'f': i ~ k;
+!Undeclared 1 1 => table t {i in 1..2} OUT 'CSV' f: i ~ k;
+!Unsupported 1 1 => table t {i in 1..2} OUT 'ODBC' f: i ~ k;
+!Declared 2 1 => var t; table t {i in 1..2} OUT 'CSV' 'f': i ~ k;
+!Undeclared 1 1 => table t IN 'CSV' 'f': [k], p;
+!Undeclared 1 1 => table t IN 'CSV' 'f': S <- [k];
+!Unsupported 1 1 => table t IN 'CSV' 'f': [k];
+";
+
+// Kinds and dimensions.
+const KINDS: &str = "\
+S0/1 S0/2 S0/2 => set A := 1..2; set B dimen 2; set C := A cross A;
+S0/1 S0/3 => set A := 1..2; set C := A cross A cross A;
+S0/1 => set A := {};
+S0/2 => set A := {(1,2), (3,4)};
+S0/2 => set A := {i in 1..2, j in 1..2: i < j};
+S0/2 => set A := setof{i in 1..2} (i, i);
+S1/1 => set A{i in 1..2} := 1..i;
+S2/1 => set A{i in 1..2, j in 1..2} := 1..i;
+S0/2 => set A dimen 2 := {};
+!WrongDimension 1 1 => set A dimen 0;
+!WrongDimension 1 1 => set A dimen 1.5;
+!WrongDimension 1 1 => set A dimen 21;
+S0/20 => set A dimen 20;
+!WrongDimension 1 1 => set A dimen 2 := {1};
+!WrongKind 1 1 => set A := 1;
+!WrongKind 1 1 => set A := 'a';
+!WrongKind 1 1 => set A := (1, 2);
+!WrongDimension 2 1 => set A dimen 20; set B := A cross A;
+!WrongDimension 2 1 => set A dimen 2; set B := A union 1..2;
+!WrongKind 1 1 => set A := 1..2 union 1;
+!WrongKind 1 1 => set A := {1, 1..2};
+!WrongKind 1 1 => set A := {1..2, 1};
+!WrongDimension 1 1 => set A := {1, (1,2)};
+!WrongKind 1 1 => param p := 1..2;
+!WrongKind 1 1 => param p := {1};
+!WrongKind 1 1 => param p := (1, 2);
+P0 => param p := if 1 < 2 then 3 else 4;
+P0 => param p := if 1 then 3;
+!WrongKind 1 1 => param p := if 1..2 then 3;
+!WrongKind 1 1 => param p := if 1 < 2 then 1..2 else 3;
+!WrongDimension 1 1 => set A := if 1 < 2 then 1..2 else {(1,2)};
+!WrongKind 1 1 => param p := (1 < 2);
+!WrongKind 1 1 => param p := sum{i in 1..2} (1..i);
+!WrongKind 1 1 => param p := sum{i in 3} i;
+!WrongDimension 1 1 => param p := sum{(i,j) in 1..2} i;
+!WrongDimension 2 1 => set A dimen 2; param p := sum{i in A} i;
+!WrongKind 1 1 => param p := sum{i in 1..2: 1..2} i;
+!WrongKind 1 1 => param p := if 1..2 = 1..2 then 1;
+P0 => param p := if 1 in 1..2 then 1;
+!WrongDimension 1 1 => param p := if (1,2) in 1..2 then 1;
+!WrongKind 1 1 => param p := if 1 in 2 then 1;
+P0 => param p := if 1..2 within 1..3 then 1;
+!WrongKind 1 1 => param p := if 1 within 1..3 then 1;
+P0 => param p := card(1..2);
+!WrongKind 1 1 => param p := card(1);
+!WrongKind 1 1 => param p := abs(1..2);
+!WrongKind 1 1 => param p := -(1..2);
+!WrongKind 1 1 => param p := 2 ** (1..2);
+P1 P0 => param p{1..2}; param q := p[1];
+!WrongDimension 2 1 => param p{1..2}; param q := p;
+!WrongDimension 2 1 => param p{1..2}; param q := p[1,2];
+!WrongKind 2 1 => param p{1..2}; param q := p[1..2];
+!WrongDimension 1 1 => param p := sum{i in 1..2} i[1];
+P2 => param p{1..2, 3..4};
+P2 => param p{i in 1..2, j in 3..4: i < j};
+!WrongKind 1 1 => param p{1};
+S0/20 P20 => set A dimen 20; param p{A};
+!WrongDimension 2 1 => set A dimen 20; param p{A, 1..2};
+V0 O0 C0 => var x; minimize z: x; r: x >= 1;
+V1 O0 C1 => var x{1..2}; minimize z: x[1] + x[2]; r{i in 1..2}: x[i] >= i;
+V0 C0 => var x; r: 1 <= x <= 2;
+!WrongKind 2 1 => var x; r: x <= 1 <= 2;
+!WrongKind 2 1 => var x; r: 1 <= 2 <= x;
+!WrongKind 2 1 => var x; param p := x;
+!WrongKind 2 1 => var x; set S := 1..x;
+!WrongKind 2 1 => var x; var y >= x;
+!WrongKind 2 1 => var x; param p{1..x};
+!WrongDimension 2 1 => var x{1..2}; minimize z: x;
+!WrongKind 3 1 => var x; r: x >= 1; s: r >= 1;
+!WrongKind 3 1 => var x; minimize z: x; s: z >= 1;
+!WrongKind 1 1 => minimize z: 1..2;
+!WrongKind 1 1 => r: (1, 2) >= 1;
+!WrongKind 1 1 => r: 1 >= (1 < 2);
+!WrongKind 1 1 => param p := 1 & (1..2);
+P0 => param p := 'a' & 1;
+";
+
+// Statements are judged in order, and each in three passes: which fault comes first.
+const ORDER: &str = "\
+!Undeclared 1 1 => param p := q + ((1..2) * 1);
+!WrongKind 1 1 => param p := 1..2; param q := ;
+!Undeclared 1 1 => param p := q; param r := ;
+!WrongKind 1 1 => param p := 1..2; param q := r;
+!NotAStatement 2 2 => param p := 1;$param q := ;
+!BadByte 2 2 => param p := 1;$param q := @;
+!WrongKind 1 1 => param p := 1..2; param q := @;
+!WrongKind 1 1 => param p := (1..2) + (if 1 < 2 then {1} else {(1,2)});
+!WrongDimension 1 1 => param p := card(if 1 < 2 then {1} else {(1,2)}) + (1..2);
+!NotAStatement 1 1 => param p := q + ;
+P0 => param p := 1; end; param q := r;
+!TooDeep 2 1 => param p := 1; param q := (((((((((((((((((((((((((((((((((((((((((((((((((((r;
+";
+
+// ---- an answer in the words of the tables
+
+fn sort_letter(sort: Sort) -> char {
+    match sort {
+        Sort::Set => 'S',
+        Sort::Param => 'P',
+        Sort::Var => 'V',
+        Sort::Constraint => 'C',
+        Sort::Objective => 'O',
+    }
+}
+
+fn object_text(alloc: Global, object: Object) -> Result<String, AllocError> {
+    let letter = sort_letter(object.sort);
+    match object.elements {
+        Some(dimension) => format!(in alloc; "{letter}{}/{dimension}", object.subscripts),
+        None => format!(in alloc; "{letter}{}", object.subscripts),
+    }
+}
+
+fn kind_text(kind: SyntaxFaultKind) -> &'static str {
+    match kind {
+        SyntaxFaultKind::BadByte => "BadByte",
+        SyntaxFaultKind::NotAStatement => "NotAStatement",
+        SyntaxFaultKind::Unended => "Unended",
+        SyntaxFaultKind::TooDeep => "TooDeep",
+        SyntaxFaultKind::Undeclared => "Undeclared",
+        SyntaxFaultKind::Declared => "Declared",
+        SyntaxFaultKind::Unsupported => "Unsupported",
+        SyntaxFaultKind::WrongKind => "WrongKind",
+        SyntaxFaultKind::WrongDimension => "WrongDimension",
+        _ => "another kind",
+    }
+}
+
+fn fault_text(alloc: Global, fault: SyntaxFault) -> Result<String, AllocError> {
+    format!(in alloc;
+        "!{} {} {}",
+        kind_text(fault.kind),
+        fault.statement,
+        fault.line
+    )
+}
+
+fn objects_text(alloc: Global, objects: &[Object]) -> Result<String, AllocError> {
+    let mut answer = String::new(alloc);
+    for object in objects {
+        if !answer.is_empty() {
+            answer.push(' ')?;
+        }
+        let word = object_text(alloc, *object)?;
+        answer.push_str(word.as_str())?;
+    }
+    if answer.is_empty() {
+        answer.push('-')?;
+    }
+    Ok(answer)
+}
+
+fn answer_text(alloc: Global, text: &str) -> Result<String, AllocError> {
+    let tokens = read_tokens(alloc, text.as_bytes())?;
+    match parse(alloc, &tokens) {
+        Ok(model) => objects_text(alloc, model.objects.as_slice()),
+        Err(ParseError::Fault(fault)) => fault_text(alloc, fault),
+        Err(ParseError::NoMemory) => Err(AllocError),
+    }
+}
+
+fn check_table(rt: &impl Abort, alloc: Global, table: &str) -> Result<(), Fail> {
+    for row in table.lines() {
+        let Some((want, text)) = row.split_once(" => ") else {
+            panic!(rt; "an answer and a text: {row}");
+        };
+        let text = text.replace(alloc, "$", "\n")?;
+        let found = answer_text(alloc, text.as_str())?;
+        assert_eq!(rt; found.as_str(), want, "at {row}");
+    }
+    Ok(())
+}
+
+#[test]
+fn names_of_models(rt: HostRuntime) -> Result<(), Fail> {
+    check_table(&rt, rt.alloc(), NAMES)
+}
+
+#[test]
+fn unsupported_statements(rt: HostRuntime) -> Result<(), Fail> {
+    check_table(&rt, rt.alloc(), UNSUPPORTED)
+}
+
+#[test]
+fn kinds_of_models(rt: HostRuntime) -> Result<(), Fail> {
+    check_table(&rt, rt.alloc(), KINDS)
+}
+
+#[test]
+fn first_faults(rt: HostRuntime) -> Result<(), Fail> {
+    check_table(&rt, rt.alloc(), ORDER)
+}
