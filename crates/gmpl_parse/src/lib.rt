@@ -3,10 +3,10 @@
 
 mod laws;
 mod model;
-mod parse;
 mod passes;
+mod reading;
 
 pub use laws::first_bad_statement_decides;
 pub use model::{Model, ParseError};
-pub use parse::parse;
 pub use passes::model_of;
+pub use reading::parse;
