@@ -414,7 +414,7 @@ set !BadByte 2 1 => set S; set $@ ;
 !TooWide 1 1 => param p := 1e99;
 set !TooWide 2 1 => set S; 1e99;
 !UnendedString 1 2 => $'a
-param !UnendedComment 2 2 => param p := 1;$/* end;
+param:A !UnendedComment 2 2 => param p := 1;$/* end;
 ";
 
 // What opens something: what stands before it, the opening tokens, what stands inside, the closing tokens, what stands behind it,
