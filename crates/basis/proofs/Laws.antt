@@ -19,8 +19,8 @@ pub use Rattle.basis.proofs.NodeTerms.{derived-lower, row-lower, row-upper}
 pub use Rattle.basis.proofs.Order.{above_some, below_some, neg_above, neg_below, not_le, zero_numerator}
 pub use Rattle.basis.proofs.Bounds.{none_outside_inside}
 -- what the end of a run shows of its node
-pub use Rattle.basis.proofs.Blocked.{infeasible_shows}
-pub use Rattle.basis.proofs.Leaves.{infeasible_proves, optimal_proves, unbounded_proves}
+pub use Rattle.basis.proofs.Blocked.{infeasible_shows, refutes_leaf}
+pub use Rattle.basis.proofs.Leaves.{infeasible_proves, optimal_is_best, optimal_passes, optimal_proves, unbounded_proves}
 pub use Rattle.basis.proofs.Ends.{optimal_point, optimal_weights_show, unbounded_point, unbounded_ray}
 -- base numbers, and operations on site numbers
 pub use Rattle.basis.proofs.NumberFacts.{infeasible_weights_base, optimal_point_base, optimal_weights_base, pair_within, run_within_node, unbounded_point_base, unbounded_ray_base}

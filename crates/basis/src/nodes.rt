@@ -3,10 +3,10 @@ ghost use Rattle.std.specs.Prelude.{ℕ, List, [], length, ◌≡◌, true, Some
 ghost use Rattle.rational.specs.Rational.{Rational, ◌*ℚ◌};
 ghost use Rattle.milp.specs.Form.{sum_at};
 ghost use Rattle.milp.specs.Problem.{Problem};
-ghost use Rattle.milp.specs.Points.{Feasible, IsImprovingRay, objective_value, sign_of};
+ghost use Rattle.milp.specs.Points.{Feasible, IsBetter, IsImprovingRay, objective_value, sign_of};
 ghost use Rattle.verdicts.specs.Certificate.{Side, Weights, Derived, Optimal, Infeasible, Empty, Bound};
 ghost use Rattle.verdicts.specs.WeightedSums.{scaled};
-ghost use Rattle.verdicts.specs.Proves.{shows, refutes, terms, Proves};
+ghost use Rattle.verdicts.specs.Proves.{shows, refutes, terms, node_passes, Proves};
 ghost use Rattle.basis.specs.System.{IsSystem, Satisfies, AllInside};
 ghost use Rattle.basis.specs.Dictionary.{Dictionary};
 ghost use Rattle.basis.specs.Node.{system_of, IsOverColumns, IsNodePoint};
@@ -27,7 +27,8 @@ pub fn points_of_nodes()
         IsNodePoint p ds sides (numbers_from 0 (length p.columns) x) }
 {}
 
-/// At an optimal basis the point is one of the node, and the weights show that none is better.
+/// At an optimal basis the point is one of the node, and the weights show that none is better; they pass the test of a leaf
+/// against its value.
 pub fn optimal_nodes()
     ensures point { (p : Problem) (ds : List Derived) (sides : List Side) (x : List Rational) (w : Weights) (b : List Place)
         (d : Dictionary) → IsOverColumns p ds sides → IsOptimalRelaxation p ds sides x w b d → IsNodePoint p ds sides x }
@@ -36,6 +37,11 @@ pub fn optimal_nodes()
     ensures leaf { (p : Problem) (ds : List Derived) (sides : List Side) (x : List Rational) (w : Weights) →
         ShowsObjective p ds sides x w → shows (length p.columns) (terms p ds sides w)
         (scaled (sign_of p.direction) p.objective) (sign_of p.direction *ℚ sum_at x p.objective) ≡ true }
+    ensures passes { (p : Problem) (ds : List Derived) (sides : List Side) (x : List Rational) (w : Weights) →
+        ShowsObjective p ds sides x w → node_passes p (Some (objective_value p x)) ds sides (Bound w) ≡ true }
+    ensures best { (p : Problem) (ds : List Derived) (sides : List Side) (x : List Rational) (w : Weights) (b : List Place)
+        (d : Dictionary) → IsOverColumns p ds sides → IsOptimalRelaxation p ds sides x w b d → (y : List Rational) →
+        IsNodePoint p ds sides y → ¬ (IsBetter p y x) }
 {}
 
 /// A blocked row's weights, and those of contradictory bounds, show that the node has no point.

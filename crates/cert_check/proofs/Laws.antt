@@ -6,3 +6,8 @@ pub use Rattle.cert_check.proofs.Exact.{if_ok, next_ok, ok_then, product_ok}
 pub use Rattle.cert_check.proofs.Exact.{all_there_ok, lower_ok}
 -- forms in order of column, and the products of a weight with one
 pub use Rattle.cert_check.proofs.Ascending.{coefficient_found, coefficient_none, entries_ascend, products_found, products_none}
+-- where all operations fit, the answers for a derived row and for a node are the definition's tests
+pub use Rattle.cert_check.proofs.PartLaws.{derived_ok, node_ok}
+-- lists of trials, and what acceptance proves
+pub use Rattle.cert_check.proofs.OutcomeLaws.{check_accepted}
+pub use Rattle.cert_check.proofs.Trials.{after, trials_then}

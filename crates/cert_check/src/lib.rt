@@ -6,6 +6,7 @@ mod checking;
 mod derived;
 mod forms;
 mod kind;
+mod leaves;
 mod lookup;
 mod nodes;
 mod part;
@@ -14,4 +15,5 @@ mod setting;
 mod sums;
 
 pub use checking::check;
+pub use leaves::{shows_no_point, shows_none_better};
 pub use part::{CheckFault, Checked, Part};

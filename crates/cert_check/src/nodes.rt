@@ -21,7 +21,7 @@ use fraction::{Frac, NoFit};
 use instance::{Instance, signed};
 
 // F is zero, and R above 0.
-fn empty_passes(setting: &Setting, weights: &Weights) -> Result<bool, NoFit>
+pub(crate) fn empty_passes(setting: &Setting, weights: &Weights) -> Result<bool, NoFit>
     ensures { result ≡ shown_answer setting.now weights.now (λ j. zero_ℚ) (is_less zero_ℚ) }
 {
     if !all_there(setting, weights)? {
@@ -35,7 +35,7 @@ fn empty_passes(setting: &Setting, weights: &Weights) -> Result<bool, NoFit>
 }
 
 // F is the objective's form with the direction's sign, and R at least the value with that sign.
-fn bound_passes(setting: &Setting, weights: &Weights, value: Frac) -> Result<bool, NoFit>
+pub(crate) fn bound_passes(setting: &Setting, weights: &Weights, value: Frac) -> Result<bool, NoFit>
     ensures { result ≡ bound_answer setting.now (Some value) weights.now }
 {
     let problem = setting.problem();

@@ -1,5 +1,5 @@
 // Weights: the multipliers of rows, columns and derived rows.
-ghost use Rattle.std.specs.Prelude.{◌≡◌, ◌≢◌, ◌+◌, ◌<◌, ◌≤◌, [], ◌∷◌, ◌++◌, pos, OnOk, OnErr, IfErr};
+ghost use Rattle.std.specs.Prelude.{◌≡◌, ◌≢◌, ◌+◌, ◌<◌, ◌≤◌, [], ◌∷◌, ◌++◌, pos, IfOk, OnOk, OnErr, IfErr};
 ghost use Rattle.verdicts.specs.Certificate.{Item as ItemOf, Weights as WeightsOf};
 ghost use Rattle.certificate.specs.Written.{count_max, rank_of, next_rank, AreItemsFrom, AreWeights};
 
@@ -68,6 +68,14 @@ impl Items {
         Ok(())
     }
 
+    /// The same weights.
+    pub fn copy(&self, alloc: Global) -> Result<Self, AllocError>
+        ensures { IfOk result (λ copy. copy ≡ self.now) }
+    {
+        let items = self.items.to_vec(alloc)?;
+        Ok(Items { items })
+    }
+
     /// The weights, for reading.
     pub fn as_slice(&self) -> &[Item]
         ensures items { result.now ≡ self.now }
@@ -116,6 +124,16 @@ impl Weights {
             columns,
             derived,
         }
+    }
+
+    /// The same weights.
+    pub fn copy(&self, alloc: Global) -> Result<Self, AllocError>
+        ensures { IfOk result (λ copy. copy ≡ self.now) }
+    {
+        let rows = self.rows.copy(alloc)?;
+        let columns = self.columns.copy(alloc)?;
+        let derived = self.derived.copy(alloc)?;
+        Ok(Weights::new(rows, columns, derived))
     }
 
     /// The weights of rows. All of the weights have a text.

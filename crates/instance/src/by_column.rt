@@ -1,5 +1,5 @@
 // The entries of rows, kept column by column.
-ghost use Rattle.std.specs.Prelude.{◌≡◌, ◌<◌, [], ◌∷◌, ◌++◌, length, slice_index_or, OnOk, OnErr};
+ghost use Rattle.std.specs.Prelude.{◌≡◌, ◌<◌, [], ◌∷◌, ◌++◌, length, map, slice_index_or, IfOk, OnOk, OnErr};
 ghost use Rattle.std.specs.List.{All};
 ghost use Rattle.milp.specs.Form.{Entry as FormEntry};
 ghost use Rattle.instance.specs.ByColumn.{with_entry, with_form, without_last, without_form};
@@ -39,6 +39,14 @@ impl EntriesByColumn {
         EntriesByColumn {
             lists: Vec::new(alloc),
         }
+    }
+
+    // The same lists.
+    pub(crate) fn copy(&self, alloc: Global) -> Result<Self, AllocError>
+        ensures { IfOk result (λ copy. copy ≡ self.now) }
+    {
+        let lists = copy_lists(alloc, &self.lists)?;
+        Ok(EntriesByColumn { lists })
     }
 
     // One more column, without entries.
@@ -105,4 +113,23 @@ impl EntriesByColumn {
             left = before;
         }
     }
+}
+
+fn copy_lists(
+    alloc: Global,
+    lists: &[Vec<ColumnEntry>],
+) -> Result<Vec<Vec<ColumnEntry>>, AllocError>
+    ensures { IfOk result (λ copy. map (λ list. list.items) copy.items ≡ map (λ list. list.items) lists.now) }
+{
+    let mut copy = Vec::new(alloc);
+    for list in lists {
+        copy.push(copy_list(alloc, list)?)?;
+    }
+    Ok(copy)
+}
+
+fn copy_list(alloc: Global, list: &[ColumnEntry]) -> Result<Vec<ColumnEntry>, AllocError>
+    ensures { IfOk result (λ copy. copy.items ≡ list.now) }
+{
+    list.to_vec(alloc)
 }

@@ -1,8 +1,8 @@
 // Linear forms.
-ghost use Rattle.std.specs.Prelude.{◌≡◌, [], List};
+ghost use Rattle.std.specs.Prelude.{◌≡◌, [], List, IfOk};
 
 use fraction::Frac;
-use std::alloc::Global;
+use std::alloc::{AllocError, Global};
 use std::marker::Model;
 
 /// A coefficient, and the place of the column that it stands before.
@@ -52,6 +52,14 @@ impl Entries {
         ensures { result ≡ entries.items }
     {
         Entries { entries }
+    }
+
+    /// The same form.
+    pub fn copy(&self, alloc: Global) -> Result<Self, AllocError>
+        ensures { IfOk result (λ copy. copy ≡ self.now) }
+    {
+        let entries = self.entries.to_vec(alloc)?;
+        Ok(Entries { entries })
     }
 
     /// Its entries, for reading.

@@ -26,6 +26,13 @@ impl Name {
         })
     }
 
+    /// The same name.
+    pub fn copy(&self, alloc: Global) -> Result<Self, AllocError>
+        ensures { IfOk result (λ copy. copy ≡ self.now) }
+    {
+        Name::new(alloc, self.as_str())
+    }
+
     /// Its text.
     pub fn as_str(&self) -> &str
         ensures { result.now ≡ self.now }

@@ -1,7 +1,8 @@
 // Points.
-ghost use Rattle.std.specs.Prelude.{◌≡◌, List};
+ghost use Rattle.std.specs.Prelude.{◌≡◌, IfOk, List};
 
 use fraction::Frac;
+use std::alloc::{AllocError, Global};
 use std::marker::Model;
 
 /// A number for each column.
@@ -25,6 +26,14 @@ impl Point {
         ensures { result ≡ numbers.items }
     {
         Point { numbers }
+    }
+
+    /// The same point.
+    pub fn copy(&self, alloc: Global) -> Result<Self, AllocError>
+        ensures { IfOk result (λ copy. copy ≡ self.now) }
+    {
+        let numbers = self.numbers.to_vec(alloc)?;
+        Ok(Point { numbers })
     }
 
     /// Its numbers, for reading.

@@ -1,5 +1,5 @@
 // Columns, rows and whole problems.
-ghost use Rattle.std.specs.Prelude.{◌≡◌, ◌<◌, length};
+ghost use Rattle.std.specs.Prelude.{◌≡◌, ◌<◌, [], length, IfOk};
 ghost use Rattle.std.specs.List.{All};
 ghost use Rattle.milp.specs.Form.{Entry as FormEntry};
 ghost use Rattle.instance.specs.WellFormed.{IsWellFormed, IsWithinLimits};
@@ -9,6 +9,7 @@ use crate::by_column::EntriesByColumn;
 use crate::{ColumnEntry, Entries, Name};
 use fraction::Frac;
 use milp::Direction;
+use std::alloc::{AllocError, Global};
 use std::marker::Model;
 
 /// A variable with its bounds. Lower above upper is allowed: no point meets it.
@@ -68,6 +69,14 @@ impl Column {
     {
         self.integer
     }
+
+    /// The same column.
+    pub fn copy(&self, alloc: Global) -> Result<Self, AllocError>
+        ensures { IfOk result (λ copy. copy ≡ self.now) }
+    {
+        let name = self.name.copy(alloc)?;
+        Ok(Column::new(name, self.lower, self.upper, self.integer))
+    }
 }
 
 /// A constraint: a linear form with its bounds.
@@ -126,6 +135,15 @@ impl Row {
         ensures { result.now ≡ self.now.entries }
     {
         &self.entries
+    }
+
+    /// The same row.
+    pub fn copy(&self, alloc: Global) -> Result<Self, AllocError>
+        ensures { IfOk result (λ copy. copy ≡ self.now) }
+    {
+        let name = self.name.copy(alloc)?;
+        let entries = self.entries.copy(alloc)?;
+        Ok(Row::new(name, self.lower, self.upper, entries))
     }
 }
 
@@ -219,6 +237,34 @@ impl Instance {
         self
     }
 
+    /// The same problem without its objective's form, so that each feasible point has the same value. It takes no memory.
+    pub fn without_objective(mut self, alloc: Global) -> Self
+        ensures { result ≡ record self { objective = [] } }
+    {
+        self.objective = Entries::new(alloc);
+        self
+    }
+
+    /// The same problem.
+    pub fn copy(&self, alloc: Global) -> Result<Self, AllocError>
+        ensures { IfOk result (λ copy. copy ≡ self.now) }
+    {
+        let columns = copy_columns(alloc, &self.columns)?;
+        let rows = copy_rows(alloc, &self.rows)?;
+        let by_column = self.by_column.copy(alloc)?;
+        let objective_name = self.objective_name.copy(alloc)?;
+        let objective = self.objective.copy(alloc)?;
+        Ok(Instance::with_parts(
+            columns,
+            rows,
+            by_column,
+            self.direction,
+            objective_name,
+            objective,
+            self.constant,
+        ))
+    }
+
     /// Which values of the objective are wanted.
     pub fn direction(&self) -> Direction
         ensures { result ≡ self.now.direction }
@@ -247,4 +293,24 @@ impl Instance {
     {
         self.constant
     }
+}
+
+fn copy_columns(alloc: Global, columns: &[Column]) -> Result<Vec<Column>, AllocError>
+    ensures { IfOk result (λ copy. copy.items ≡ columns.now) }
+{
+    let mut copy = Vec::new(alloc);
+    for column in columns {
+        copy.push(column.copy(alloc)?)?;
+    }
+    Ok(copy)
+}
+
+fn copy_rows(alloc: Global, rows: &[Row]) -> Result<Vec<Row>, AllocError>
+    ensures { IfOk result (λ copy. copy.items ≡ rows.now) }
+{
+    let mut copy = Vec::new(alloc);
+    for row in rows {
+        copy.push(row.copy(alloc)?)?;
+    }
+    Ok(copy)
 }

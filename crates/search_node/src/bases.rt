@@ -1,5 +1,5 @@
 // Bases as the program holds them.
-ghost use Rattle.std.specs.Prelude.{◌≡◌, [], ◌∷◌, OnOk, OnErr};
+ghost use Rattle.std.specs.Prelude.{◌≡◌, [], ◌∷◌, IfOk, OnOk, OnErr};
 ghost use Rattle.search_node.specs.Bases.{next_bases};
 
 use basis::Place;
@@ -27,6 +27,14 @@ impl Basis {
         ensures { result ≡ places.items }
     {
         Basis { places }
+    }
+
+    /// The same basis.
+    pub fn copy(&self, alloc: Global) -> Result<Self, AllocError>
+        ensures { IfOk result (λ copy. copy ≡ self.now) }
+    {
+        let places = self.places.to_vec(alloc)?;
+        Ok(Basis { places })
     }
 
     /// Its places, for reading.

@@ -1,17 +1,16 @@
 // Nodes of a tree of splits.
-ghost use Rattle.std.specs.Prelude.{◌≡◌, [], ◌∷◌, ◌++◌, OnOk, OnErr, None};
+ghost use Rattle.std.specs.Prelude.{◌≡◌, [], ◌∷◌, ◌++◌, IfOk, OnOk, OnErr, None};
 
 use crate::Basis;
 use certificate::{Side, Split};
 use std::alloc::{AllocError, Global};
 use std::marker::Model;
 
-/// A split on the way to a node: its side, and the basis of the node above, from which it was read.
-#[derive(Drop)]
+/// A split on the way to a node, and the side that was taken.
+#[derive(Clone, Copy)]
 pub struct SplitTaken {
     pub split: Split,
     pub side: Side,
-    pub basis: Basis,
 }
 
 /// The splits on the way to a node, the first of them first.
@@ -48,6 +47,14 @@ impl SplitsTaken {
         Ok(())
     }
 
+    /// The same splits.
+    pub fn copy(&self, alloc: Global) -> Result<Self, AllocError>
+        ensures { IfOk result (λ copy. copy ≡ self.now) }
+    {
+        let splits = self.splits.to_vec(alloc)?;
+        Ok(SplitsTaken { splits })
+    }
+
     /// The splits, for reading.
     pub fn as_slice(&self) -> &[SplitTaken]
         ensures { result.now ≡ self.now }
@@ -72,5 +79,23 @@ impl Node {
             root_basis: None,
             splits: SplitsTaken::new(alloc),
         }
+    }
+
+    /// The same node.
+    pub fn copy(&self, alloc: Global) -> Result<Self, AllocError>
+        ensures { IfOk result (λ copy. copy ≡ self.now) }
+    {
+        let root_basis = copy_basis(alloc, &self.root_basis)?;
+        let splits = self.splits.copy(alloc)?;
+        Ok(Node { root_basis, splits })
+    }
+}
+
+fn copy_basis(alloc: Global, basis: &Option<Basis>) -> Result<Option<Basis>, AllocError>
+    ensures { IfOk result (λ copy. copy ≡ basis.now) }
+{
+    match basis {
+        None => Ok(None),
+        Some(basis) => Ok(Some(basis.copy(alloc)?)),
     }
 }

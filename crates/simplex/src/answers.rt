@@ -13,7 +13,6 @@ ghost use Rattle.simplex.specs.declared.runs.End.TheVariants as EndOf;
 
 use crate::contradiction::{contradiction, contradiction_weights};
 use crate::fault::Fault;
-use crate::node_copy::copy_node;
 use crate::point::point_of;
 use crate::ray::ray;
 use crate::relaxation::node_system;
@@ -81,7 +80,7 @@ fn stuck(alloc: Global, node: &Node, stop: RunFault) -> Stuck
     ensures { (p : Problem) (ds : List DerivedOf) (limit : ℕ) → IsNodeStop p ds (sides_of node.now.splits) limit stop → IsStuck p ds node.now limit result }
 {
     match stop {
-        RunFault::NoFit(fault) => match copy_node(alloc, node) {
+        RunFault::NoFit(fault) => match node.copy(alloc) {
             Ok(node) => Stuck::NoFit(Site { node, fault }),
             Err(_) => Stuck::NoMemory,
         },

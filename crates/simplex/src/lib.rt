@@ -6,7 +6,6 @@ mod choose;
 mod contradiction;
 mod decision;
 mod fault;
-mod node_copy;
 mod point;
 mod ratio;
 mod ray;

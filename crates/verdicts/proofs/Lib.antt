@@ -6,6 +6,7 @@ mod Sums
 mod Points
 mod DerivedRows
 mod Nodes
+mod Bounded
 mod Law
 mod Steps
 mod Converse

@@ -1,6 +1,6 @@
 -- Where all nodes pass, no feasible point beats the goal.
-use Rattle.std.proofs.Common.{◌≡◌, ℕ, ◌+◌, List, [], ◌∷◌, ◌++◌, Bool, true, false, ◌==◌, refl, sym, subst, Option, Some, None, IfSome, slice_get, length, if◌then◌else◌, ⊎_elim}
-use Rattle.std.specs.Prelude.{pos, ◌+ℤ◌}
+use Rattle.std.proofs.Common.{◌≡◌, ℕ, ◌+◌, List, [], ◌∷◌, ◌++◌, Bool, true, false, ◌==◌, refl, sym, subst, Option, Some, None, IfSome, slice_get, length, if◌then◌else◌, ⊎_elim, inl, inr}
+use Rattle.std.specs.Prelude.{pos, ◌+ℤ◌, ◌⊎◌}
 use Rattle.std.proofs.lemmas.Bool.{eqb-true}
 use Rattle.rational.specs.Rational.{Rational, ◌≤ℚ◌, ◌<ℚ◌, ◌*ℚ◌, ◌+ℚ◌, ◌-ℚ◌, whole}
 use Rattle.verdicts.specs.WeightedSums.{scaled, Weighted}
@@ -10,9 +10,9 @@ use Rattle.verdicts.proofs.Duality.{value-scaled}
 use Rattle.rational.specs.Compare.{is_at_most}
 use Rattle.milp.specs.Problem.{Problem}
 use Rattle.milp.specs.Form.{number_at, sum_at}
-use Rattle.milp.specs.Points.{Feasible, objective_value, sign_of}
-use Rattle.verdicts.specs.Certificate.{Split, Side, Low, High, Derived, TreeNode, Branch, Empty, Bound}
-use Rattle.verdicts.specs.Proves.{lesser, greater, lower_under, upper_under, terms, bound_passes, node_passes, below, Part, Test, first_failing, node_tests}
+use Rattle.milp.specs.Points.{Relaxed, Feasible, objective_value, sign_of}
+use Rattle.verdicts.specs.Certificate.{Split, Side, Low, High, Weights, Derived, TreeNode, Branch, Empty, Bound}
+use Rattle.verdicts.specs.Proves.{lesser, greater, lower_under, upper_under, is_integer, terms, bound_passes, node_passes, below, Part, Test, first_failing, node_tests}
 use Rattle.verdicts.proofs.Numbers.{le_by, sides}
 use Rattle.verdicts.proofs.Sums.{AllMeet, terms_meet, shows_sound, refutes_sound}
 use Rattle.verdicts.specs.Proves.{InsideBounds, AllDerived}
@@ -79,16 +79,29 @@ shift s v c d h = le_by _ _ _ _ (left s v c) (Q.mul_add s d c) (Q.add-le-add _ _
     left : (s v c : Rational) → s *ℚ v ≡ s *ℚ (v -ℚ c) +ℚ s *ℚ c
     left s v c = simp (field, signs, field_units)
 
-bound_sound : (p : Problem) (goal : Option Rational) (o : Option (List Weighted)) (x : List Rational) → length x ≡ length p.columns → IfSome o (AllMeet x) → bound_passes p goal o ≡ true → Beats p goal x → ⊥
-bound_sound p None o x e h t b = cc
-bound_sound p (Some v) o x e h t b =
+-- a value that weights show is at most that of each point of the leaf
+bound_shown : (p : Problem) (v : Rational) (o : Option (List Weighted)) (x : List Rational) → length x ≡ length p.columns → IfSome o (AllMeet x) → bound_passes p (Some v) o ≡ true → sign_of p.direction *ℚ v ≤ℚ sign_of p.direction *ℚ objective_value p x
+bound_shown p v o x e h t =
     let shown = shows_sound (length p.columns) x o (scaled (sign_of p.direction) p.objective) (sign_of p.direction *ℚ (v -ℚ p.constant)) e h t in
-    Q.lt-not-le _ _ b (shift (sign_of p.direction) v p.constant (sum_at x p.objective) (le_by _ _ _ _ refl (sym (value-scaled (number_at x) (sign_of p.direction) p.objective)) shown))
+    shift (sign_of p.direction) v p.constant (sum_at x p.objective) (le_by _ _ _ _ refl (sym (value-scaled (number_at x) (sign_of p.direction) p.objective)) shown)
+
+pub leaf_empty : (p : Problem) (goal : Option Rational) (ds : List Derived) (at : List Side) (w : Weights) (x : List Rational) → node_passes p goal ds at (Empty w) ≡ true → Relaxed p x → InsideBounds p at x → AllDerived x ds → ⊥
+leaf_empty p goal ds at w x t r i d = refutes_sound (length p.columns) x (terms p ds at w) r.size (terms_meet p ds at w x r d i) t
+
+pub leaf_bound : (p : Problem) (v : Rational) (ds : List Derived) (at : List Side) (w : Weights) (x : List Rational) → node_passes p (Some v) ds at (Bound w) ≡ true → Relaxed p x → InsideBounds p at x → AllDerived x ds → sign_of p.direction *ℚ v ≤ℚ sign_of p.direction *ℚ objective_value p x
+leaf_bound p v ds at w x t r i d = bound_shown p v (terms p ds at w) x r.size (terms_meet p ds at w x r d i) t
+
+pub on_a_side : (p : Problem) (s : Split) (at : List Side) (x : List Rational) → Feasible p x → is_integer (slice_get p.columns s.column) ≡ true → InsideBounds p at x → InsideBounds p (Low s ∷ at) x ⊎ InsideBounds p (High s ∷ at) x
+on_a_side p s at x f t h = ⊎_elim (λ l. inl (inside_low p s at x h l)) (λ l. inr (inside_high p s at x h l)) (sides (number_at x s.column) s.at (integer_whole (slice_get p.columns s.column) (number_at x s.column) (f.integers s.column) t))
+
+bound_closed : (p : Problem) (goal : Option Rational) (ds : List Derived) (at : List Side) (w : Weights) (x : List Rational) → node_passes p goal ds at (Bound w) ≡ true → Relaxed p x → InsideBounds p at x → AllDerived x ds → Beats p goal x → ⊥
+bound_closed p None ds at w x t r i d b = cc
+bound_closed p (Some v) ds at w x t r i d b = Q.lt-not-le _ _ b (leaf_bound p v ds at w x t r i d)
 
 node_closed : (p : Problem) (goal : Option Rational) (ds : List Derived) (at : List Side) (node : TreeNode) → DerivedHold p ds → node_passes p goal ds at node ≡ true → AllClosed p goal (below node at) → IsClosed p goal at
-node_closed p goal ds at (Branch s) d t k = record { none = λ x h b i. ⊎_elim (λ l. k.0.none x h b (inside_low p s at x i l)) (λ l. k.1.0.none x h b (inside_high p s at x i l)) (sides (number_at x s.column) s.at (integer_whole (slice_get p.columns s.column) (number_at x s.column) (h.integers s.column) t)) }
-node_closed p goal ds at (Empty w) d t k = record { none = λ x h b i. refutes_sound (length p.columns) x (terms p ds at w) h.relaxed.size (terms_meet p ds at w x h.relaxed (d.all x h) i) t }
-node_closed p goal ds at (Bound w) d t k = record { none = λ x h b i. bound_sound p goal (terms p ds at w) x h.relaxed.size (terms_meet p ds at w x h.relaxed (d.all x h) i) t b }
+node_closed p goal ds at (Branch s) d t k = record { none = λ x h b i. ⊎_elim (λ l. k.0.none x h b l) (λ l. k.1.0.none x h b l) (on_a_side p s at x h t i) }
+node_closed p goal ds at (Empty w) d t k = record { none = λ x h b i. leaf_empty p goal ds at w x t h.relaxed i (d.all x h) }
+node_closed p goal ds at (Bound w) d t k = record { none = λ x h b i. bound_closed p goal ds at w x t h.relaxed i (d.all x h) b }
 
 -- ---- the tree
 

@@ -1,0 +1,44 @@
+// The tests of leaves that stand in no certificate yet.
+ghost use Rattle.std.specs.Prelude.{◌≡◌, ◌≤◌, length, None, Some};
+ghost use Rattle.verdicts.specs.Certificate.{Empty, Bound};
+ghost use Rattle.certificate.specs.Ways.{way};
+ghost use Rattle.cert_check.specs.Parts.{node_answer};
+
+use crate::nodes::{bound_passes, empty_passes};
+use crate::setting::Setting;
+use certificate::{Derived, Tree, Weights};
+use fraction::{Frac, NoFit};
+use instance::Instance;
+
+/// Whether the weights show that no point is under the splits on the way to a place of a tree: the test of a leaf without
+/// points that stands there, or the first operation on the way that does not fit. It takes no memory.
+pub fn shows_no_point(
+    problem: &Instance,
+    derived: &[Derived],
+    tree: &Tree,
+    place: usize,
+    weights: &Weights,
+) -> Result<bool, NoFit>
+    requires { place ≤ length tree.now }
+    ensures { result ≡ node_answer (record { problem = problem.now; derived = derived.now; sides = way tree.now place }) None (Empty weights.now) }
+{
+    let setting = Setting::of_node(problem, derived, tree, place);
+    empty_passes(&setting, weights)
+}
+
+/// Whether the weights show that no point there has a better value of the objective's form than this one: the test of a
+/// leaf without better points that stands there, or the first operation on the way that does not fit. It takes no memory.
+pub fn shows_none_better(
+    problem: &Instance,
+    derived: &[Derived],
+    tree: &Tree,
+    place: usize,
+    weights: &Weights,
+    value: Frac,
+) -> Result<bool, NoFit>
+    requires { place ≤ length tree.now }
+    ensures { result ≡ node_answer (record { problem = problem.now; derived = derived.now; sides = way tree.now place }) (Some value) (Bound weights.now) }
+{
+    let setting = Setting::of_node(problem, derived, tree, place);
+    bound_passes(&setting, weights, value)
+}
