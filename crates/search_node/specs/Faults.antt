@@ -1,5 +1,4 @@
 -- Operations that do not fit.
-use Rattle.std.specs.Prelude.{◌≡◌, false}
 use Rattle.fraction.specs.declared.frac.NoFit.{NoFit}
 use Rattle.fraction.specs.Answers.{DoesNotFit}
 use Rattle.basis.specs.Numbers.{Numbers, IsSitePair}

@@ -38,6 +38,13 @@ impl SplitsTaken {
         }
     }
 
+    /// These splits, the first of them first. It takes no memory.
+    pub fn from_vec(splits: Vec<SplitTaken>) -> Self
+        ensures { result ≡ splits.items }
+    {
+        SplitsTaken { splits }
+    }
+
     /// One more split, below the others. After an error nothing has changed.
     pub fn push(&mut self, split: SplitTaken) -> Result<(), AllocError>
         ensures ok { OnOk result (self.new ≡ self.old ++ split ∷ []) }
