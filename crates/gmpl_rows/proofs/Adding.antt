@@ -1,9 +1,9 @@
 -- Rows are added one after another.
-use Rattle.std.proofs.Common.{◌≡◌, ◌∙◌, ◌≤◌, ◌+◌, ◌++◌, ◌&&◌, not, ℕ, Bool, true, false, List, [], ◌∷◌, length, Some, None, Option, slice_get, zero, suc, refl, sym, ap, subst, arith, IsTrue}
+use Rattle.std.proofs.Common.{◌≡◌, ◌∙◌, ◌≤◌, ◌+◌, ◌++◌, ◌&&◌, Bool, true, false, List, [], ◌∷◌, length, Some, None, Option, slice_get, refl, sym, ap, subst, arith, IsTrue}
 use Rattle.std.specs.List.{list_all}
 use Rattle.std.proofs.lemmas.List.{append_assoc, length-append}
 use Rattle.milp.specs.Problem.{Problem, Row, Column}
-use Rattle.instance.specs.WellFormed.{are_distinct_rows, are_entries, entry_count, has_row}
+use Rattle.instance.specs.WellFormed.{are_distinct_rows, are_entries, entry_count}
 use Rattle.gmpl_rows.specs.declared.draft.ObjectiveRow.{ObjectiveRow}
 use Rattle.gmpl_rows.specs.Problem.{objective_of, aimed_at, plain}
 

@@ -1,7 +1,6 @@
 -- The names of columns differ.
-use Rattle.std.proofs.Common.{◌≡◌, ◌∙◌, ◌++◌, ℕ, Bool, true, false, cond, List, [], ◌∷◌, map, refl, sym, ap, subst, slice_get, Some, drop, zero, suc, ◌+◌, ◌≤◌, length, arith}
+use Rattle.std.proofs.Common.{◌≡◌, ◌∙◌, ◌++◌, ℕ, Bool, true, false, cond, List, [], ◌∷◌, map, refl, sym, ap, subst, slice_get, Some, drop, zero, suc, ◌+◌, arith}
 use Rattle.std.specs.List.{AllByRecursion, IsDistinct}
-use Rattle.milp.specs.Problem.{Column}
 use Rattle.instance.specs.WellFormed.{are_distinct_columns}
 use Rattle.gmpl_value.specs.declared.symbol.Symbol.{Symbol}
 use Rattle.gmpl_value.specs.SymbolEquality.{tuple_eq}

@@ -1,12 +1,12 @@
 -- Entries and columns are counted.
-use Rattle.std.proofs.Common.{◌≡◌, ◌∙◌, ◌<◌, ◌≤◌, ◌+◌, ◌++◌, ◌&&◌, ℕ, zero, suc, Bool, true, false, not, cond, List, [], ◌∷◌, length, get_or, set, Result, Ok, Err, refl, sym, ap, subst, nat_le, arith}
+use Rattle.std.proofs.Common.{◌≡◌, ◌∙◌, ◌<◌, ◌≤◌, ◌+◌, ◌++◌, ◌&&◌, ℕ, zero, suc, Bool, true, false, cond, List, [], ◌∷◌, length, get_or, set, Ok, Err, refl, sym, ap, subst, nat_le, arith}
 use Rattle.std.proofs.lemmas.Bool.Decides.{nat_tests}
 use Rattle.std.proofs.lemmas.List.{length-append}
 use Rattle.gmpl_value.specs.declared.symbol.Symbol.{Symbol}
 use Rattle.gmpl_rows.specs.declared.member_column.Cell.{Cell}
 use Rattle.gmpl_rows.specs.declared.term.Bounds.{Bounds}
 use Rattle.gmpl_rows.specs.MemberColumn.{MemberColumn, new_column, with_cell, some_cell, is_used, one_if, cells_of, used_of, no_column}
-use Rattle.gmpl_rows.specs.Demanded.{Demanded, none_demanded, all_none, demand, give, is_demanded, place_of, changed_at, noted_in, noted, note, cell_count, used_count, within_limits, AreCounted, IsMore}
+use Rattle.gmpl_rows.specs.Demanded.{Demanded, none_demanded, all_none, demand, give, is_demanded, changed_at, noted_in, noted, note, cell_count, used_count, within_limits, AreCounted, IsMore}
 use Rattle.gmpl_rows.specs.declared.demanded.More.{More}
 use Rattle.gmpl_rows.specs.declared.term.Term.{Term}
 use Rattle.gmpl_rows.specs.declared.fault.DraftFault.TheVariants.{TooMany}

@@ -4,17 +4,17 @@ use Rattle.std.specs.List.{list_all}
 use Rattle.std.proofs.lemmas.Bool.Decides.{nat_tests}
 use Rattle.std.proofs.Math.Dec.{eqb-zero-suc, eqb-suc-zero, eqb-suc-suc}
 use Rattle.std.proofs.lemmas.List.{append_assoc, append-nil, length-append}
-use Rattle.rational.specs.Rational.{Rational, zero_ℚ}
+use Rattle.rational.specs.Rational.{Rational}
 use Rattle.rational.specs.Compare.{is_zero}
 use Rattle.milp.specs.Form.{Entry}
 use Rattle.milp.specs.Problem.{Row}
 use Rattle.instance.specs.WellFormed.{are_entries_from, are_entries, entry_count}
 use Rattle.gmpl_value.specs.declared.symbol.Symbol.{Symbol}
 use Rattle.gmpl_rows.specs.declared.member_column.Cell.{Cell}
-use Rattle.gmpl_rows.specs.MemberColumn.{MemberColumn, is_used, some_cell, one_if, cells_of, used_of}
+use Rattle.gmpl_rows.specs.MemberColumn.{MemberColumn, is_used, one_if, cells_of, used_of}
 use Rattle.gmpl_rows.specs.Demanded.{Demanded, changed_at, cell_count, used_count}
 use Rattle.gmpl_rows.specs.declared.draft.RowHead.{RowHead}
-use Rattle.gmpl_rows.specs.Problem.{LaidColumn, laid_member, laid_in, laid_out, cell_in, with_entry, entries_of, row_with, rows_from, column_of}
+use Rattle.gmpl_rows.specs.Problem.{LaidColumn, laid_member, laid_in, laid_out, cell_in, with_entry, entries_of, rows_from, column_of}
 use Rattle.gmpl_rows.specs.Laying.{RowEntries, nothing_begun, lay, lay_cell, lay_cells, lay_all, all_begun, rows_with, laid_cells}
 use Rattle.gmpl_rows.specs.declared.declared.Declared.{Declared}
 

@@ -114,6 +114,7 @@ noted_aligned row t d l = by (is_zero t.coefficient)
   where
     new : IsDemanded t.variable.subscripts t.variable.subscripts d (demand t.variable.subscripts t.bounds d)
     new = demanded t.variable.subscripts t.variable.subscripts t.bounds d l
+
     by : (z : Bool) → IsAligned (cond z (demand t.variable.subscripts t.bounds d) (give (place_of t.variable.subscripts d) (cell_of row t) (demand t.variable.subscripts t.bounds d)))
     by true = new.aligned
     by false = length_changed (with_cell (cell_of row t)) (demand t.variable.subscripts t.bounds d).columns (place_of t.variable.subscripts d) ∙ new.aligned
@@ -125,6 +126,7 @@ noted_cells m row t d l = by (is_zero t.coefficient)
   where
     new : IsDemanded m t.variable.subscripts d (demand t.variable.subscripts t.bounds d)
     new = demanded m t.variable.subscripts t.bounds d l
+
     given : cells_among m (demand t.variable.subscripts t.bounds d).members (changed_at (place_of t.variable.subscripts d) (with_cell (cell_of row t)) (demand t.variable.subscripts t.bounds d).columns)
         ≡ cond (tuple_eq m t.variable.subscripts) (cells_among m d.members d.columns ++ cell_of row t ∷ []) (cells_among m d.members d.columns)
     given =
@@ -132,12 +134,15 @@ noted_cells m row t d l = by (is_zero t.coefficient)
         ap (λ p. cells_among m after.members (changed_at p (with_cell (cell_of row t)) after.columns)) (sym new.place)
         ∙ cells_given m t.variable.subscripts (cell_of row t) after.members after.columns new.aligned new.there
         ∙ ap (λ (cs : List Cell). cond (tuple_eq m t.variable.subscripts) (cs ++ cell_of row t ∷ []) cs) new.cells
+
     never : (u : Bool) (x y : List Cell) → cond (u && false) x y ≡ y
     never true x y = refl
     never false x y = refl
+
     always : (u : Bool) → (u && true) ≡ u
     always true = refl
     always false = refl
+
     by : (z : Bool) → cells_among m (cond z (demand t.variable.subscripts t.bounds d) (give (place_of t.variable.subscripts d) (cell_of row t) (demand t.variable.subscripts t.bounds d))).members
         (cond z (demand t.variable.subscripts t.bounds d) (give (place_of t.variable.subscripts d) (cell_of row t) (demand t.variable.subscripts t.bounds d))).columns
         ≡ cond (tuple_eq m t.variable.subscripts && not z) (cells_among m d.members d.columns ++ cell_of row t ∷ []) (cells_among m d.members d.columns)

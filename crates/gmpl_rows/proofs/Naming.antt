@@ -1,23 +1,15 @@
 -- Members that differ have names that differ.
-use Rattle.std.proofs.Common.{◌≡◌, ◌∙◌, ◌<◌, ◌++◌, ◌&&◌, not, ℕ, zero, suc, Bool, true, false, cond, List, [], ◌∷◌, length, map, get_or, refl, sym, ap, subst, arith, IsTrue}
-use Rattle.std.specs.List.{AllByRecursion, IsDistinct}
+use Rattle.std.proofs.Common.{◌≡◌, ◌++◌, ℕ, Bool, true, false, List, [], ◌∷◌, map, refl, sym, ap, subst}
+use Rattle.std.specs.List.{AllByRecursion}
 use Rattle.std.specs.Str.{bytes_eq}
 use Rattle.std.specs.Cmp.Lexicographic.{same_text}
 use Rattle.milp.specs.Problem.{Column, Row}
 use Rattle.instance.specs.WellFormed.{has_column, has_row, are_distinct_columns, are_distinct_rows}
 use Rattle.gmpl_value.specs.declared.symbol.Symbol.{Symbol}
-use Rattle.gmpl_value.specs.SymbolEquality.{tuple_eq}
-use Rattle.gmpl_value.proofs.Distinct.{tuple_laws}
 use Rattle.gmpl_member_names.specs.Names.{member_name}
 use Rattle.gmpl_member_names.specs.Narrow.{AreNarrow}
 use Rattle.gmpl_member_names.proofs.NamesDiffer.{same_member}
-use Rattle.gmpl_rows.specs.declared.declared.Declared.{Declared}
-use Rattle.gmpl_rows.specs.declared.draft.RowHead.{RowHead}
-use Rattle.gmpl_rows.specs.MemberColumn.{MemberColumn, is_used}
-use Rattle.gmpl_rows.specs.Demanded.{Demanded}
-use Rattle.gmpl_rows.specs.Problem.{LaidColumn, laid_member, laid_in, laid_out, column_of, name_of, nothing_declared, row_with, rows_from, entries_of}
-use Rattle.gmpl_rows.specs.Premises.{AreDifferent, AreMembers, AreObjects, IsName, declared_name, row_member}
-use Rattle.gmpl_rows.specs.Named.{AreUsedNarrow, AreApart, IsRowNarrow, AreRowsNarrow}
+use Rattle.gmpl_rows.specs.Premises.{AreDifferent, IsName}
 
 -- ---- members with the names of their objects
 

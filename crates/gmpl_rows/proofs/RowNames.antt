@@ -1,12 +1,10 @@
 -- The names of rows differ.
 use Rattle.std.proofs.Common.{◌≡◌, ◌<◌, ℕ, zero, suc, ◌+◌, List, [], ◌∷◌, length, map, true, refl, sym, ap, subst, arith}
 use Rattle.std.specs.List.{AllByRecursion}
-use Rattle.milp.specs.Problem.{Row}
 use Rattle.instance.specs.WellFormed.{are_distinct_rows}
-use Rattle.gmpl_value.specs.declared.symbol.Symbol.{Symbol}
 use Rattle.gmpl_rows.specs.declared.declared.Declared.{Declared}
 use Rattle.gmpl_rows.specs.declared.draft.RowHead.{RowHead}
-use Rattle.gmpl_rows.specs.Problem.{LaidColumn, name_of, nothing_declared, rows_from}
+use Rattle.gmpl_rows.specs.Problem.{LaidColumn, name_of, rows_from}
 use Rattle.gmpl_rows.specs.Premises.{AreDifferent, AreMembers, AreObjects, IsName, declared_name, row_member}
 use Rattle.gmpl_rows.specs.Named.{AreRowsNarrow}
 use Rattle.gmpl_rows.proofs.Naming.{Member, full_name, IsGood, Apart, row_name, distinct_rows, names_differ}

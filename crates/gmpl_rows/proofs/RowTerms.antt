@@ -1,16 +1,15 @@
 -- A row has the coefficients of its terms.
-use Rattle.std.proofs.Common.{◌≡◌, ◌∙◌, ◌<◌, ◌≤◌, ◌+◌, ◌==◌, ◌&&◌, ◌++◌, not, ℕ, zero, suc, Bool, true, false, cond, Option, Some, None, List, [], ◌∷◌, length, get_or, Result, Ok, Err, refl, sym, ap, subst, arith}
+use Rattle.std.proofs.Common.{◌≡◌, ◌∙◌, ◌<◌, ◌≤◌, ◌==◌, ◌&&◌, ◌++◌, not, ℕ, zero, suc, Bool, true, false, cond, Option, Some, None, List, [], ◌∷◌, length, get_or, Result, Ok, Err, refl, sym, ap, subst, arith}
 use Rattle.std.specs.Prelude.{nat_lt}
 use Rattle.std.specs.List.{AllByRecursion}
 use Rattle.std.proofs.lemmas.Bool.Decides.{nat_tests}
 use Rattle.std.proofs.lemmas.List.{length-append}
-use Rattle.std.proofs.Math.Dec.{eqb-zero-suc, eqb-suc-zero, eqb-suc-suc}
 use Rattle.rational.specs.Rational.{Rational}
 use Rattle.rational.specs.Compare.{is_zero}
 use Rattle.milp.specs.declared.Direction.{Direction}
 use Rattle.gmpl_value.specs.SymbolEquality.{tuple_eq}
 use Rattle.gmpl_value.specs.declared.symbol.Symbol.{Symbol}
-use Rattle.gmpl_rows.specs.Demanded.{Demanded, all_none, changed_at, none_demanded, note, note_all, noted, noted_in, cell_of, within_limits}
+use Rattle.gmpl_rows.specs.Demanded.{Demanded, all_none, changed_at, none_demanded, note_all, noted, noted_in, cell_of, within_limits}
 use Rattle.gmpl_rows.specs.Draft.{Draft, no_rows, with_row, with_objective}
 use Rattle.gmpl_rows.specs.Follows.{then_do}
 use Rattle.gmpl_rows.specs.Problem.{cell_in}
@@ -68,11 +67,14 @@ one_term row i m t d l = ap (cell_in i) (noted_cells m row t d l) ∙ by (tuple_
   where
     old : List Cell
     old = cells_among m d.members d.columns
+
     with : (z : Bool) → is_zero t.coefficient ≡ z → (r : Bool) → cond (r && not (is_zero t.coefficient)) (Some t.coefficient) None ≡ cond (r && not z) (Some t.coefficient) None
     with z e r = ap (λ u. cond (r && not u) (Some t.coefficient) None) e
+
     never : (r : Bool) (x : Option Rational) → cond (r && false) x None ≡ None
     never true x = refl
     never false x = refl
+
     by : (u z : Bool) → is_zero t.coefficient ≡ z → cell_in i (cond (u && not z) (cells_among m d.members d.columns ++ cell_of row t ∷ []) (cells_among m d.members d.columns))
         ≡ or_else (cell_in i (cells_among m d.members d.columns)) (cond (row == i && (u && not z)) (Some t.coefficient) None)
     by true true e = sym (ap (or_else (cell_in i (cells_among m d.members d.columns))) (never (row == i) (Some t.coefficient)) ∙ nothing_else (cell_in i (cells_among m d.members d.columns)))
@@ -85,6 +87,7 @@ noted_at row i s m t ds lt h = ap (λ (d : Demanded). cell_in i (cells_among m d
     never : (r : Bool) (x : Option Rational) → cond (r && false) x None ≡ None
     never true x = refl
     never false x = refl
+
     by : (u : Bool) → cell_in i (cells_among m (cond u (noted_in row t (get_or ds s none_demanded)) (get_or ds s none_demanded)).members (cond u (noted_in row t (get_or ds s none_demanded)) (get_or ds s none_demanded)).columns)
         ≡ or_else (coefficient_at i s m ds) (cond (row == i && ((u && tuple_eq m t.variable.subscripts) && not (is_zero t.coefficient))) (Some t.coefficient) None)
     by true = one_term row i m t (get_or ds s none_demanded) (aligned_at ds s lt h)
@@ -121,6 +124,7 @@ none_given row i s m = by (row == i)
   where
     none : Option Rational
     none = None
+
     by : (r : Bool) → cond r None None ≡ none
     by true = refl
     by false = refl
@@ -169,11 +173,13 @@ made_of head terms d e is = few (nat_lt (length d.rows) 100000) is
   where
     put : List Demanded → Result Draft DraftFault
     put vs = Ok (record d { rows = d.rows ++ head ∷ []; variables = vs })
+
     taken : (r : Result (List Demanded) DraftFault) → note_all (length d.rows) terms d.variables ≡ r → then_do (λ vs. Ok (record d { rows = d.rows ++ head ∷ []; variables = vs })) r ≡ Ok e → IsMade head terms d e
     taken (Err f) was h = absurd cc
     taken (Ok vs) was h =
         let same : record d { rows = d.rows ++ head ∷ []; variables = vs } ≡ e = cc in
         record { rows = sym (ap (λ (x : Draft). x.rows) same); noted = was ∙ ap (λ (x : Draft). Ok x.variables) same }
+
     few : (t : Bool) → cond t (then_do (λ vs. Ok (record d { rows = d.rows ++ head ∷ []; variables = vs })) (note_all (length d.rows) terms d.variables)) (Err TooMany) ≡ Ok e → IsMade head terms d e
     few true h = taken (note_all (length d.rows) terms d.variables) refl h
     few false h = absurd cc

@@ -1,5 +1,5 @@
 -- The members of variables that rows demand.
-use Rattle.std.specs.Prelude.{ℕ, ◌+◌, ◌&&◌, ◌≡◌, ◌≤◌, Bool, cond, List, [], ◌∷◌, ◌++◌, length, zero, suc, nat_le, Result, Ok, Err}
+use Rattle.std.specs.Prelude.{ℕ, ◌+◌, ◌&&◌, ◌≡◌, ◌≤◌, Bool, cond, List, [], ◌∷◌, ◌++◌, zero, suc, nat_le, Result, Ok, Err}
 use Rattle.std.specs.List.{list_any, position_or_len}
 use Rattle.rational.specs.Compare.{is_zero}
 use Rattle.gmpl_value.specs.SymbolEquality.{tuple_eq}

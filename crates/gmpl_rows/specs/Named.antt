@@ -1,5 +1,5 @@
 -- Members that have names, and differ: for proofs alone.
-use Rattle.std.specs.Prelude.{cond, List, [], ◌∷◌}
+use Rattle.std.specs.Prelude.{cond, List, ◌∷◌}
 use Rattle.std.specs.List.{AllByRecursion, IsDistinct}
 use Rattle.gmpl_value.specs.SymbolEquality.{tuple_eq}
 use Rattle.gmpl_value.specs.declared.symbol.Symbol.{Symbol}

@@ -1,5 +1,5 @@
 -- The problem that the rows so far are.
-use Rattle.std.specs.Prelude.{ℕ, ◌+◌, ◌==◌, ◌&&◌, not, cond, get_or, Bool, false, List, [], ◌∷◌, ◌++◌, map, slice_get, Option, Some, None, codes}
+use Rattle.std.specs.Prelude.{ℕ, ◌+◌, ◌==◌, ◌&&◌, not, cond, get_or, false, List, [], ◌∷◌, ◌++◌, map, slice_get, Option, Some, None, codes}
 use Rattle.rational.specs.Rational.{Rational, zero_ℚ}
 use Rattle.rational.specs.Compare.{is_zero}
 use Rattle.milp.specs.Form.{Entry}

@@ -1,9 +1,9 @@
 -- Each row has its entries.
-use Rattle.std.proofs.Common.{◌≡◌, ◌∙◌, List, [], length, map, refl, subst, sym, ap, arith, IsTrue}
+use Rattle.std.proofs.Common.{◌∙◌, List, [], length, map, refl, subst, sym, ap, arith, IsTrue}
 use Rattle.std.specs.List.{list_all}
 use Rattle.milp.specs.Problem.{Row}
 use Rattle.instance.specs.WellFormed.{are_distinct_rows, are_entries, entry_count}
-use Rattle.gmpl_rows.specs.Problem.{rows_from, column_of}
+use Rattle.gmpl_rows.specs.Problem.{column_of}
 use Rattle.gmpl_rows.specs.Laying.{rows_with}
 use Rattle.gmpl_rows.proofs.Laying.{rows-made, rows-few, rows-length, rows-forms, length-columns, length-laid}
 use Rattle.gmpl_rows.specs.Named.{AreRowsNarrow}

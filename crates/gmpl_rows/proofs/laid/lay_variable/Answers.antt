@@ -1,8 +1,7 @@
 -- The member at the place is a column, where it is used.
-use Rattle.std.proofs.Common.{◌≡◌, ◌∙◌, ◌+◌, ◌++◌, ◌∷◌, [], cond, drop, List, refl, sym, ap}
+use Rattle.std.proofs.Common.{◌≡◌, ◌∙◌, ◌++◌, ◌∷◌, [], cond, refl, sym, ap}
 use Rattle.gmpl_member_names.specs.Narrow.{AreNarrow}
 use Rattle.gmpl_rows.specs.MemberColumn.{is_used}
-use Rattle.gmpl_rows.specs.Named.{AreUsedNarrow}
 use Rattle.gmpl_rows.specs.Problem.{LaidColumn, laid_member}
 use Rattle.gmpl_rows.proofs.ColumnNames.{narrow-more}
 use Rattle.gmpl_rows.proofs.LaidOut.{at-place, laid-more}

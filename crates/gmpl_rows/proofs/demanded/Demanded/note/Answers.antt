@@ -1,6 +1,5 @@
 -- How many entries and columns there are more.
-use Rattle.std.proofs.Common.{◌≡◌, ◌+◌, ap, sym, subst, ◌∙◌, arith, get_or}
-use Rattle.rational.specs.Compare.{is_zero}
+use Rattle.std.proofs.Common.{◌≡◌, ◌+◌, ap, sym, ◌∙◌, arith, get_or}
 use Rattle.gmpl_rows.specs.MemberColumn.{one_if, is_used, no_column}
 use Rattle.gmpl_rows.proofs.Counts.{demanded-more, given-more}
 use Rattle.gmpl_rows.proofs.demanded.Demanded.note.Goals as goal
