@@ -1,4 +1,4 @@
 mod Doubled
-mod NamesDiffer
+pub mod NamesDiffer
 mod NumberTexts
 mod Split

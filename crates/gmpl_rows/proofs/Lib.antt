@@ -1,0 +1,10 @@
+pub mod Places
+pub mod Counts
+pub mod LaidOut
+pub mod Laying
+pub mod Adding
+pub mod Naming
+pub mod ColumnNames
+pub mod RowNames
+pub mod MemberCells
+pub mod RowTerms

@@ -1,0 +1,37 @@
+-- What the statements of a model have made so far.
+use Rattle.std.specs.Prelude.{◌-◌, List, [], ◌∷◌, ◌++◌, length, cond, nat_lt, Result, Ok, Err, Option, Some, None}
+use Rattle.rational.specs.Rational.{Rational}
+use Rattle.milp.specs.declared.Direction.{Direction}
+use Rattle.gmpl_rows.specs.Demanded.{Demanded, note_all}
+use Rattle.gmpl_rows.specs.Follows.{then_do}
+use Rattle.gmpl_rows.specs.declared.draft.ObjectiveRow.{ObjectiveRow}
+use Rattle.gmpl_rows.specs.declared.draft.RowHead.{RowHead}
+use Rattle.gmpl_rows.specs.declared.term.Term.{Term}
+use Rattle.gmpl_rows.specs.declared.fault.DraftFault.{DraftFault}
+use Rattle.gmpl_rows.specs.declared.fault.DraftFault.TheVariants.{TooMany}
+
+-- the rows but for their entries; for each statement the members of its variable that were demanded, with their
+-- coefficients; which row is the objective's
+pub record Draft : Type 0 where
+  pub rows : List RowHead
+  pub variables : List Demanded
+  pub objective : Option ObjectiveRow
+
+abbrev pub no_rows : List Demanded → Draft
+no_rows variables = record { rows = []; variables = variables; objective = None }
+
+-- one more row; TooMany at the row, entry or column that would pass a limit
+abbrev pub with_row : RowHead → List Term → Draft → Result Draft DraftFault
+with_row head terms d =
+    cond (nat_lt (length d.rows) 100000)
+    (then_do (λ vs. Ok (record d { rows = d.rows ++ head ∷ []; variables = vs })) (note_all (length d.rows) terms d.variables))
+    (Err TooMany)
+
+abbrev pub first_of : Option ObjectiveRow → ObjectiveRow → ObjectiveRow
+first_of (Some a) b = a
+first_of None b = b
+
+-- the last row is the objective's, where there is none before it
+abbrev pub with_objective : Direction → Rational → Draft → Draft
+with_objective direction constant d =
+    record d { objective = Some (first_of d.objective (record { row = length d.rows - 1; direction = direction; constant = constant })) }
