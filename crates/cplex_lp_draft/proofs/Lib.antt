@@ -1,0 +1,5 @@
+pub mod Terms
+pub mod Sums
+pub mod Changed
+pub mod Kept
+pub mod Building
