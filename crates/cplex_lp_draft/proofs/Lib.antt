@@ -1,3 +1,4 @@
+pub mod Laws
 pub mod Terms
 pub mod Sums
 pub mod Changed

@@ -40,7 +40,7 @@ use Rattle.cplex_lp_draft.specs.Changes.{bounded, changed}
 use Rattle.cplex_lp_reader.specs.Bounds.{is_infinity, infinite, is_possible, turned, with_mentioned, bound_word, at_bound_start, at_bound_left, at_bound_relation, at_bound_name, at_bound_compared, at_bound_named, with_right_bound, at_bound_right}
 use Rattle.cplex_lp_draft.specs.Expecting.{ends_objective, ends_section, is_start, is_ended}
 use Rattle.cplex_lp_reader.specs.CplexLp.{entered, entered_integers, directed, at_section, in_section, by_kind, with_token, at_end, declared_from, end_line, declared_within, declared}
-use Rattle.cplex_lp_reader.proofs.Changed.{All-changed}
+use Rattle.cplex_lp_draft.proofs.Laws.{All-changed}
 
 abbrev IsContinuous : Column → Type 0
 IsContinuous c = c.integer ≡ false

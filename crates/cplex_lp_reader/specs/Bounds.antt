@@ -22,6 +22,7 @@ use Rattle.cplex_lp_tokens.specs.Tokens.{Token, is_word}
 use Rattle.model_text.specs.Steps.{then_do}
 use Rattle.cplex_lp_draft.specs.Steps.{misplaced, number_of}
 use Rattle.cplex_lp_draft.specs.Declaration.{Declaration, now_expecting, column_place, mentioned, with_column}
+use Rattle.cplex_lp_draft.specs.Changes.{changed}
 use Rattle.cplex_lp_draft.specs.Signs.{after_plus, after_minus, signed}
 
 -- ---- infinite numbers, in any case of letters

@@ -24,6 +24,7 @@ use Rattle.cplex_lp_tokens.specs.Tokens.{Token, is_colon, is_before_colon}
 use Rattle.model_text.specs.Steps.{then_do}
 use Rattle.cplex_lp_draft.specs.Steps.{fault_at, misplaced, number_of}
 use Rattle.cplex_lp_draft.specs.Declaration.{OpenRow, new_row, Declaration, now_expecting, added, entries_of, column_place, mentioned, with_changed}
+use Rattle.cplex_lp_draft.specs.Rows.{is_row, blank_row, with_left, with_right, filled, entry_count}
 use Rattle.cplex_lp_draft.specs.Signs.{after_plus, after_minus, signed}
 
 -- ---- a row begins

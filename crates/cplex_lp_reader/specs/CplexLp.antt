@@ -19,6 +19,7 @@ use Rattle.model_text.specs.Lines.{lines_of}
 use Rattle.cplex_lp_tokens.specs.Tokens.{Token, tokens_of}
 use Rattle.model_text.specs.Steps.{then_do}
 use Rattle.cplex_lp_draft.specs.Steps.{fault_at, misplaced}
+use Rattle.cplex_lp_draft.specs.Expecting.{ends_objective, ends_section, is_start, is_ended}
 use Rattle.cplex_lp_draft.specs.Declaration.{Declaration, nothing_declared, now_expecting, problem_of}
 use Rattle.cplex_lp_reader.specs.Objective.{in_objective, at_objective_start, at_objective_colon}
 use Rattle.cplex_lp_reader.specs.Constraints.{in_row_terms, at_row_start, at_row_colon, at_row_first, at_row_number, at_row_right}
