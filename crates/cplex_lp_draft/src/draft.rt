@@ -187,12 +187,7 @@ impl<'a> Draft<'a> {
     }
 
     /// The row of a new name begins at a line.
-    pub fn push_row(
-        &mut self,
-        alloc: Global,
-        line: usize,
-        name: String,
-    ) -> Result<(), AllocError>
+    pub fn push_row(&mut self, alloc: Global, line: usize, name: String) -> Result<(), AllocError>
         requires new { is_row (string_bytes name) self.old.rows ≡ false }
         requires room { length self.old.rows < 100_000 }
         ensures { OnOk result (self.new ≡ record self.old { rows = self.old.rows ++ blank_row (string_bytes name) ∷ []; open_row = new_row line }) }

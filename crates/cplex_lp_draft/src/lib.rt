@@ -4,14 +4,14 @@
 mod column_change;
 mod draft;
 mod expecting;
-mod problem;
 mod form;
 mod open_row;
+mod problem;
 mod row;
 mod row_table;
 
 pub use column_change::ColumnChange;
 pub use draft::Draft;
 pub use expecting::{Expecting, Limit, Sign, TermPart};
-pub use problem::finish;
 pub use form::sum_at;
+pub use problem::finish;

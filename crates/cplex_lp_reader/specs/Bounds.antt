@@ -1,9 +1,6 @@
 -- Bounds: `[number relation] name [relation number]` and `name free`, where numbers may be infinite; general and binary columns
 -- (GLPK Reference Manual, appendix on the CPLEX LP format: bounds section; general, integer and binary sections).
-use Rattle.std.specs.Prelude.{ℕ, ◌||◌, Bool, true, false, List, codes, Some, None, Result, Ok, if◌then◌else◌}
-use Rattle.std.specs.declared.option.Option.{Option}
-use Rattle.rational.specs.Rational.{Rational, zero_ℚ, one_ℚ}
-use Rattle.milp.specs.Problem.{Column}
+use Rattle.std.specs.Prelude.{ℕ, ◌||◌, Bool, true, false, List, codes, Result, Ok, if◌then◌else◌}
 use Rattle.model_text.specs.declared.fault.FileFault.{FileFault}
 use Rattle.model_text.specs.declared.profile.Profile.{Profile}
 use Rattle.cplex_lp_tokens.specs.declared.token.Relation.{Relation}

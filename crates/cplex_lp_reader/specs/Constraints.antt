@@ -2,8 +2,6 @@
 -- (GLPK Reference Manual, appendix on the CPLEX LP format: constraints section).
 use Rattle.std.specs.Prelude.{ℕ, ◌+◌, ◌-◌, nat_lt, nat_le, Bool, true, false, List, [], ◌∷◌, ◌++◌, length, codes, Some, None, Result, Ok, if◌then◌else◌}
 use Rattle.std.specs.declared.option.Option.{Option}
-use Rattle.std.specs.List.{list_any}
-use Rattle.std.specs.Str.{bytes_eq}
 use Rattle.std.specs.Fmt.{decimal}
 use Rattle.rational.specs.Rational.{Rational, one_ℚ}
 use Rattle.milp.specs.Problem.{Row}
@@ -11,7 +9,7 @@ use Rattle.model_text.specs.declared.fault.FaultKind.TheVariants.{Twice, TooMany
 use Rattle.model_text.specs.declared.fault.FileFault.{FileFault}
 use Rattle.model_text.specs.declared.profile.Profile.{Profile}
 use Rattle.cplex_lp_tokens.specs.declared.token.Relation.{Relation}
-use Rattle.cplex_lp_tokens.specs.declared.token.Relation.TheVariants.{AtMost, AtLeast, Exactly}
+use Rattle.cplex_lp_tokens.specs.declared.token.Relation.TheVariants.{AtMost, AtLeast}
 use Rattle.cplex_lp_tokens.specs.declared.token.TokenKind.{TokenKind}
 use Rattle.cplex_lp_tokens.specs.declared.token.TokenKind.TheVariants.{Word, Literal, Plus, Minus, Compared}
 use Rattle.cplex_lp_draft.specs.declared.expecting.Sign.{Sign}
@@ -23,7 +21,7 @@ use Rattle.cplex_lp_draft.specs.declared.expecting.Expecting.TheVariants.{RowSta
 use Rattle.cplex_lp_tokens.specs.Tokens.{Token, is_colon, is_before_colon}
 use Rattle.model_text.specs.Steps.{then_do}
 use Rattle.cplex_lp_draft.specs.Steps.{fault_at, misplaced, number_of}
-use Rattle.cplex_lp_draft.specs.Declaration.{OpenRow, new_row, Declaration, now_expecting, added, entries_of, column_place, mentioned, with_changed}
+use Rattle.cplex_lp_draft.specs.Declaration.{new_row, Declaration, now_expecting, added, entries_of, column_place, mentioned, with_changed}
 use Rattle.cplex_lp_draft.specs.Rows.{is_row, blank_row, with_left, with_right, filled, entry_count}
 use Rattle.cplex_lp_draft.specs.Signs.{after_plus, after_minus, signed}
 

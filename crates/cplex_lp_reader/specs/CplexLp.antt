@@ -1,5 +1,5 @@
 -- The problem that a CPLEX LP text declares, or its first fault.
-use Rattle.std.specs.Prelude.{ℕ, ◌+◌, Bool, true, false, List, [], ◌∷◌, length, not, Result, Ok, if◌then◌else◌}
+use Rattle.std.specs.Prelude.{ℕ, ◌+◌, Bool, List, [], ◌∷◌, length, not, Result, Ok, if◌then◌else◌}
 use Rattle.milp.specs.Problem.{Problem}
 use Rattle.milp.specs.declared.Direction.{Direction}
 use Rattle.milp.specs.declared.Direction.TheVariants.{Min, Max}
@@ -10,8 +10,6 @@ use Rattle.cplex_lp_tokens.specs.declared.token.TokenKind.{TokenKind}
 use Rattle.cplex_lp_tokens.specs.declared.token.TokenKind.TheVariants.{SectionWords}
 use Rattle.cplex_lp_tokens.specs.declared.token.Section.{Section}
 use Rattle.cplex_lp_tokens.specs.declared.token.Section.TheVariants.{Minimize, Maximize, Constraints, Bounds, General, Binary, End}
-use Rattle.cplex_lp_draft.specs.declared.expecting.Sign.TheVariants.{Unsigned}
-use Rattle.cplex_lp_draft.specs.declared.expecting.TermPart.TheVariants.{Begun, Done}
 use Rattle.cplex_lp_draft.specs.declared.expecting.Expecting.{Expecting}
 use Rattle.cplex_lp_draft.specs.declared.expecting.Expecting.TheVariants as expecting
 use Rattle.model_text.specs.Profile.{reader_profile}

@@ -88,11 +88,7 @@ fn set_objective(
 }
 
 // Without an objective it is nothing, by the name `obj`.
-fn set_nothing(
-    alloc: Global,
-    builder: &mut Builder,
-    direction: Direction,
-) -> Result<(), AllocError>
+fn set_nothing(alloc: Global, builder: &mut Builder, direction: Direction) -> Result<(), AllocError>
     ensures { IfOk result (λ _. builder.new ≡ problem_with direction builder.old.columns builder.old.rows None) }
 {
     let name = Name::new(alloc, "obj")?;

@@ -1,12 +1,10 @@
 -- What a line of RHS, RANGES or BOUNDS adds to the declaration, or the kind of its first fault: the number of fields first.
-use Rattle.std.specs.Prelude.{ℕ, pos, int_lt, ◌&&◌, not, Bool, true, false, List, [], ◌∷◌, codes, Some, None, is_some, unwrap_or, Result, Ok, Err, if◌then◌else◌}
+use Rattle.std.specs.Prelude.{ℕ, pos, int_lt, ◌&&◌, not, Bool, true, false, List, [], ◌∷◌, Some, None, is_some, Result, Ok, Err, if◌then◌else◌}
 use Rattle.std.specs.declared.option.Option.{Option}
-use Rattle.std.specs.Str.{bytes_eq}
-use Rattle.rational.specs.Rational.{Rational, zero_ℚ, one_ℚ, abs_ℚ, neg_ℚ, ◌+ℚ◌, ◌-ℚ◌}
+use Rattle.rational.specs.Rational.{Rational, zero_ℚ, abs_ℚ, neg_ℚ, ◌+ℚ◌, ◌-ℚ◌}
 use Rattle.fraction.specs.Fits.{sum_fits}
 use Rattle.fraction.specs.Literal.{read_of}
 use Rattle.fraction.specs.declared.read.ReadFault.{ReadFault}
-use Rattle.milp.specs.Problem.{Column}
 use Rattle.model_text.specs.declared.fault.FaultKind.{FaultKind}
 use Rattle.model_text.specs.declared.fault.FaultKind.TheVariants.{BadLine, TooWide, Unknown, Twice, IntegersNotYet}
 use Rattle.model_text.specs.declared.profile.Profile.{Profile}
@@ -16,7 +14,6 @@ use Rattle.mps_draft.specs.declared.row.RowKind.TheVariants.{Objective, Free, At
 use Rattle.mps_reader.specs.declared.pairs_section.PairSection.{PairSection}
 use Rattle.mps_reader.specs.declared.pairs_section.PairSection.TheVariants.{RhsPairs, RangePairs}
 use Rattle.mps_draft.specs.declared.bound.BoundKind.{BoundKind}
-use Rattle.mps_draft.specs.declared.bound.BoundKind.TheVariants.{Lower, Upper, Fixed, IntegerLower, IntegerUpper, Unbounded, NoLower, NoUpper, Binary}
 use Rattle.model_text.specs.Columns.{is_column_named}
 use Rattle.mps_draft.specs.Declaration.{is_free, DeclaredRow, Declaration, row_named, with_row, is_column, with_first_changed}
 use Rattle.mps_draft.specs.Sets.{mixes_sets, is_of_first_set, with_set}

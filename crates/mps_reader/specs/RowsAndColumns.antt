@@ -1,5 +1,5 @@
 -- What a line of ROWS or COLUMNS adds to the declaration, or the kind of its first fault: leftmost field first.
-use Rattle.std.specs.Prelude.{ℕ, ◌-◌, ◌==◌, nat_le, ◌&&◌, ◌||◌, not, Bool, true, false, List, [], ◌∷◌, ◌++◌, length, codes, Some, None, is_some, Result, Ok, Err, if◌then◌else◌}
+use Rattle.std.specs.Prelude.{ℕ, ◌==◌, nat_le, ◌&&◌, ◌||◌, not, Bool, true, false, List, [], ◌∷◌, ◌++◌, length, codes, Some, None, is_some, Result, Ok, Err, if◌then◌else◌}
 use Rattle.std.specs.declared.option.Option.{Option}
 use Rattle.std.specs.Str.{bytes_eq}
 use Rattle.rational.specs.Rational.{Rational}
@@ -8,7 +8,7 @@ use Rattle.model_text.specs.declared.fault.FaultKind.{FaultKind}
 use Rattle.model_text.specs.declared.fault.FaultKind.TheVariants.{BadLine, Unknown, Twice, TooMany, IntegersNotYet}
 use Rattle.model_text.specs.declared.profile.Profile.{Profile}
 use Rattle.mps_draft.specs.declared.row.RowKind.{RowKind}
-use Rattle.mps_draft.specs.declared.row.RowKind.TheVariants.{Objective, Free, AtMost, AtLeast, Exactly}
+use Rattle.mps_draft.specs.declared.row.RowKind.TheVariants.{Objective}
 use Rattle.rational.specs.Compare.{is_zero}
 use Rattle.mps_draft.specs.Declaration.{is_free, DeclaredRow, new_row, Declaration, is_objective_named, row_named, is_row, with_row, is_column, entry_count}
 use Rattle.mps_draft.specs.Declaration.{is_the_name}

@@ -1,5 +1,5 @@
 -- The sum stands in the place of its column.
-use Rattle.std.proofs.Common.{◌≡◌, sym, arith}
+use Rattle.std.proofs.Common.{sym, arith}
 use Rattle.std.proofs.lemmas.Result.{err_from_is_err_and}
 use Rattle.cplex_lp_draft.proofs.Sums.{added-goes, added-stops, inserted-terms}
 use Rattle.cplex_lp_draft.proofs.form.Form.add.Goals as goal
