@@ -3,10 +3,12 @@
 
 usage: bench/read_lp.py [terms ...]     (25000 50000 100000 where none are given)
 
-Two texts for each number of terms: all in the objective, in order of their columns; and ten in each row, out of order.
+Texts for each number of terms: all in the objective, in order of their columns; ten in each row, out of order; and all in one
+row, of which the columns come in the objective's order, in descending order, and shuffled.
 The program is the one that ./glpsol builds.
 """
 import os
+import random
 import subprocess
 import sys
 import tempfile
@@ -30,13 +32,35 @@ def rows(count):
     return "\n".join(lines + ["end"]) + "\n"
 
 
+def one_row(count, order):
+    lines = ["min"] + [f" + column_{j}" for j in range(count)]
+    terms = [f" + {j % 97 + 1} column_{j}" for j in order]
+    return "\n".join(lines + ["st", " row:"] + terms + [" >= 1", "end"]) + "\n"
+
+
+def shuffled(count):
+    order = list(range(count))
+    random.Random(1).shuffle(order)
+    return order
+
+
+def texts(count):
+    return [
+        ("the objective", objective(count)),
+        ("rows", rows(count)),
+        ("one row, ascending", one_row(count, range(count))),
+        ("one row, descending", one_row(count, reversed(range(count)))),
+        ("one row, shuffled", one_row(count, shuffled(count))),
+    ]
+
+
 def main():
     subprocess.run([os.path.join(TOP, "glpsol"), "--check"], stdout=subprocess.DEVNULL)  # builds it
     counts = [int(word) for word in sys.argv[1:]] or [25000, 50000, 100000]
     with tempfile.TemporaryDirectory() as folder:
         path = os.path.join(folder, "many.lp")
         for count in counts:
-            for name, text in [("the objective", objective(count)), ("rows", rows(count))]:
+            for name, text in texts(count):
                 with open(path, "w") as file:
                     file.write(text)
                 taken = []

@@ -16,28 +16,31 @@ use Rattle.cplex_lp_tokens.specs.declared.token.Section.{Section}
 use Rattle.cplex_lp_tokens.specs.declared.token.Section.TheVariants.{Minimize, Maximize, Constraints, Bounds, General, Binary, End}
 use Rattle.cplex_lp_tokens.specs.declared.token.TokenKind.{TokenKind}
 use Rattle.cplex_lp_tokens.specs.declared.token.TokenKind.TheVariants.{SectionWords, Word, Literal, Plus, Minus, Compared}
-use Rattle.cplex_lp_reader.specs.declared.expecting.Sign.{Sign}
-use Rattle.cplex_lp_reader.specs.declared.expecting.Sign.TheVariants.{Unsigned}
-use Rattle.cplex_lp_reader.specs.declared.expecting.Limit.{Limit}
-use Rattle.cplex_lp_reader.specs.declared.expecting.Limit.TheVariants.{Finite, PlusInfinity}
-use Rattle.cplex_lp_reader.specs.declared.expecting.TermPart.{TermPart}
-use Rattle.cplex_lp_reader.specs.declared.expecting.TermPart.TheVariants.{Begun, Factor, Done}
-use Rattle.cplex_lp_reader.specs.declared.expecting.Expecting.{Expecting}
-use Rattle.cplex_lp_reader.specs.declared.expecting.Expecting.TheVariants as expecting
-use Rattle.cplex_lp_reader.specs.declared.column_change.ColumnChange.{ColumnChange}
-use Rattle.cplex_lp_reader.specs.declared.column_change.ColumnChange.TheVariants.{Kept, Bounded, Freed}
+use Rattle.cplex_lp_draft.specs.declared.expecting.Sign.{Sign}
+use Rattle.cplex_lp_draft.specs.declared.expecting.Sign.TheVariants.{Unsigned}
+use Rattle.cplex_lp_draft.specs.declared.expecting.Limit.{Limit}
+use Rattle.cplex_lp_draft.specs.declared.expecting.Limit.TheVariants.{Finite, PlusInfinity}
+use Rattle.cplex_lp_draft.specs.declared.expecting.TermPart.{TermPart}
+use Rattle.cplex_lp_draft.specs.declared.expecting.TermPart.TheVariants.{Begun, Factor, Done}
+use Rattle.cplex_lp_draft.specs.declared.expecting.Expecting.{Expecting}
+use Rattle.cplex_lp_draft.specs.declared.expecting.Expecting.TheVariants as expecting
+use Rattle.cplex_lp_draft.specs.declared.column_change.ColumnChange.{ColumnChange}
+use Rattle.cplex_lp_draft.specs.declared.column_change.ColumnChange.TheVariants.{Kept, Bounded, Freed}
 use Rattle.model_text.specs.Profile.{reader_profile}
 use Rattle.cplex_lp_tokens.specs.Tokens.{Token, is_word, is_name, tokens_of, is_colon, is_before_colon, is_before_name}
 use Rattle.model_text.specs.Columns.{new_column}
 use Rattle.model_text.specs.Steps.{then_do}
-use Rattle.cplex_lp_reader.specs.Steps.{fault_at, misplaced, fitting_at, number_of}
-use Rattle.cplex_lp_reader.specs.Grammar.{after_plus, after_minus, signed}
-use Rattle.cplex_lp_reader.specs.Declaration.{Declaration, nothing_declared, now_expecting, added, entries_of, column_place, mentioned, with_column, problem_of}
+use Rattle.cplex_lp_draft.specs.Steps.{fault_at, misplaced, fitting_at, number_of}
+use Rattle.cplex_lp_draft.specs.Signs.{after_plus, after_minus, signed}
+use Rattle.cplex_lp_draft.specs.Declaration.{Declaration, nothing_declared, now_expecting, added, entries_of, column_place, mentioned, with_column, problem_of}
 use Rattle.cplex_lp_reader.specs.Objective.{objective_term, with_constant, objective_number, objective_begun, objective_factor, objective_done, in_objective, at_objective_start, at_objective_colon}
-use Rattle.cplex_lp_reader.specs.Constraints.{is_row, row_opened, default_name, unnamed_row, unnamed_row_at, row_term, row_begun, row_factor, may_follow, row_done, in_row_terms, at_row_name, at_row_start, at_row_colon, at_row_first, at_row_number, with_right, entry_count, row_closed, at_row_right}
-use Rattle.cplex_lp_reader.specs.Bounds.{is_infinity, infinite, is_possible, bounded, turned, changed, with_mentioned, bound_word, at_bound_start, at_bound_left, at_bound_relation, at_bound_name, at_bound_compared, at_bound_named, with_right_bound, at_bound_right}
-use Rattle.cplex_lp_reader.specs.CplexLp.{ends_objective, ends_section, is_start, is_ended, entered, entered_integers, directed, at_section, in_section, by_kind, with_token, at_end, declared_from, end_line, declared_within, declared}
-use Rattle.cplex_lp_reader.proofs.Changed.{All-changed}
+use Rattle.cplex_lp_draft.specs.Rows.{is_row, with_right, entry_count}
+use Rattle.cplex_lp_reader.specs.Constraints.{row_opened, default_name, unnamed_row, unnamed_row_at, row_term, row_begun, row_factor, may_follow, row_done, in_row_terms, at_row_name, at_row_start, at_row_colon, at_row_first, at_row_number, row_closed, at_row_right}
+use Rattle.cplex_lp_draft.specs.Changes.{bounded, changed}
+use Rattle.cplex_lp_reader.specs.Bounds.{is_infinity, infinite, is_possible, turned, with_mentioned, bound_word, at_bound_start, at_bound_left, at_bound_relation, at_bound_name, at_bound_compared, at_bound_named, with_right_bound, at_bound_right}
+use Rattle.cplex_lp_draft.specs.Expecting.{ends_objective, ends_section, is_start, is_ended}
+use Rattle.cplex_lp_reader.specs.CplexLp.{entered, entered_integers, directed, at_section, in_section, by_kind, with_token, at_end, declared_from, end_line, declared_within, declared}
+use Rattle.cplex_lp_draft.proofs.Laws.{All-changed}
 
 abbrev IsContinuous : Column → Type 0
 IsContinuous c = c.integer ≡ false

@@ -1,28 +1,26 @@
 -- Bounds: `[number relation] name [relation number]` and `name free`, where numbers may be infinite; general and binary columns
 -- (GLPK Reference Manual, appendix on the CPLEX LP format: bounds section; general, integer and binary sections).
-use Rattle.std.specs.Prelude.{ℕ, ◌||◌, Bool, true, false, List, codes, Some, None, Result, Ok, if◌then◌else◌}
-use Rattle.std.specs.declared.option.Option.{Option}
-use Rattle.rational.specs.Rational.{Rational, zero_ℚ, one_ℚ}
-use Rattle.milp.specs.Problem.{Column}
+use Rattle.std.specs.Prelude.{ℕ, ◌||◌, Bool, true, false, List, codes, Result, Ok, if◌then◌else◌}
 use Rattle.model_text.specs.declared.fault.FileFault.{FileFault}
 use Rattle.model_text.specs.declared.profile.Profile.{Profile}
 use Rattle.cplex_lp_tokens.specs.declared.token.Relation.{Relation}
 use Rattle.cplex_lp_tokens.specs.declared.token.Relation.TheVariants.{AtMost, AtLeast, Exactly}
 use Rattle.cplex_lp_tokens.specs.declared.token.TokenKind.{TokenKind}
 use Rattle.cplex_lp_tokens.specs.declared.token.TokenKind.TheVariants.{Word, Literal, Plus, Minus, Compared}
-use Rattle.cplex_lp_reader.specs.declared.column_change.ColumnChange.{ColumnChange}
-use Rattle.cplex_lp_reader.specs.declared.column_change.ColumnChange.TheVariants.{Kept, Bounded, Freed, MadeInteger, MadeBinary}
-use Rattle.cplex_lp_reader.specs.declared.expecting.Sign.{Sign}
-use Rattle.cplex_lp_reader.specs.declared.expecting.Sign.TheVariants as sign
-use Rattle.cplex_lp_reader.specs.declared.expecting.Limit.{Limit}
-use Rattle.cplex_lp_reader.specs.declared.expecting.Limit.TheVariants.{MinusInfinity, Finite, PlusInfinity}
-use Rattle.cplex_lp_reader.specs.declared.expecting.Expecting.{Expecting}
-use Rattle.cplex_lp_reader.specs.declared.expecting.Expecting.TheVariants.{BoundStart, BoundLeft, BoundRelation, BoundName, BoundNamed, BoundCompared, BoundRight, Generals, Binaries}
+use Rattle.cplex_lp_draft.specs.declared.column_change.ColumnChange.{ColumnChange}
+use Rattle.cplex_lp_draft.specs.declared.column_change.ColumnChange.TheVariants.{Kept, Bounded, Freed, MadeInteger, MadeBinary}
+use Rattle.cplex_lp_draft.specs.declared.expecting.Sign.{Sign}
+use Rattle.cplex_lp_draft.specs.declared.expecting.Sign.TheVariants as sign
+use Rattle.cplex_lp_draft.specs.declared.expecting.Limit.{Limit}
+use Rattle.cplex_lp_draft.specs.declared.expecting.Limit.TheVariants.{MinusInfinity, Finite, PlusInfinity}
+use Rattle.cplex_lp_draft.specs.declared.expecting.Expecting.{Expecting}
+use Rattle.cplex_lp_draft.specs.declared.expecting.Expecting.TheVariants.{BoundStart, BoundLeft, BoundRelation, BoundName, BoundNamed, BoundCompared, BoundRight, Generals, Binaries}
 use Rattle.cplex_lp_tokens.specs.Tokens.{Token, is_word}
 use Rattle.model_text.specs.Steps.{then_do}
-use Rattle.cplex_lp_reader.specs.Steps.{misplaced, number_of}
-use Rattle.cplex_lp_reader.specs.Declaration.{Declaration, now_expecting, column_place, mentioned, with_column}
-use Rattle.cplex_lp_reader.specs.Grammar.{after_plus, after_minus, signed}
+use Rattle.cplex_lp_draft.specs.Steps.{misplaced, number_of}
+use Rattle.cplex_lp_draft.specs.Declaration.{Declaration, now_expecting, column_place, mentioned, with_column}
+use Rattle.cplex_lp_draft.specs.Changes.{changed}
+use Rattle.cplex_lp_draft.specs.Signs.{after_plus, after_minus, signed}
 
 -- ---- infinite numbers, in any case of letters
 
@@ -44,39 +42,11 @@ is_possible Exactly MinusInfinity = false
 is_possible Exactly PlusInfinity = false
 is_possible relation limit = true
 
--- an infinite bound is none
-abbrev pub bound_of : Limit → Option Rational
-bound_of (Finite v) = Some v
-bound_of MinusInfinity = None
-bound_of PlusInfinity = None
-
--- a column that stands in this relation to a limit; a negative upper bound leaves the lower one
-abbrev pub bounded : Relation → Limit → Column → Column
-bounded AtMost limit c = record c { upper = bound_of limit }
-bounded AtLeast limit c = record c { lower = bound_of limit }
-bounded Exactly limit c = record c { lower = bound_of limit; upper = bound_of limit }
-
 -- the relation read from its other side
 abbrev pub turned : Relation → Relation
 turned AtMost = AtLeast
 turned AtLeast = AtMost
 turned Exactly = Exactly
-
-abbrev pub freed : Column → Column
-freed c = record c { lower = None; upper = None }
-
-abbrev pub made_integer : Column → Column
-made_integer c = record c { integer = true }
-
-abbrev pub made_binary : Column → Column
-made_binary c = record c { lower = Some zero_ℚ; upper = Some one_ℚ; integer = true }
-
-abbrev pub changed : ColumnChange → Column → Column
-changed Kept c = c
-changed (Bounded relation limit) c = bounded relation limit c
-changed Freed c = freed c
-changed MadeInteger c = made_integer c
-changed MadeBinary c = made_binary c
 
 -- the column of a name is there and changed, and another token comes
 abbrev pub with_mentioned : Profile → Declaration → Token → Expecting → ColumnChange → Result Declaration FileFault

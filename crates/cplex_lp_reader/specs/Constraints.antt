@@ -2,8 +2,6 @@
 -- (GLPK Reference Manual, appendix on the CPLEX LP format: constraints section).
 use Rattle.std.specs.Prelude.{ℕ, ◌+◌, ◌-◌, nat_lt, nat_le, Bool, true, false, List, [], ◌∷◌, ◌++◌, length, codes, Some, None, Result, Ok, if◌then◌else◌}
 use Rattle.std.specs.declared.option.Option.{Option}
-use Rattle.std.specs.List.{list_any}
-use Rattle.std.specs.Str.{bytes_eq}
 use Rattle.std.specs.Fmt.{decimal}
 use Rattle.rational.specs.Rational.{Rational, one_ℚ}
 use Rattle.milp.specs.Problem.{Row}
@@ -11,29 +9,23 @@ use Rattle.model_text.specs.declared.fault.FaultKind.TheVariants.{Twice, TooMany
 use Rattle.model_text.specs.declared.fault.FileFault.{FileFault}
 use Rattle.model_text.specs.declared.profile.Profile.{Profile}
 use Rattle.cplex_lp_tokens.specs.declared.token.Relation.{Relation}
-use Rattle.cplex_lp_tokens.specs.declared.token.Relation.TheVariants.{AtMost, AtLeast, Exactly}
+use Rattle.cplex_lp_tokens.specs.declared.token.Relation.TheVariants.{AtMost, AtLeast}
 use Rattle.cplex_lp_tokens.specs.declared.token.TokenKind.{TokenKind}
 use Rattle.cplex_lp_tokens.specs.declared.token.TokenKind.TheVariants.{Word, Literal, Plus, Minus, Compared}
-use Rattle.cplex_lp_reader.specs.declared.expecting.Sign.{Sign}
-use Rattle.cplex_lp_reader.specs.declared.expecting.Sign.TheVariants.{Unsigned}
-use Rattle.cplex_lp_reader.specs.declared.expecting.TermPart.{TermPart}
-use Rattle.cplex_lp_reader.specs.declared.expecting.TermPart.TheVariants.{Begun, Factor, Done}
-use Rattle.cplex_lp_reader.specs.declared.expecting.Expecting.{Expecting}
-use Rattle.cplex_lp_reader.specs.declared.expecting.Expecting.TheVariants.{RowStart, RowColon, RowFirst, RowNumber, RowTerms, RowRight}
+use Rattle.cplex_lp_draft.specs.declared.expecting.Sign.{Sign}
+use Rattle.cplex_lp_draft.specs.declared.expecting.Sign.TheVariants.{Unsigned}
+use Rattle.cplex_lp_draft.specs.declared.expecting.TermPart.{TermPart}
+use Rattle.cplex_lp_draft.specs.declared.expecting.TermPart.TheVariants.{Begun, Factor, Done}
+use Rattle.cplex_lp_draft.specs.declared.expecting.Expecting.{Expecting}
+use Rattle.cplex_lp_draft.specs.declared.expecting.Expecting.TheVariants.{RowStart, RowColon, RowFirst, RowNumber, RowTerms, RowRight}
 use Rattle.cplex_lp_tokens.specs.Tokens.{Token, is_colon, is_before_colon}
 use Rattle.model_text.specs.Steps.{then_do}
-use Rattle.cplex_lp_reader.specs.Steps.{fault_at, misplaced, number_of}
-use Rattle.cplex_lp_reader.specs.Declaration.{OpenRow, new_row, Declaration, now_expecting, added, entries_of, column_place, mentioned, with_changed}
-use Rattle.cplex_lp_reader.specs.Grammar.{after_plus, after_minus, signed}
+use Rattle.cplex_lp_draft.specs.Steps.{fault_at, misplaced, number_of}
+use Rattle.cplex_lp_draft.specs.Declaration.{new_row, Declaration, now_expecting, added, entries_of, column_place, mentioned, with_changed}
+use Rattle.cplex_lp_draft.specs.Rows.{is_row, blank_row, with_left, with_right, filled, entry_count}
+use Rattle.cplex_lp_draft.specs.Signs.{after_plus, after_minus, signed}
 
 -- ---- a row begins
-
-abbrev pub is_row : List ℕ → List Row → Bool
-is_row name rows = list_any (λ (r : Row). bytes_eq r.name name) rows
-
--- a row of which the name alone is read
-abbrev pub blank_row : List ℕ → Row
-blank_row name = record { name = name; lower = None; upper = None; entries = [] }
 
 -- the row of this name begins at a line; a name is used once
 abbrev pub row_opened : Profile → ℕ → List ℕ → Declaration → Result Declaration FileFault
@@ -120,15 +112,6 @@ at_row_first Literal profile d sign t = then_do (λ v. Ok (now_expecting (RowNum
 at_row_first Word profile d sign t = row_term profile (signed sign one_ℚ) t d
 at_row_first kind profile d sign t = misplaced t
 
--- the number v is on the row's left, before a relation
-abbrev pub left_set : Relation → Rational → OpenRow → OpenRow
-left_set AtMost v row = record row { left = Some AtMost; lower = Some v }
-left_set AtLeast v row = record row { left = Some AtLeast; upper = Some v }
-left_set Exactly v row = row
-
-abbrev pub with_left : Declaration → Rational → Relation → Declaration
-with_left d v relation = record d { open_row = left_set relation v d.open_row; expecting = RowTerms (Begun Unsigned) }
-
 -- after a row's first number a name or a relation comes, which isn't `=`
 abbrev pub at_row_number : TokenKind → Profile → Declaration → Rational → Token → Result Declaration FileFault
 at_row_number Word profile d v t = row_term profile v t d
@@ -137,23 +120,6 @@ at_row_number (Compared AtLeast) profile d v t = Ok (with_left d v AtLeast)
 at_row_number kind profile d v t = misplaced t
 
 -- ---- a row ends
-
--- the number v is on the row's right, after a relation
-abbrev pub right_set : Relation → Rational → OpenRow → OpenRow
-right_set AtMost v row = record row { upper = Some v }
-right_set AtLeast v row = record row { lower = Some v }
-right_set Exactly v row = record row { lower = Some v; upper = Some v }
-
-abbrev pub with_right : Declaration → Rational → Relation → Declaration
-with_right d v relation = record d { open_row = right_set relation v d.open_row }
-
--- a row with what is read of it
-abbrev pub filled : OpenRow → Row → Row
-filled row r = record r { lower = row.lower; upper = row.upper; entries = entries_of row.form }
-
-abbrev pub entry_count : List Row → ℕ
-entry_count [] = 0
-entry_count (r ∷ rs) = length r.entries + entry_count rs
 
 -- the last row is read to its end; entries past their limit are a fault of its first line
 abbrev pub row_closed : Profile → Declaration → Result Declaration FileFault

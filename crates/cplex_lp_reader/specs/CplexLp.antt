@@ -1,5 +1,5 @@
 -- The problem that a CPLEX LP text declares, or its first fault.
-use Rattle.std.specs.Prelude.{ℕ, ◌+◌, Bool, true, false, List, [], ◌∷◌, length, not, Result, Ok, if◌then◌else◌}
+use Rattle.std.specs.Prelude.{ℕ, ◌+◌, Bool, List, [], ◌∷◌, length, not, Result, Ok, if◌then◌else◌}
 use Rattle.milp.specs.Problem.{Problem}
 use Rattle.milp.specs.declared.Direction.{Direction}
 use Rattle.milp.specs.declared.Direction.TheVariants.{Min, Max}
@@ -10,46 +10,20 @@ use Rattle.cplex_lp_tokens.specs.declared.token.TokenKind.{TokenKind}
 use Rattle.cplex_lp_tokens.specs.declared.token.TokenKind.TheVariants.{SectionWords}
 use Rattle.cplex_lp_tokens.specs.declared.token.Section.{Section}
 use Rattle.cplex_lp_tokens.specs.declared.token.Section.TheVariants.{Minimize, Maximize, Constraints, Bounds, General, Binary, End}
-use Rattle.cplex_lp_reader.specs.declared.expecting.Sign.TheVariants.{Unsigned}
-use Rattle.cplex_lp_reader.specs.declared.expecting.TermPart.TheVariants.{Begun, Done}
-use Rattle.cplex_lp_reader.specs.declared.expecting.Expecting.{Expecting}
-use Rattle.cplex_lp_reader.specs.declared.expecting.Expecting.TheVariants as expecting
+use Rattle.cplex_lp_draft.specs.declared.expecting.Expecting.{Expecting}
+use Rattle.cplex_lp_draft.specs.declared.expecting.Expecting.TheVariants as expecting
 use Rattle.model_text.specs.Profile.{reader_profile}
 use Rattle.model_text.specs.Lines.{lines_of}
 use Rattle.cplex_lp_tokens.specs.Tokens.{Token, tokens_of}
 use Rattle.model_text.specs.Steps.{then_do}
-use Rattle.cplex_lp_reader.specs.Steps.{fault_at, misplaced}
-use Rattle.cplex_lp_reader.specs.Declaration.{Declaration, nothing_declared, now_expecting, problem_of}
+use Rattle.cplex_lp_draft.specs.Steps.{fault_at, misplaced}
+use Rattle.cplex_lp_draft.specs.Expecting.{ends_objective, ends_section, is_start, is_ended}
+use Rattle.cplex_lp_draft.specs.Declaration.{Declaration, nothing_declared, now_expecting, problem_of}
 use Rattle.cplex_lp_reader.specs.Objective.{in_objective, at_objective_start, at_objective_colon}
 use Rattle.cplex_lp_reader.specs.Constraints.{in_row_terms, at_row_start, at_row_colon, at_row_first, at_row_number, at_row_right}
 use Rattle.cplex_lp_reader.specs.Bounds.{at_bound_start, at_bound_left, at_bound_relation, at_bound_name, at_bound_compared, at_bound_named, at_bound_right, at_general, at_binary}
 
 -- ---- sections: the objective, then the constraints, then the others in any order and number
-
--- the objective is read to its end, if no more of it comes
-abbrev pub ends_objective : Expecting → Bool
-ends_objective expecting.ObjectiveStart = true
-ends_objective (expecting.Objective (Begun Unsigned)) = true
-ends_objective (expecting.Objective Done) = true
-ends_objective other = false
-
--- a section after the objective is read to its end, if no more of it comes
-abbrev pub ends_section : Expecting → Bool
-ends_section expecting.RowStart = true
-ends_section expecting.BoundStart = true
-ends_section (expecting.BoundNamed column) = true
-ends_section (expecting.BoundCompared column) = true
-ends_section expecting.Generals = true
-ends_section expecting.Binaries = true
-ends_section other = false
-
-abbrev pub is_start : Expecting → Bool
-is_start expecting.Start = true
-is_start other = false
-
-abbrev pub is_ended : Expecting → Bool
-is_ended expecting.Ended = true
-is_ended other = false
 
 -- another section begins, if it may
 abbrev pub entered : Bool → Expecting → Declaration → Token → Result Declaration FileFault

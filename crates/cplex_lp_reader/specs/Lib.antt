@@ -1,8 +1,5 @@
-pub mod Steps
-pub mod Declaration
-pub mod Consistent
-pub mod Grammar
+-- CplexLp first: the texts, their sections and tokens.
+pub mod CplexLp
 pub mod Objective
 pub mod Constraints
 pub mod Bounds
-pub mod CplexLp

@@ -7,16 +7,16 @@ use Rattle.model_text.specs.declared.fault.FileFault.{FileFault}
 use Rattle.model_text.specs.declared.profile.Profile.{Profile}
 use Rattle.cplex_lp_tokens.specs.declared.token.TokenKind.{TokenKind}
 use Rattle.cplex_lp_tokens.specs.declared.token.TokenKind.TheVariants.{Word, Literal, Plus, Minus}
-use Rattle.cplex_lp_reader.specs.declared.expecting.Sign.{Sign}
-use Rattle.cplex_lp_reader.specs.declared.expecting.Sign.TheVariants.{Unsigned}
-use Rattle.cplex_lp_reader.specs.declared.expecting.TermPart.{TermPart}
-use Rattle.cplex_lp_reader.specs.declared.expecting.TermPart.TheVariants.{Begun, Factor, Done}
-use Rattle.cplex_lp_reader.specs.declared.expecting.Expecting.TheVariants.{ObjectiveColon, Objective}
+use Rattle.cplex_lp_draft.specs.declared.expecting.Sign.{Sign}
+use Rattle.cplex_lp_draft.specs.declared.expecting.Sign.TheVariants.{Unsigned}
+use Rattle.cplex_lp_draft.specs.declared.expecting.TermPart.{TermPart}
+use Rattle.cplex_lp_draft.specs.declared.expecting.TermPart.TheVariants.{Begun, Factor, Done}
+use Rattle.cplex_lp_draft.specs.declared.expecting.Expecting.TheVariants.{ObjectiveColon, Objective}
 use Rattle.cplex_lp_tokens.specs.Tokens.{Token, is_name, is_colon, is_before_colon, is_before_name}
 use Rattle.model_text.specs.Steps.{then_do}
-use Rattle.cplex_lp_reader.specs.Steps.{misplaced, fitting_at, number_of}
-use Rattle.cplex_lp_reader.specs.Declaration.{Declaration, now_expecting, added, column_place, mentioned}
-use Rattle.cplex_lp_reader.specs.Grammar.{after_plus, after_minus, signed}
+use Rattle.cplex_lp_draft.specs.Steps.{misplaced, fitting_at, number_of}
+use Rattle.cplex_lp_draft.specs.Declaration.{Declaration, now_expecting, added, column_place, mentioned}
+use Rattle.cplex_lp_draft.specs.Signs.{after_plus, after_minus, signed}
 
 -- v times the column of a name
 abbrev pub objective_term : Profile → Declaration → Rational → Token → Result Declaration FileFault

@@ -3,18 +3,16 @@ ghost use Rattle.std.specs.Prelude.{◌≡◌, Ok, true};
 ghost use Rattle.model_text.specs.Profile.{IsWithinInstance};
 ghost use Rattle.model_text.specs.Follows.{Follows};
 ghost use Rattle.model_text.specs.Steps.{then_do};
-ghost use Rattle.cplex_lp_reader.specs.Steps.{number_of};
-ghost use Rattle.cplex_lp_reader.specs.Grammar.{signed};
-ghost use Rattle.cplex_lp_reader.specs.declared.expecting.Expecting.TheVariants as expecting;
-ghost use Rattle.cplex_lp_reader.specs.declared.expecting.Limit.TheVariants.{Finite};
-ghost use Rattle.cplex_lp_reader.specs.Declaration.{now_expecting};
+ghost use Rattle.cplex_lp_draft.specs.Steps.{number_of};
+ghost use Rattle.cplex_lp_draft.specs.Signs.{signed};
+ghost use Rattle.cplex_lp_draft.specs.declared.expecting.Expecting.TheVariants as expecting;
+ghost use Rattle.cplex_lp_draft.specs.declared.expecting.Limit.TheVariants.{Finite};
+ghost use Rattle.cplex_lp_draft.specs.Declaration.{now_expecting};
 ghost use Rattle.cplex_lp_reader.specs.Bounds.{is_infinity, infinite, is_possible, turned, bound_word, with_right_bound, at_bound_start, at_bound_left, at_bound_relation, at_bound_name, at_bound_compared, at_bound_named, at_bound_right, at_general, at_binary};
 
-use crate::column_change::ColumnChange;
 use crate::columns::mention_changed;
-use crate::draft::Draft;
-use crate::expecting::{Expecting, Limit, Sign};
 use crate::faults::{misplaced, number_of_token};
+use cplex_lp_draft::{ColumnChange, Draft, Expecting, Limit, Sign};
 use cplex_lp_tokens::{Relation, Token, TokenKind, is_word};
 use model_text::{FileFault, Profile, ReadError};
 

@@ -2,13 +2,11 @@
 ghost use Rattle.std.specs.Prelude.{◌≡◌, ◌<◌, length, OnOk};
 ghost use Rattle.model_text.specs.Profile.{IsWithinInstance};
 ghost use Rattle.model_text.specs.Follows.{Follows};
-ghost use Rattle.cplex_lp_reader.specs.Declaration.{mentioned, column_place};
+ghost use Rattle.cplex_lp_draft.specs.Declaration.{mentioned, column_place};
 ghost use Rattle.cplex_lp_reader.specs.Bounds.{with_mentioned};
 
-use crate::column_change::ColumnChange;
-use crate::draft::Draft;
-use crate::expecting::Expecting;
 use crate::faults::fault_at;
+use cplex_lp_draft::{ColumnChange, Draft, Expecting};
 use cplex_lp_tokens::Token;
 use model_text::{FaultKind, FileFault, Profile, ReadError};
 

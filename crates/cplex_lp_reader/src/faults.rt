@@ -3,7 +3,7 @@ ghost use Rattle.std.specs.Prelude.{◌≡◌};
 ghost use Rattle.model_text.specs.declared.fault.FaultKind.TheVariants.{BadLine};
 ghost use Rattle.model_text.specs.declared.error.ReadError.TheVariants.{Fault};
 ghost use Rattle.model_text.specs.Follows.{Reads};
-ghost use Rattle.cplex_lp_reader.specs.Steps.{number_of};
+ghost use Rattle.cplex_lp_draft.specs.Steps.{number_of};
 
 use cplex_lp_tokens::Token;
 use fraction::Frac;

@@ -2,20 +2,12 @@
 #![tactic(auto)]
 
 mod bounds;
-mod column_change;
 mod columns;
 mod constraints;
-mod draft;
-mod expecting;
 mod faults;
-mod finish;
-mod form;
 mod laws;
 mod objective;
-mod open_row;
 mod read;
-mod row;
-mod row_table;
 mod sections;
 
 pub use laws::declared_problems_are_continuous;

@@ -4,15 +4,13 @@ ghost use Rattle.fraction.specs.Answers.{add_answer};
 ghost use Rattle.model_text.specs.Profile.{IsWithinInstance};
 ghost use Rattle.model_text.specs.Follows.{Follows};
 ghost use Rattle.model_text.specs.Steps.{then_do};
-ghost use Rattle.cplex_lp_reader.specs.Steps.{number_of};
-ghost use Rattle.cplex_lp_reader.specs.Grammar.{signed};
+ghost use Rattle.cplex_lp_draft.specs.Steps.{number_of};
+ghost use Rattle.cplex_lp_draft.specs.Signs.{signed};
 ghost use Rattle.cplex_lp_reader.specs.Objective.{objective_term, with_constant, objective_number, objective_begun, objective_factor, objective_done, in_objective, at_objective_start, at_objective_colon};
 
 use crate::columns::mention;
-use crate::draft::Draft;
-use crate::expecting::{Expecting, Sign, TermPart};
 use crate::faults::{misplaced, number_of_token};
-use crate::form::sum_at;
+use cplex_lp_draft::{Draft, Expecting, Sign, TermPart, sum_at};
 use cplex_lp_tokens::{Token, TokenKind, is_before_colon, is_before_name};
 use fraction::Frac;
 use model_text::{FileFault, Profile, ReadError};

@@ -5,9 +5,8 @@ ghost use Rattle.model_text.specs.Profile.{IsWithinInstance};
 ghost use Rattle.model_text.specs.Follows.{Follows, Reads};
 ghost use Rattle.cplex_lp_reader.specs.CplexLp.{declared, declared_from, declared_within};
 
-use crate::draft::Draft;
-use crate::finish::finish;
 use crate::sections::{at_end, read_token};
+use cplex_lp_draft::{Draft, finish};
 use cplex_lp_tokens::{Token, tokens_of_lines};
 use instance::Instance;
 use model_text::{FileFault, Profile, ReadError, lines_in, reader_profile};

@@ -11,10 +11,9 @@ use crate::bounds::{
 use crate::constraints::{
     at_row_colon, at_row_first, at_row_number, at_row_right, at_row_start, in_row_terms,
 };
-use crate::draft::Draft;
-use crate::expecting::Expecting;
 use crate::faults::{fault_at, misplaced};
 use crate::objective::{at_objective_colon, at_objective_start, in_objective};
+use cplex_lp_draft::{Draft, Expecting};
 use cplex_lp_tokens::{Section, Token, TokenKind};
 use milp::Direction;
 use model_text::{FaultKind, FileFault, Profile, ReadError};

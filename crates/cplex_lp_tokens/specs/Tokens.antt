@@ -6,7 +6,7 @@ use Rattle.std.specs.Str.{str_eq_ignore_ascii_case, is_utf8}
 use Rattle.model_text.specs.Lines.{lines_of}
 use Rattle.model_text.specs.Bytes.{is_one_of}
 use Rattle.cplex_lp_tokens.specs.declared.token.TokenKind.{TokenKind}
-use Rattle.cplex_lp_tokens.specs.declared.token.TokenKind.TheVariants.{SectionWords, Word, Colon}
+use Rattle.cplex_lp_tokens.specs.declared.token.TokenKind.TheVariants.{SectionWords, Word, Colon, Stray}
 use Rattle.cplex_lp_tokens.specs.declared.token.Section.{Section}
 use Rattle.cplex_lp_tokens.specs.declared.token.Section.TheVariants.{Minimize, Maximize, Constraints, Bounds, General, Binary, End}
 use Rattle.cplex_lp_tokens.specs.Lexemes.{lexeme_at}
@@ -120,16 +120,52 @@ with_section tokens =
     if begins_with_two_words tokens then with_first_as Constraints (without_second tokens)
     else with_found (begins_with_section tokens) tokens
 
-abbrev pub tokens_of_line : ℕ → List ℕ → List Token
-tokens_of_line line text = with_section (tokens_after line 0 (without_comment text))
+-- ---- words of parts that are left out: semicontinuous columns, special ordered sets
+
+abbrev pub is_left_out : List ℕ → Bool
+is_left_out text =
+    (is_word text (codes "semi") || is_word text (codes "semis"))
+    || (is_word text (codes "sos") || (is_word text (codes "sos1") || is_word text (codes "sos2")))
+
+-- of a section after the constraints
+abbrev pub is_later_section : Section → Bool
+is_later_section Bounds = true
+is_later_section General = true
+is_later_section Binary = true
+is_later_section section = false
+
+abbrev pub is_later : TokenKind → Bool
+is_later (SectionWords section) = is_later_section section
+is_later kind = false
+
+-- such a section begins with the line of these tokens
+abbrev pub begins_later : List Token → Bool
+begins_later [] = false
+begins_later (t ∷ ts) = is_later t.kind
+
+-- a word that may not stand where it does
+abbrev pub as_stray : Token → Token
+as_stray t = record t { kind = Stray }
+
+-- behind the constraints no line begins with such a word
+abbrev pub without_left_out : Bool → List Token → List Token
+without_left_out later [] = []
+without_left_out later (t ∷ ts) = if later && (is_name t.kind && is_left_out t.text) then as_stray t ∷ ts else t ∷ ts
+
+-- ---- texts
+
+-- the tokens of a line, where a section after the constraints has begun before it or not
+abbrev pub tokens_of_line : Bool → ℕ → List ℕ → List Token
+tokens_of_line later line text = without_left_out later (with_section (tokens_after line 0 (without_comment text)))
 
 -- the tokens of lines, of which the first has this number
-abbrev pub tokens_of_lines : ℕ → List (List ℕ) → List Token
-tokens_of_lines line [] = []
-tokens_of_lines line (text ∷ texts) = tokens_of_line line text ++ tokens_of_lines (line + 1) texts
+abbrev pub tokens_of_lines : Bool → ℕ → List (List ℕ) → List Token
+tokens_of_lines later line [] = []
+tokens_of_lines later line (text ∷ texts) =
+    tokens_of_line later line text ++ tokens_of_lines (later || begins_later (tokens_of_line later line text)) (line + 1) texts
 
 abbrev pub tokens_of : List ℕ → List Token
-tokens_of text = tokens_of_lines 1 (lines_of text)
+tokens_of text = tokens_of_lines false 1 (lines_of text)
 
 -- ---- the token that comes next
 

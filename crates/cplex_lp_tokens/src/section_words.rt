@@ -1,6 +1,6 @@
 // The words that begin sections.
 ghost use Rattle.std.specs.Prelude.{◌≡◌};
-ghost use Rattle.cplex_lp_tokens.specs.Tokens.{is_word, begins_minimum, begins_maximum, begins_rows, begins_bounds, begins_general, begins_integer, begins_binary, section_of, begins_constraints, begins_with_section, begins_with_two_words, with_first_as, without_second, with_section};
+ghost use Rattle.cplex_lp_tokens.specs.Tokens.{is_word, begins_minimum, begins_maximum, begins_rows, begins_bounds, begins_general, begins_integer, begins_binary, section_of, begins_constraints, begins_with_section, begins_with_two_words, with_first_as, without_second, with_section, is_left_out, begins_later, without_left_out};
 
 use crate::token::{Section, Token};
 
@@ -138,5 +138,35 @@ pub(crate) fn mark_section(tokens: &mut Vec<Token>)
         make_first(tokens, Section::Constraints);
     } else if let Some(section) = begins_with_section(tokens) {
         make_first(tokens, section);
+    }
+}
+
+// ---- words of parts that are left out
+
+fn is_left_out(text: &str) -> bool
+    ensures { result ≡ is_left_out text.now }
+{
+    (is_word(text, "semi") || is_word(text, "semis"))
+        || (is_word(text, "sos") || (is_word(text, "sos1") || is_word(text, "sos2")))
+}
+
+// A section after the constraints has begun, by the tokens of the line that was read last.
+pub(crate) fn begins_later(tokens: &[Token]) -> bool
+    ensures { result ≡ begins_later tokens.now }
+{
+    match tokens {
+        [] => false,
+        [first, ..] => first.kind().is_later(),
+    }
+}
+
+// Behind the constraints no line begins with such a word.
+pub(crate) fn mark_left_out(tokens: &mut Vec<Token>, later: bool)
+    ensures { tokens.new.items ≡ without_left_out later tokens.old.items }
+{
+    if let Some(first) = tokens.first_mut() {
+        if later && (first.kind().is_name() && is_left_out(first.text())) {
+            first.make_stray();
+        }
     }
 }

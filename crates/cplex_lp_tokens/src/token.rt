@@ -1,6 +1,6 @@
 // The tokens of a text.
 ghost use Rattle.std.specs.Prelude.{◌≡◌};
-ghost use Rattle.cplex_lp_tokens.specs.Tokens.{as_section, is_name, is_colon, is_before_colon, is_before_name};
+ghost use Rattle.cplex_lp_tokens.specs.Tokens.{as_section, as_stray, is_later_section, is_later, is_name, is_colon, is_before_colon, is_before_name};
 
 use std::marker::Model;
 
@@ -14,6 +14,18 @@ pub enum Section {
     General,
     Binary,
     End,
+}
+
+impl Section {
+    // After the constraints.
+    fn is_later(self) -> bool
+        ensures { result ≡ is_later_section self }
+    {
+        match self {
+            Section::Bounds | Section::General | Section::Binary => true,
+            Section::Minimize | Section::Maximize | Section::Constraints | Section::End => false,
+        }
+    }
 }
 
 /// `<` and `<=`, `>` and `>=`, `=`.
@@ -35,7 +47,7 @@ pub enum TokenKind {
     Minus,
     Colon,
     Compared(Relation),
-    /// A byte that begins no token.
+    /// A byte that begins no token, or the word of a part that is left out.
     Stray,
 }
 
@@ -46,6 +58,16 @@ impl TokenKind {
     {
         match self {
             TokenKind::Word => true,
+            _ => false,
+        }
+    }
+
+    // The words of a section after the constraints.
+    pub(crate) fn is_later(self) -> bool
+        ensures { result ≡ is_later self }
+    {
+        match self {
+            TokenKind::SectionWords(section) => section.is_later(),
             _ => false,
         }
     }
@@ -111,6 +133,13 @@ impl<'a> Token<'a> {
         ensures { self.new ≡ as_section section self.old }
     {
         self.kind = TokenKind::SectionWords(section);
+    }
+
+    // It may not stand where it does.
+    pub(crate) fn make_stray(&mut self)
+        ensures { self.new ≡ as_stray self.old }
+    {
+        self.kind = TokenKind::Stray;
     }
 }
 

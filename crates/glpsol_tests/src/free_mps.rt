@@ -5,6 +5,8 @@ use std::test::Fail;
 const TEXTS: &str = "\
 0 OPTIMAL$objective cost 2$column x 2$ <- --freemps f --exact <- @
 0 OPTIMAL$objective cost 5$column x 5$ <- --freemps f --max <- @
+0 OPTIMAL$objective cost 5$column x 5$ <- --freemps f --exact <- NAME t$OBJSENSE$ MAX$ROWS$ N cost$COLUMNS$ x cost 1$BOUNDS$ LO b x 2$ UP b x 5$ENDATA$
+0 OPTIMAL$objective cost 2$column x 2$ <- --freemps f --min <- NAME t$OBJSENSE$ MAX$ROWS$ N cost$COLUMNS$ x cost 1$BOUNDS$ LO b x 2$ UP b x 5$ENDATA$
 0 TRANSLATED$rows 0$columns 1$ <- --freemps f --check <- @
 0 INFEASIBLE$ <- --freemps f --min <- NAME t$ROWS$ N cost$COLUMNS$ x cost 1$BOUNDS$ LO b x 3$ UP b x 2$ENDATA$
 0 UNBOUNDED$column x 0 1$ <- --freemps f --min <- NAME t$ROWS$ N cost$COLUMNS$ x cost -1$ENDATA$

@@ -1,10 +1,5 @@
 pub mod FreeMpsExamples
-pub mod Building
 pub mod LineSteps
 pub mod Pairs
-pub mod Kept
-pub mod Bounded
-pub mod Keyed
-pub mod Entries
 pub mod StepsKeep
 pub mod Simple

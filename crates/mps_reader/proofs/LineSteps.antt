@@ -6,7 +6,7 @@ use Rattle.model_text.specs.declared.fault.FileFault.{FileFault}
 use Rattle.model_text.specs.declared.error.ReadError.{ReadError}
 use Rattle.model_text.specs.declared.error.ReadError.TheVariants.{Fault, NoMemory}
 use Rattle.model_text.specs.declared.profile.Profile.{Profile}
-use Rattle.mps_reader.specs.Declaration.{Declaration}
+use Rattle.mps_draft.specs.Declaration.{Declaration}
 use Rattle.mps_reader.specs.FreeMps.{declared_from, with_line, at_line}
 use Rattle.model_text.specs.Follows.{Follows}
 use Rattle.mps_reader.specs.Follows.{fault_at}

@@ -12,27 +12,37 @@ use Rattle.model_text.specs.declared.fault.FaultKind.{FaultKind}
 use Rattle.model_text.specs.declared.fault.FaultKind.TheVariants.{BadSection, BadLine, NoEnd, Unknown, Twice, TooMany, IntegersNotYet}
 use Rattle.model_text.specs.declared.fault.FileFault.{FileFault}
 use Rattle.model_text.specs.declared.profile.Profile.{Profile}
-use Rattle.mps_reader.specs.declared.section.Section.{Section}
-use Rattle.mps_reader.specs.declared.section.Section.TheVariants.{Start, NameLine, Rows, Columns, Rhs, Ranges, Bounds, Ended}
-use Rattle.mps_reader.specs.declared.row.RowKind.{RowKind}
-use Rattle.mps_reader.specs.declared.row.RowKind.TheVariants.{Objective}
-use Rattle.mps_reader.specs.declared.row.RowRange.{RowRange}
+use Rattle.mps_draft.specs.declared.section.Section.{Section}
+use Rattle.mps_draft.specs.declared.section.Section.TheVariants.{Start, NameLine, SenseAwaited, SenseGiven, Rows, Columns, Rhs, Ranges, Bounds, Ended}
+use Rattle.mps_draft.specs.declared.row.RowKind.{RowKind}
+use Rattle.mps_draft.specs.declared.row.RowKind.TheVariants.{Objective}
+use Rattle.mps_draft.specs.declared.row.RowRange.{RowRange}
 use Rattle.mps_reader.specs.declared.pairs_section.PairSection.{PairSection}
 use Rattle.mps_reader.specs.declared.pairs_section.PairSection.TheVariants.{RhsPairs, RangePairs}
-use Rattle.mps_reader.specs.declared.bound.BoundKind.{BoundKind}
-use Rattle.mps_reader.specs.declared.bound.BoundKind.TheVariants.{Lower, Upper, Fixed, IntegerLower, IntegerUpper, Unbounded, NoLower, NoUpper, Binary}
+use Rattle.mps_draft.specs.declared.bound.BoundKind.{BoundKind}
+use Rattle.mps_draft.specs.declared.bound.BoundKind.TheVariants.{Lower, Upper, Fixed, IntegerLower, IntegerUpper, Unbounded, NoLower, NoUpper, Binary}
 use Rattle.model_text.specs.Lines.{lines_of}
 use Rattle.mps_reader.specs.Lines.{fields_of, is_header}
 use Rattle.model_text.specs.Profile.{reader_profile}
 use Rattle.model_text.specs.Columns.{is_column_named}
-use Rattle.mps_reader.specs.Declaration.{is_free, may_follow, DeclaredRow, new_row, Declaration, nothing_declared, with_first_changed, is_row_named, is_objective_named, row_named, is_row, with_row, is_column}
+use Rattle.mps_draft.specs.Sections.{may_follow, awaits_sense}
+use Rattle.mps_draft.specs.Declaration.{is_free, DeclaredRow, new_row, Declaration, nothing_declared, with_first_changed, is_row_named, is_objective_named, row_named, is_row, with_row, is_column}
 use Rattle.model_text.specs.Steps.{then_do}
 use Rattle.mps_reader.specs.Steps.{at_end, with_number}
 use Rattle.model_text.specs.Columns.{new_column}
-use Rattle.mps_reader.specs.RowsAndColumns.{row_kind_of, makes_objective, with_new_row, row_of_kind, row_line, marker_of, is_marker, with_integers, turned, marker_line, is_the_name, at_column, given, is_entry_too_many, with_entry, at_value, at_row, at_entry, after_pair, at_second_entry, at_entries, column_line}
-use Rattle.mps_reader.specs.RhsRangesBounds.{is_of_first_set, with_set, Pair, Pairs, pairs_of, PairStep, second_pair, both_pairs, pairs_line, rhs_added, rhs_on_row, rhs_pair, rhs_of, range_of, range_added, with_range, range_on_row, range_pair, step_of, pair_line, bound_kind_of, has_value, makes_integer, bounded, BoundFields, bound_fields, bound_value, with_bound, bound_on_column, bound_with_fields, bound_of_kind, bound_line}
-use Rattle.mps_reader.specs.FreeMps.{section_of, in_section, after_word, at_section, header_line, data_line, is_ended, is_passed_over, text_line, with_line, declared_from, finished, declared_within, declared}
-use Rattle.mps_reader.specs.Finished.{finished_row, problem_with, problem_of}
+use Rattle.mps_draft.specs.Rows.{row_kind_of, given}
+use Rattle.mps_draft.specs.Declaration.{is_the_name}
+use Rattle.mps_reader.specs.RowsAndColumns.{makes_objective, with_new_row, row_of_kind, row_line, marker_of, is_marker, with_integers, turned, marker_line, at_column, is_entry_too_many, with_entry, at_value, at_row, at_entry, after_pair, at_second_entry, at_entries, column_line}
+use Rattle.mps_draft.specs.Rows.{rhs_added, rhs_of, range_added}
+use Rattle.mps_draft.specs.Bounds.{bound_kind_of, has_value, makes_integer, bounded}
+use Rattle.mps_draft.specs.Sets.{is_of_first_set, with_set, mixes_sets}
+use Rattle.mps_reader.specs.RhsRangesBounds.{Pair, Pairs, pairs_of, PairStep, second_pair, both_pairs, pairs_line, rhs_on_row, rhs_pair, range_of, with_range, range_on_row, range_pair, step_of, pair_line, BoundFields, bound_fields, bound_value, with_bound, bound_on_column, bound_with_fields, bound_of_kind, bound_line}
+use Rattle.mps_draft.specs.Sections.{section_of, is_ended}
+use Rattle.mps_draft.specs.Declaration.{in_section}
+use Rattle.mps_reader.specs.FreeMps.{after_header, at_section, header_line, data_line, is_passed_over, text_line, with_line, declared_from, finished, declared_within, declared}
+use Rattle.mps_draft.specs.Finished.{finished_row, problem_with, problem_of}
+use Rattle.milp.specs.declared.Direction.{Direction}
+use Rattle.mps_reader.specs.Sense.{sense_of, with_word, sense_line, sense_on_header}
 use Rattle.mps_reader.proofs.StepsKeep.{test-keeps, then_do-keeps, at_end-keeps, with_number-keeps, at_line-keeps}
 
 abbrev IsContinuous : Column → Type 0
@@ -80,12 +90,39 @@ module _ (profile : Profile) where
 
   -- ---- headers
 
+  with_word-keeps : (direction : Option Direction) (d : Declaration) → Simple d → Keeps (with_word direction d)
+  with_word-keeps None d s = tt
+  with_word-keeps (Some direction) d s = record { continuous = s.continuous; outside = s.outside }
+
+  sense_line-keeps : (fields : List (List ℕ)) (d : Declaration) → Simple d → Keeps (sense_line fields d)
+  sense_line-keeps [] d s = tt
+  sense_line-keeps (word ∷ []) d s = with_word-keeps (sense_of word) d s
+  sense_line-keeps (word ∷ more ∷ fields) d s = tt
+
+  sense_on_header-keeps : (fields : List (List ℕ)) (d : Declaration) → Simple d → Keeps (sense_on_header fields d)
+  sense_on_header-keeps [] d s = s
+  sense_on_header-keeps (word ∷ fields) d s = sense_line-keeps (word ∷ fields) d s
+
+  after_header-keeps : (section : Section) (fields : List (List ℕ)) (d : Declaration) → Simple d → Keeps (after_header section fields d)
+  after_header-keeps Start fields d s = at_end-keeps Simple fields d s
+  after_header-keeps NameLine fields d s = s
+  after_header-keeps SenseAwaited fields d s = sense_on_header-keeps fields d s
+  after_header-keeps SenseGiven fields d s = at_end-keeps Simple fields d s
+  after_header-keeps Rows fields d s = at_end-keeps Simple fields d s
+  after_header-keeps Columns fields d s = at_end-keeps Simple fields d s
+  after_header-keeps Rhs fields d s = at_end-keeps Simple fields d s
+  after_header-keeps Ranges fields d s = at_end-keeps Simple fields d s
+  after_header-keeps Bounds fields d s = at_end-keeps Simple fields d s
+  after_header-keeps Ended fields d s = at_end-keeps Simple fields d s
+
   at_section-keeps : (d : Declaration) → Simple d → (section : Option Section) (fields : List (List ℕ)) → Keeps (at_section d section fields)
   at_section-keeps d s None fields = tt
   at_section-keeps d s (Some section) fields =
-      test-keeps Keeps (may_follow d.section section) (at_end (after_word section fields) (in_section section d)) (Err BadSection)
-      (λ _. at_end-keeps Simple (after_word section fields) (in_section section d) (record { continuous = s.continuous; outside = s.outside }))
+      test-keeps Keeps (not (may_follow d.section section)) (Err BadSection) (if awaits_sense d.section then Err BadLine else after_header section fields (in_section section d))
       (λ _. tt)
+      (λ _. test-keeps Keeps (awaits_sense d.section) (Err BadLine) (after_header section fields (in_section section d))
+      (λ _. tt)
+      (λ _. after_header-keeps section fields (in_section section d) (record { continuous = s.continuous; outside = s.outside })))
 
   header_line-keeps : (d : Declaration) → Simple d → (fields : List (List ℕ)) → Keeps (header_line d fields)
   header_line-keeps d s [] = tt
@@ -186,9 +223,11 @@ module _ (profile : Profile) where
   pairs_line-keeps : (step : PairStep) → ((d : Declaration) → Simple d → (pair : Pair) → Keeps (step d pair)) → (d : Declaration) → Simple d → (pairs : Option Pairs) → Keeps (pairs_line step d pairs)
   pairs_line-keeps step keeps d s None = tt
   pairs_line-keeps step keeps d s (Some pairs) =
-      test-keeps Keeps (is_of_first_set d.first_set pairs.set) (both_pairs step pairs (with_set pairs.set d)) (Ok d)
+      test-keeps Keeps (mixes_sets d.first_set pairs.set) (Err BadLine) (if is_of_first_set d.first_set pairs.set then both_pairs step pairs (with_set pairs.set d) else Ok d)
+      (λ _. tt)
+      (λ _. test-keeps Keeps (is_of_first_set d.first_set pairs.set) (both_pairs step pairs (with_set pairs.set d)) (Ok d)
       (λ _. then_do-keeps Simple Simple (second_pair step pairs.second) (step (with_set pairs.set d) pairs.first) (keeps (with_set pairs.set d) (with_set-keeps pairs.set d s) pairs.first) (second_pair-keeps step keeps pairs.second))
-      (λ _. s)
+      (λ _. s))
 
   rhs_on_row-keeps : (d : Declaration) → Simple d → (there : Option DeclaredRow) (pair : Pair) → Keeps (rhs_on_row d there pair)
   rhs_on_row-keeps d s None pair = tt
@@ -243,9 +282,11 @@ module _ (profile : Profile) where
   bound_with_fields-keeps : (d : Declaration) → Simple d → (kind : BoundKind) (b : Option BoundFields) → Keeps (bound_with_fields profile d kind b)
   bound_with_fields-keeps d s kind None = tt
   bound_with_fields-keeps d s kind (Some b) =
-      test-keeps Keeps (is_of_first_set d.first_set b.set) (bound_on_column profile (with_set b.set d) kind b) (Ok d)
+      test-keeps Keeps (mixes_sets d.first_set b.set) (Err BadLine) (if is_of_first_set d.first_set b.set then bound_on_column profile (with_set b.set d) kind b else Ok d)
+      (λ _. tt)
+      (λ _. test-keeps Keeps (is_of_first_set d.first_set b.set) (bound_on_column profile (with_set b.set d) kind b) (Ok d)
       (λ _. bound_on_column-keeps (with_set b.set d) (with_set-keeps b.set d s) kind b)
-      (λ _. s)
+      (λ _. s))
 
   bound_of_kind-keeps : (d : Declaration) → Simple d → (kind : Option BoundKind) (fields : List (List ℕ)) → Keeps (bound_of_kind profile d kind fields)
   bound_of_kind-keeps d s None fields = tt
@@ -260,6 +301,8 @@ module _ (profile : Profile) where
   data_line-keeps : (section : Section) (d : Declaration) → Simple d → (fields : List (List ℕ)) → Keeps (data_line profile section d fields)
   data_line-keeps Start d s fields = tt
   data_line-keeps NameLine d s fields = tt
+  data_line-keeps SenseAwaited d s fields = sense_line-keeps fields d s
+  data_line-keeps SenseGiven d s fields = tt
   data_line-keeps Rows d s fields = row_line-keeps d s fields
   data_line-keeps Columns d s fields = column_line-keeps d s fields
   data_line-keeps Rhs d s fields = pair_line-keeps RhsPairs d s fields
@@ -295,9 +338,9 @@ module _ (profile : Profile) where
 
 -- ---- the problem
 
-same-columns : (columns : List Column) (rows : List Row) (objective : Option DeclaredRow) → (problem_with columns rows objective).columns ≡ columns
-same-columns columns rows None = refl
-same-columns columns rows (Some objective) = refl
+same-columns : (direction : Direction) (columns : List Column) (rows : List Row) (objective : Option DeclaredRow) → (problem_with direction columns rows objective).columns ≡ columns
+same-columns direction columns rows None = refl
+same-columns direction columns rows (Some objective) = refl
 
 element-of-all : {X : Type 0} (P : X → Type 0) (xs : List X) → All P xs → (j : ℕ) → IfSome (slice_get xs j) P
 element-of-all P [] a j = tt
@@ -305,7 +348,7 @@ element-of-all P (x ∷ xs) a zero = All-head P x xs a
 element-of-all P (x ∷ xs) a (suc j) = element-of-all P xs (All-tail P x xs a) j
 
 pub columns_are_continuous : (profile : Profile) (text : List ℕ) (p : Problem) → profile.takes_integers ≡ false → declared_within profile text ≡ Ok p → (j : ℕ) → IfSome (slice_get p.columns j) (λ c. c.integer ≡ false)
-columns_are_continuous profile text p untaken e = element-of-all IsContinuous p.columns (of-declared profile (λ (q : Problem). All IsContinuous q.columns) (λ d s. subst (All IsContinuous) (sym (same-columns d.columns (map finished_row d.rows) d.objective)) (s.continuous untaken)) text p e)
+columns_are_continuous profile text p untaken e = element-of-all IsContinuous p.columns (of-declared profile (λ (q : Problem). All IsContinuous q.columns) (λ d s. subst (All IsContinuous) (sym (same-columns d.direction d.columns (map finished_row d.rows) d.objective)) (s.continuous untaken)) text p e)
 
 pub declared_columns_are_continuous : (text : List ℕ) (p : Problem) → declared text ≡ Ok p → (j : ℕ) → IfSome (slice_get p.columns j) (λ c. c.integer ≡ false)
 declared_columns_are_continuous text p e = columns_are_continuous reader_profile text p refl e

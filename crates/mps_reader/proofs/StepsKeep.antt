@@ -4,7 +4,7 @@ use Rattle.rational.specs.Rational.{Rational}
 use Rattle.fraction.specs.declared.read.ReadFault.{ReadFault}
 use Rattle.model_text.specs.declared.fault.FaultKind.{FaultKind}
 use Rattle.model_text.specs.declared.fault.FileFault.{FileFault}
-use Rattle.mps_reader.specs.Declaration.{Declaration}
+use Rattle.mps_draft.specs.Declaration.{Declaration}
 use Rattle.model_text.specs.Steps.{then_do}
 use Rattle.mps_reader.specs.Steps.{at_end, with_number}
 use Rattle.mps_reader.specs.FreeMps.{at_line}

@@ -6,7 +6,7 @@ use Rattle.model_text.specs.declared.fault.FaultKind.{FaultKind}
 use Rattle.model_text.specs.declared.fault.FileFault.{FileFault}
 use Rattle.rational.specs.Rational.{Rational}
 use Rattle.fraction.specs.declared.read.ReadFault.{ReadFault}
-use Rattle.mps_reader.specs.declared.row.RowRange.{RowRange}
+use Rattle.mps_draft.specs.declared.row.RowRange.{RowRange}
 use Rattle.mps_reader.specs.Steps.{kind_of}
 
 -- the number of a field, or the fault of its line

@@ -1,57 +1,50 @@
 -- The problem that a free MPS text declares, or its first fault.
-use Rattle.std.specs.Prelude.{ℕ, ◌+◌, ◌||◌, not, Bool, true, false, List, [], ◌∷◌, codes, Some, None, Result, Ok, Err, if◌then◌else◌}
+use Rattle.std.specs.Prelude.{ℕ, ◌+◌, ◌||◌, not, Bool, false, List, [], ◌∷◌, codes, Some, None, Result, Ok, Err, if◌then◌else◌}
 use Rattle.std.specs.declared.option.Option.{Option}
 use Rattle.std.specs.List.{list_all}
-use Rattle.std.specs.Str.{bytes_eq, is_utf8}
+use Rattle.std.specs.Str.{is_utf8}
 use Rattle.milp.specs.Problem.{Problem}
 use Rattle.model_text.specs.Bytes.{is_one_of}
 use Rattle.model_text.specs.declared.fault.FaultKind.{FaultKind}
 use Rattle.model_text.specs.declared.fault.FaultKind.TheVariants.{BadSection, BadLine, NoEnd}
 use Rattle.model_text.specs.declared.fault.FileFault.{FileFault}
 use Rattle.model_text.specs.declared.profile.Profile.{Profile}
-use Rattle.mps_reader.specs.declared.section.Section.{Section}
-use Rattle.mps_reader.specs.declared.section.Section.TheVariants.{Start, NameLine, Rows, Columns, Rhs, Ranges, Bounds, Ended}
+use Rattle.mps_draft.specs.declared.section.Section.{Section}
+use Rattle.mps_draft.specs.declared.section.Section.TheVariants.{Start, NameLine, SenseAwaited, SenseGiven, Rows, Columns, Rhs, Ranges, Bounds, Ended}
 use Rattle.mps_reader.specs.declared.pairs_section.PairSection.TheVariants.{RhsPairs, RangePairs}
 use Rattle.model_text.specs.Lines.{lines_of}
 use Rattle.mps_reader.specs.Lines.{fields_of, is_blank, is_header}
 use Rattle.model_text.specs.Profile.{reader_profile}
-use Rattle.mps_reader.specs.Declaration.{may_follow, Declaration, nothing_declared}
+use Rattle.mps_draft.specs.Sections.{section_of, may_follow, is_ended, awaits_sense}
+use Rattle.mps_draft.specs.Declaration.{Declaration, nothing_declared, in_section}
+use Rattle.mps_reader.specs.Sense.{sense_line, sense_on_header}
 use Rattle.mps_reader.specs.Steps.{at_end}
 use Rattle.mps_reader.specs.RowsAndColumns.{row_line, column_line}
 use Rattle.mps_reader.specs.RhsRangesBounds.{pair_line, bound_line}
-use Rattle.mps_reader.specs.Finished.{problem_of}
+use Rattle.mps_draft.specs.Finished.{problem_of}
 
 -- ---- headers
 
-abbrev pub section_of : List ℕ → Option Section
-section_of word =
-    if bytes_eq word (codes "NAME") then Some NameLine
-    else if bytes_eq word (codes "ROWS") then Some Rows
-    else if bytes_eq word (codes "COLUMNS") then Some Columns
-    else if bytes_eq word (codes "RHS") then Some Rhs
-    else if bytes_eq word (codes "RANGES") then Some Ranges
-    else if bytes_eq word (codes "BOUNDS") then Some Bounds
-    else if bytes_eq word (codes "ENDATA") then Some Ended
-    else None
+-- what follows NAME isn't looked at, OBJSENSE may have its word, and nothing follows another header's word
+abbrev pub after_header : Section → List (List ℕ) → Declaration → Result Declaration FaultKind
+after_header Start fields d = at_end fields d
+after_header NameLine fields d = Ok d
+after_header SenseAwaited fields d = sense_on_header fields d
+after_header SenseGiven fields d = at_end fields d
+after_header Rows fields d = at_end fields d
+after_header Columns fields d = at_end fields d
+after_header Rhs fields d = at_end fields d
+after_header Ranges fields d = at_end fields d
+after_header Bounds fields d = at_end fields d
+after_header Ended fields d = at_end fields d
 
--- each section has a first set of its own
-abbrev pub in_section : Section → Declaration → Declaration
-in_section section d = record d { section = section; first_set = None }
-
--- what follows NAME isn't looked at, and nothing follows another header's word
-abbrev pub after_word : Section → List (List ℕ) → List (List ℕ)
-after_word NameLine fields = []
-after_word Start fields = fields
-after_word Rows fields = fields
-after_word Columns fields = fields
-after_word Rhs fields = fields
-after_word Ranges fields = fields
-after_word Bounds fields = fields
-after_word Ended fields = fields
-
+-- where the word of OBJSENSE is awaited, no header may come
 abbrev pub at_section : Declaration → Option Section → List (List ℕ) → Result Declaration FaultKind
 at_section d None fields = Err BadSection
-at_section d (Some section) fields = if may_follow d.section section then at_end (after_word section fields) (in_section section d) else Err BadSection
+at_section d (Some section) fields =
+    if not (may_follow d.section section) then Err BadSection
+    else if awaits_sense d.section then Err BadLine
+    else after_header section fields (in_section section d)
 
 abbrev pub header_line : Declaration → List (List ℕ) → Result Declaration FaultKind
 header_line d [] = Err BadSection
@@ -63,22 +56,14 @@ header_line d (word ∷ fields) = at_section d (section_of word) fields
 abbrev pub data_line : Profile → Section → Declaration → List (List ℕ) → Result Declaration FaultKind
 data_line profile Start d fields = Err BadLine
 data_line profile NameLine d fields = Err BadLine
+data_line profile SenseAwaited d fields = sense_line fields d
+data_line profile SenseGiven d fields = Err BadLine
 data_line profile Rows d fields = row_line profile d fields
 data_line profile Columns d fields = column_line profile d fields
 data_line profile Rhs d fields = pair_line RhsPairs d fields
 data_line profile Ranges d fields = pair_line RangePairs d fields
 data_line profile Bounds d fields = bound_line profile d fields
 data_line profile Ended d fields = Ok d
-
-abbrev pub is_ended : Section → Bool
-is_ended Start = false
-is_ended NameLine = false
-is_ended Rows = false
-is_ended Columns = false
-is_ended Rhs = false
-is_ended Ranges = false
-is_ended Bounds = false
-is_ended Ended = true
 
 -- its first character is `*`
 abbrev pub is_comment : List ℕ → Bool

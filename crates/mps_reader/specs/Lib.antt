@@ -1,9 +1,8 @@
-pub mod Lines
-pub mod Declaration
-pub mod Finished
-pub mod Steps
+-- FreeMps first: the texts and their lines.
+pub mod FreeMps
+pub mod Sense
 pub mod RowsAndColumns
 pub mod RhsRangesBounds
-pub mod FreeMps
-pub mod Consistent
+pub mod Lines
+pub mod Steps
 pub mod Follows

@@ -1,41 +1,26 @@
 -- What a line of RHS, RANGES or BOUNDS adds to the declaration, or the kind of its first fault: the number of fields first.
-use Rattle.std.specs.Prelude.{ℕ, pos, int_lt, ◌&&◌, not, Bool, true, false, List, [], ◌∷◌, codes, Some, None, is_some, unwrap_or, Result, Ok, Err, if◌then◌else◌}
+use Rattle.std.specs.Prelude.{ℕ, pos, int_lt, ◌&&◌, not, Bool, true, false, List, [], ◌∷◌, Some, None, is_some, Result, Ok, Err, if◌then◌else◌}
 use Rattle.std.specs.declared.option.Option.{Option}
-use Rattle.std.specs.Str.{bytes_eq}
-use Rattle.rational.specs.Rational.{Rational, zero_ℚ, one_ℚ, abs_ℚ, neg_ℚ, ◌+ℚ◌, ◌-ℚ◌}
+use Rattle.rational.specs.Rational.{Rational, zero_ℚ, abs_ℚ, neg_ℚ, ◌+ℚ◌, ◌-ℚ◌}
 use Rattle.fraction.specs.Fits.{sum_fits}
 use Rattle.fraction.specs.Literal.{read_of}
 use Rattle.fraction.specs.declared.read.ReadFault.{ReadFault}
-use Rattle.milp.specs.Problem.{Column}
 use Rattle.model_text.specs.declared.fault.FaultKind.{FaultKind}
 use Rattle.model_text.specs.declared.fault.FaultKind.TheVariants.{BadLine, TooWide, Unknown, Twice, IntegersNotYet}
 use Rattle.model_text.specs.declared.profile.Profile.{Profile}
-use Rattle.mps_reader.specs.declared.row.RowKind.{RowKind}
-use Rattle.mps_reader.specs.declared.row.RowRange.{RowRange}
-use Rattle.mps_reader.specs.declared.row.RowKind.TheVariants.{Objective, Free, AtMost, AtLeast, Exactly}
+use Rattle.mps_draft.specs.declared.row.RowKind.{RowKind}
+use Rattle.mps_draft.specs.declared.row.RowRange.{RowRange}
+use Rattle.mps_draft.specs.declared.row.RowKind.TheVariants.{Objective, Free, AtMost, AtLeast, Exactly}
 use Rattle.mps_reader.specs.declared.pairs_section.PairSection.{PairSection}
 use Rattle.mps_reader.specs.declared.pairs_section.PairSection.TheVariants.{RhsPairs, RangePairs}
-use Rattle.mps_reader.specs.declared.bound.BoundKind.{BoundKind}
-use Rattle.mps_reader.specs.declared.bound.BoundKind.TheVariants.{Lower, Upper, Fixed, IntegerLower, IntegerUpper, Unbounded, NoLower, NoUpper, Binary}
+use Rattle.mps_draft.specs.declared.bound.BoundKind.{BoundKind}
 use Rattle.model_text.specs.Columns.{is_column_named}
-use Rattle.mps_reader.specs.Declaration.{is_free, DeclaredRow, Declaration, row_named, with_row, is_column, with_first_changed}
+use Rattle.mps_draft.specs.Declaration.{is_free, DeclaredRow, Declaration, row_named, with_row, is_column, with_first_changed}
+use Rattle.mps_draft.specs.Sets.{mixes_sets, is_of_first_set, with_set}
+use Rattle.mps_draft.specs.Rows.{rhs_of, rhs_added, range_added}
+use Rattle.mps_draft.specs.Bounds.{bound_kind_of, has_value, makes_integer, bounded}
 use Rattle.model_text.specs.Steps.{then_do}
 use Rattle.mps_reader.specs.Steps.{with_number}
-
--- ---- sets: only the lines of the section's first one count
-
-abbrev pub is_same_set : Option (List ℕ) → Option (List ℕ) → Bool
-is_same_set None None = true
-is_same_set None (Some set) = false
-is_same_set (Some first) None = false
-is_same_set (Some first) (Some set) = bytes_eq first set
-
-abbrev pub is_of_first_set : Option (Option (List ℕ)) → Option (List ℕ) → Bool
-is_of_first_set None set = true
-is_of_first_set (Some first) set = is_same_set first set
-
-abbrev pub with_set : Option (List ℕ) → Declaration → Declaration
-with_set set d = record d { first_set = Some (unwrap_or d.first_set set) }
 
 -- ---- RHS and RANGES: `[set] row v [row v]`
 
@@ -71,18 +56,9 @@ both_pairs step pairs d = then_do (second_pair step pairs.second) (step d pairs.
 abbrev pub pairs_line : PairStep → Declaration → Option Pairs → Result Declaration FaultKind
 pairs_line step d None = Err BadLine
 pairs_line step d (Some pairs) =
-    if is_of_first_set d.first_set pairs.set then both_pairs step pairs (with_set pairs.set d) else Ok d
-
--- on a free row that isn't the objective it is passed over
-abbrev pub rhs_of_kind : RowKind → Rational → Option Rational
-rhs_of_kind Free value = None
-rhs_of_kind Objective value = Some value
-rhs_of_kind AtMost value = Some value
-rhs_of_kind AtLeast value = Some value
-rhs_of_kind Exactly value = Some value
-
-abbrev pub rhs_added : Rational → DeclaredRow → DeclaredRow
-rhs_added value r = record r { rhs = rhs_of_kind r.kind value }
+    if mixes_sets d.first_set pairs.set then Err BadLine
+    else if is_of_first_set d.first_set pairs.set then both_pairs step pairs (with_set pairs.set d)
+    else Ok d
 
 abbrev pub rhs_on_row : Declaration → Option DeclaredRow → Pair → Result Declaration FaultKind
 rhs_on_row d None pair = Err Unknown
@@ -95,10 +71,6 @@ rhs_pair d pair = rhs_on_row d (row_named d pair.row) pair
 
 abbrev pub is_below_zero : Rational → Bool
 is_below_zero v = int_lt v.numerator (pos 0)
-
--- 0 where no right-hand side is given
-abbrev pub rhs_of : DeclaredRow → Rational
-rhs_of r = unwrap_or r.rhs zero_ℚ
 
 -- [b - |r|, b], where the sum fits
 abbrev pub range_below : Rational → Rational → Result RowRange FaultKind
@@ -115,9 +87,6 @@ range_of Free b r = Err BadLine
 range_of AtMost b r = range_below b r
 range_of AtLeast b r = range_above b r
 range_of Exactly b r = if is_below_zero r then range_below b r else range_above b r
-
-abbrev pub range_added : RowRange → DeclaredRow → DeclaredRow
-range_added range r = record r { range = Some range }
 
 abbrev pub with_range : Declaration → DeclaredRow → List ℕ → Rational → Result Declaration FaultKind
 with_range d r row value = then_do (λ range. Ok (with_row (range_added range) row d)) (range_of r.kind (rhs_of r) value)
@@ -141,52 +110,6 @@ abbrev pub pair_line : PairSection → Declaration → List (List ℕ) → Resul
 pair_line section d fields = pairs_line (step_of section) d (pairs_of fields)
 
 -- ---- BOUNDS: `UP|LO|FX|LI|UI [set] col v` and `FR|MI|PL|BV [set] col`, or with four fields a number that isn't used
-
-abbrev pub bound_kind_of : List ℕ → Option BoundKind
-bound_kind_of word =
-    if bytes_eq word (codes "LO") then Some Lower
-    else if bytes_eq word (codes "UP") then Some Upper
-    else if bytes_eq word (codes "FX") then Some Fixed
-    else if bytes_eq word (codes "LI") then Some IntegerLower
-    else if bytes_eq word (codes "UI") then Some IntegerUpper
-    else if bytes_eq word (codes "FR") then Some Unbounded
-    else if bytes_eq word (codes "MI") then Some NoLower
-    else if bytes_eq word (codes "PL") then Some NoUpper
-    else if bytes_eq word (codes "BV") then Some Binary
-    else None
-
-abbrev pub has_value : BoundKind → Bool
-has_value Lower = true
-has_value Upper = true
-has_value Fixed = true
-has_value IntegerLower = true
-has_value IntegerUpper = true
-has_value Unbounded = false
-has_value NoLower = false
-has_value NoUpper = false
-has_value Binary = false
-
-abbrev pub makes_integer : BoundKind → Bool
-makes_integer Lower = false
-makes_integer Upper = false
-makes_integer Fixed = false
-makes_integer IntegerLower = true
-makes_integer IntegerUpper = true
-makes_integer Unbounded = false
-makes_integer NoLower = false
-makes_integer NoUpper = false
-makes_integer Binary = true
-
-abbrev pub bounded : BoundKind → Rational → Column → Column
-bounded Lower v c = record c { lower = Some v }
-bounded Upper v c = record c { upper = Some v }
-bounded Fixed v c = record c { lower = Some v; upper = Some v }
-bounded IntegerLower v c = record c { lower = Some v; integer = true }
-bounded IntegerUpper v c = record c { upper = Some v; integer = true }
-bounded Unbounded v c = record c { lower = None; upper = None }
-bounded NoLower v c = record c { lower = None }
-bounded NoUpper v c = record c { upper = None }
-bounded Binary v c = record c { lower = Some zero_ℚ; upper = Some one_ℚ; integer = true }
 
 -- the fields after the kind
 pub record BoundFields : Type 0 where
@@ -219,7 +142,9 @@ bound_on_column profile d kind b =
 abbrev pub bound_with_fields : Profile → Declaration → BoundKind → Option BoundFields → Result Declaration FaultKind
 bound_with_fields profile d kind None = Err BadLine
 bound_with_fields profile d kind (Some b) =
-    if is_of_first_set d.first_set b.set then bound_on_column profile (with_set b.set d) kind b else Ok d
+    if mixes_sets d.first_set b.set then Err BadLine
+    else if is_of_first_set d.first_set b.set then bound_on_column profile (with_set b.set d) kind b
+    else Ok d
 
 abbrev pub bound_of_kind : Profile → Declaration → Option BoundKind → List (List ℕ) → Result Declaration FaultKind
 bound_of_kind profile d None fields = Err BadLine

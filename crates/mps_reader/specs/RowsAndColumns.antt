@@ -1,5 +1,5 @@
 -- What a line of ROWS or COLUMNS adds to the declaration, or the kind of its first fault: leftmost field first.
-use Rattle.std.specs.Prelude.{ℕ, ◌-◌, ◌==◌, nat_le, ◌&&◌, ◌||◌, not, Bool, true, false, List, [], ◌∷◌, ◌++◌, length, codes, Some, None, is_some, Result, Ok, Err, if◌then◌else◌}
+use Rattle.std.specs.Prelude.{ℕ, ◌==◌, nat_le, ◌&&◌, ◌||◌, not, Bool, true, false, List, [], ◌∷◌, ◌++◌, length, codes, Some, None, is_some, Result, Ok, Err, if◌then◌else◌}
 use Rattle.std.specs.declared.option.Option.{Option}
 use Rattle.std.specs.Str.{bytes_eq}
 use Rattle.rational.specs.Rational.{Rational}
@@ -7,23 +7,17 @@ use Rattle.fraction.specs.Literal.{read_of}
 use Rattle.model_text.specs.declared.fault.FaultKind.{FaultKind}
 use Rattle.model_text.specs.declared.fault.FaultKind.TheVariants.{BadLine, Unknown, Twice, TooMany, IntegersNotYet}
 use Rattle.model_text.specs.declared.profile.Profile.{Profile}
-use Rattle.mps_reader.specs.declared.row.RowKind.{RowKind}
-use Rattle.mps_reader.specs.declared.row.RowKind.TheVariants.{Objective, Free, AtMost, AtLeast, Exactly}
+use Rattle.mps_draft.specs.declared.row.RowKind.{RowKind}
+use Rattle.mps_draft.specs.declared.row.RowKind.TheVariants.{Objective}
 use Rattle.rational.specs.Compare.{is_zero}
-use Rattle.mps_reader.specs.Declaration.{is_free, DeclaredRow, new_row, Declaration, is_objective_named, row_named, is_row, with_row, is_column, entry_count}
+use Rattle.mps_draft.specs.Declaration.{is_free, DeclaredRow, new_row, Declaration, is_objective_named, row_named, is_row, with_row, is_column, entry_count}
+use Rattle.mps_draft.specs.Declaration.{is_the_name}
+use Rattle.mps_draft.specs.Rows.{row_kind_of, given}
 use Rattle.model_text.specs.Columns.{new_column}
 use Rattle.model_text.specs.Steps.{then_do}
 use Rattle.mps_reader.specs.Steps.{at_end, with_number}
 
 -- ---- ROWS: `N|L|G|E name`
-
-abbrev pub row_kind_of : List ℕ → Option RowKind
-row_kind_of word =
-    if bytes_eq word (codes "N") then Some Free
-    else if bytes_eq word (codes "L") then Some AtMost
-    else if bytes_eq word (codes "G") then Some AtLeast
-    else if bytes_eq word (codes "E") then Some Exactly
-    else None
 
 -- the first N is the objective
 abbrev pub makes_objective : RowKind → Option DeclaredRow → Bool
@@ -79,23 +73,12 @@ abbrev pub marker_line : Profile → Declaration → List (List ℕ) → Result 
 marker_line profile d (word ∷ marker ∷ fields) = turned profile d (marker_of marker) fields
 marker_line profile d fields = Err BadLine
 
-abbrev pub is_the_name : Option (List ℕ) → List ℕ → Bool
-is_the_name None name = false
-is_the_name (Some there) name = bytes_eq name there
-
 -- a new name begins a column, and the name of the current one goes on with it
 abbrev pub at_column : Profile → Declaration → List ℕ → Result Declaration FaultKind
 at_column profile d name =
     if is_column d name then (if is_the_name d.current name then Ok d else Err Twice)
     else if nat_le profile.columns (length d.columns) then Err TooMany
     else Ok (record d { columns = d.columns ++ new_column name d.in_integers ∷ []; current = Some name })
-
--- the last column gives the row this number, of which a zero makes no entry
-abbrev pub given : ℕ → Rational → DeclaredRow → DeclaredRow
-given columns value r = record r {
-  entries = if is_zero value then r.entries else r.entries ++ record { column = columns - 1; coefficient = value } ∷ [];
-  latest = columns;
-}
 
 -- zeros and the objective's coefficients aren't counted
 abbrev pub is_entry_too_many : Profile → Declaration → List ℕ → Rational → Bool

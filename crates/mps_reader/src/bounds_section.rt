@@ -5,11 +5,10 @@ ghost use Rattle.model_text.specs.Follows.{Follows};
 ghost use Rattle.mps_reader.specs.Follows.{number_or_fault};
 ghost use Rattle.mps_reader.specs.RhsRangesBounds.{bound_line, bound_of_kind, bound_with_fields, bound_on_column, bound_value, with_bound};
 
-use crate::bound::BoundKind;
-use crate::draft::Draft;
 use crate::literal::read_number;
 use fraction::Frac;
 use model_text::{FaultKind, Profile, ReadError};
+use mps_draft::{BoundKind, Draft};
 
 // `UP|LO|FX|LI|UI [set] col v` and `FR|MI|PL|BV [set] col`, or with four fields a number that isn't used
 pub(crate) fn bound_line<'a>(
@@ -70,6 +69,9 @@ fn bound_in_set<'a>(
 ) -> Result<(), ReadError<FaultKind>>
     ensures { Follows result draft.new (bound_with_fields profile.now draft.old kind (Some (record { set = option_map (λ s. s.now) set.entry; column = column.now; number = option_map (λ n. n.now) number.entry }))) }
 {
+    if draft.mixes_sets(set) {
+        return Err(ReadError::Fault(FaultKind::BadLine));
+    }
     if !draft.takes_set(set) {
         return Ok(());
     }

@@ -1,6 +1,6 @@
 // The lines of COLUMNS.
 ghost use Rattle.std.specs.Prelude.{◌≡◌, ◌≢◌, ◌∷◌, true, length, map, Some, IfSome};
-ghost use Rattle.mps_reader.specs.Declaration.{is_row, row_named, is_objective_named};
+ghost use Rattle.mps_draft.specs.Declaration.{is_row, row_named, is_objective_named};
 ghost use Rattle.model_text.specs.Profile.{IsWithinInstance};
 ghost use Rattle.model_text.specs.Follows.{Follows};
 ghost use Rattle.model_text.specs.Steps.{then_do};
@@ -8,10 +8,10 @@ ghost use Rattle.mps_reader.specs.Steps.{with_number};
 ghost use Rattle.fraction.specs.Literal.{read_of};
 ghost use Rattle.mps_reader.specs.RowsAndColumns.{marker_of, begins_with_marker, is_marker, with_integers, turned, marker_line, at_column, with_entry, at_value, at_row, at_entry, after_pair, at_second_entry, at_entries, column_line};
 
-use crate::draft::Draft;
 use crate::literal::read_number;
 use fraction::Frac;
 use model_text::{FaultKind, Profile, ReadError};
+use mps_draft::Draft;
 
 // `col row v [row v]`, or a marker
 pub(crate) fn column_line<'a>(

@@ -1,21 +1,16 @@
 //! Reads free MPS texts.
 #![tactic(auto)]
 
-mod bound;
 mod bounds_section;
 mod columns_section;
-mod draft;
-mod finish;
 mod laws;
 mod line;
 mod lines;
 mod literal;
 mod pairs_section;
 mod read;
-mod row;
-mod row_table;
 mod rows_section;
-mod section;
+mod sense_section;
 
 pub use laws::declared_problems_are_continuous;
 pub use model_text::{FaultKind, FileFault, ReadError};

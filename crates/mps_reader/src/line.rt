@@ -1,19 +1,19 @@
 // One line of a text.
-ghost use Rattle.std.specs.Prelude.{◌≡◌, ◌<◌, length, IsTrue, ◌↔◌, map, Some};
+ghost use Rattle.std.specs.Prelude.{◌≡◌, map, Some};
 ghost use Rattle.std.specs.List.{list_all};
 ghost use Rattle.mps_reader.specs.Lines.{is_blank};
 ghost use Rattle.model_text.specs.Profile.{IsWithinInstance};
 ghost use Rattle.model_text.specs.Follows.{Follows};
-ghost use Rattle.mps_reader.specs.FreeMps.{at_section, after_word, header_line, data_line, is_comment, is_passed_over, text_line, with_line};
+ghost use Rattle.mps_reader.specs.FreeMps.{at_section, after_header, header_line, data_line, is_comment, is_passed_over, text_line, with_line};
 
 use crate::bounds_section::bound_line;
 use crate::columns_section::column_line;
-use crate::draft::Draft;
 use crate::lines::{fields_in, is_header};
 use crate::pairs_section::{PairSection, pair_line};
 use crate::rows_section::row_line;
-use crate::section::Section;
+use crate::sense_section::{sense_line, sense_on_header};
 use model_text::{FaultKind, Profile, ReadError, as_text};
+use mps_draft::{Draft, Section};
 use std::alloc::Global;
 
 // Adds what a line declares. Nothing after ENDATA is read.
@@ -88,7 +88,7 @@ fn header_line(draft: &mut Draft, fields: &[&str]) -> Result<(), ReadError<Fault
     }
 }
 
-// What follows NAME isn't looked at, and nothing follows another header's word.
+// Where the word of OBJSENSE is awaited, no header may come.
 fn at_section(
     draft: &mut Draft,
     section: Section,
@@ -99,19 +99,31 @@ fn at_section(
     if !draft.section().may_be_followed(section) {
         return Err(ReadError::Fault(FaultKind::BadSection));
     }
-    if has_more(section, rest) {
+    if draft.section().awaits_sense() {
         return Err(ReadError::Fault(FaultKind::BadLine));
     }
     draft.enter(section);
-    Ok(())
+    after_header(draft, section, rest)
 }
 
-fn has_more(section: Section, rest: &[&str]) -> bool
-    ensures { IsTrue result ↔ (0 < length (after_word section (map (λ f. f.now) rest.now))) }
+// What follows NAME isn't looked at, OBJSENSE may have its word, and nothing follows another header's word.
+fn after_header(
+    draft: &mut Draft,
+    section: Section,
+    rest: &[&str],
+) -> Result<(), ReadError<FaultKind>>
+    ensures { Follows result draft.new (after_header section (map (λ f. f.now) rest.now) draft.old) }
 {
     match section {
-        Section::NameLine => false,
-        _ => !rest.is_empty(),
+        Section::NameLine => Ok(()),
+        Section::SenseAwaited => sense_on_header(draft, rest),
+        _ => {
+            if rest.is_empty() {
+                Ok(())
+            } else {
+                Err(ReadError::Fault(FaultKind::BadLine))
+            }
+        }
     }
 }
 
@@ -128,7 +140,10 @@ fn data_line<'a>(
     ensures { Follows result draft.new (data_line profile.now draft.old.section draft.old (map (λ f. f.now) fields.now)) }
 {
     match draft.section() {
-        Section::Start | Section::NameLine => Err(ReadError::Fault(FaultKind::BadLine)),
+        Section::Start | Section::NameLine | Section::SenseGiven => {
+            Err(ReadError::Fault(FaultKind::BadLine))
+        }
+        Section::SenseAwaited => sense_line(draft, fields),
         Section::Rows => row_line(alloc, profile, draft, fields),
         Section::Columns => column_line(profile, draft, fields),
         Section::Rhs => pair_line(PairSection::RhsPairs, draft, fields),

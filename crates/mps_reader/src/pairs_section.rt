@@ -6,14 +6,14 @@ ghost use Rattle.model_text.specs.Steps.{then_do};
 ghost use Rattle.mps_reader.specs.Steps.{with_number};
 ghost use Rattle.model_text.specs.Follows.{Follows};
 ghost use Rattle.mps_reader.specs.Follows.{range_or_fault};
-ghost use Rattle.mps_reader.specs.Declaration.{with_row};
-ghost use Rattle.mps_reader.specs.RhsRangesBounds.{step_of, pairs_line, pair_line, rhs_pair, range_pair, range_below, range_above, range_of, range_added, is_below_zero};
+ghost use Rattle.mps_draft.specs.Declaration.{with_row};
+ghost use Rattle.mps_draft.specs.Rows.{range_added};
+ghost use Rattle.mps_reader.specs.RhsRangesBounds.{step_of, pairs_line, pair_line, rhs_pair, range_pair, range_below, range_above, range_of, is_below_zero};
 
-use crate::draft::Draft;
 use crate::literal::read_number;
-use crate::row::{RowKind, RowRange};
 use fraction::Frac;
 use model_text::{FaultKind, ReadError};
+use mps_draft::{Draft, RowKind, RowRange};
 
 // RHS and RANGES, whose lines have one form.
 #[derive(Clone, Copy)]
@@ -59,6 +59,9 @@ fn set_pairs<'a>(
 ) -> Result<(), ReadError<FaultKind>>
     ensures { Follows result draft.new (pairs_line (step_of section) draft.old (Some (record { set = option_map (λ s. s.now) set.entry; first = record { row = first.entry.0.now; number = first.entry.1.now }; second = option_map (λ p. record { row = p.0.now; number = p.1.now }) second.entry }))) }
 {
+    if draft.mixes_sets(set) {
+        return Err(ReadError::Fault(FaultKind::BadLine));
+    }
     if !draft.takes_set(set) {
         return Ok(());
     }

@@ -6,11 +6,10 @@ ghost use Rattle.model_text.specs.Follows.{Follows, Reads};
 ghost use Rattle.mps_reader.specs.Follows.{fault_at};
 ghost use Rattle.mps_reader.specs.FreeMps.{declared, declared_from, declared_within};
 
-use crate::draft::Draft;
-use crate::finish::finish;
 use crate::line::read_line;
 use instance::Instance;
 use model_text::{FaultKind, FileFault, Profile, ReadError, lines_in, reader_profile};
+use mps_draft::{Draft, finish};
 use std::alloc::Global;
 
 /// The problem that a free MPS text declares, or its first fault. `Fault` comes exactly where the definition of the

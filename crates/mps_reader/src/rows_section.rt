@@ -1,14 +1,13 @@
 // The lines of ROWS.
 ghost use Rattle.std.specs.Prelude.{◌≡◌, false, map, Some};
-ghost use Rattle.mps_reader.specs.Declaration.{is_row, new_row};
+ghost use Rattle.mps_draft.specs.Declaration.{is_row, new_row};
 ghost use Rattle.mps_reader.specs.Steps.{at_end};
 ghost use Rattle.model_text.specs.Profile.{IsWithinInstance};
 ghost use Rattle.model_text.specs.Follows.{Follows};
 ghost use Rattle.mps_reader.specs.RowsAndColumns.{row_line, row_of_kind, with_new_row};
 
-use crate::draft::Draft;
-use crate::row::RowKind;
 use model_text::{FaultKind, Profile, ReadError};
+use mps_draft::{Draft, RowKind};
 use std::alloc::Global;
 
 // `N|L|G|E name`

@@ -58,7 +58,9 @@ min obj 0; x - -; y 0 - <- min/st/bounds/ x >= -Infinity x <= +INF inf >= y
 min obj 0; x 0 4; y 2 3; z 0 - <- min/st/bounds/ 4 >= x/ 2 =< y < 3/ z
 min obj 0; x 2 -; free - - <- min/st/bounds/ 2 <= x free free
 min obj 0; x 1 3 <- min/st/bounds/ x >= 1/BOUNDS/ 1/ </ x/ <=/ 3/end
-min obj 0; semis 0 -; x 0 - <- min/st/bounds/ semis/ x
+min obj 0; x 0 -; semis 1 - <- min/st/bounds/ x semis >= 1
+min obj 0 0:1 1:1 | r.1 1 - 0:1 | SOS1 2 - 1:1; semi 0 -; sos1 0 - <- min/ semi +/ sos1/st/ semi >= 1/ SOS1: sos1 >= 2
+min obj 0 0:1 1:1 2:1 | c 1 - 0:3 1:-1 2:1; a 0 -; b 0 -; d 0 - <- min a + b + d/st/ c: d + 2 b + 3 a - 3 b >= 1
 min obj 0 0:1 | r.1 1 - 2:1; y 0 -; z 0 7; x 0 - <- min y + 0 z/st/ x >= 1/bounds/ z <= 7
 ";
 
@@ -100,6 +102,8 @@ const FAULTS: &str = "\
 3 BadLine <- min/st/ 2 3 x >= 1
 3 BadLine <- min/st/ 2 x + 3 >= 1
 3 BadLine <- min/st/ x >= inf
+3 BadLine <- min/st/ x == 1
+1 BadLine <- min größe/st
 4 BadLine <- min/st/ x >=/ y
 4 BadLine <- min/st/ x + y
 4 BadLine <- min/st/ x >=/end
@@ -117,6 +121,12 @@ const FAULTS: &str = "\
 4 BadLine <- min/st/bounds/ x >= y
 4 BadLine <- min/st/bounds/ x : 3
 5 BadLine <- min/st/bounds/ 3 <=/end
+4 BadLine <- min/st/bounds/ inf free
+4 BadLine <- min/st/bounds/ semis/ x
+4 BadLine <- min/st/bounds/ Semi >= 1
+5 BadLine <- min/st/bounds/ x/ SOS
+5 BadLine <- min/st/bounds/ x/sos1
+5 BadLine <- min/st/bounds/ x/ sos2
 5 BadLine <- min/st/bounds/ x >= -
 5 Twice <- min/ x/st/ a: x >= 1/ a: x >= 2/end
 4 Twice <- min/st/ r.2: x >= 1/ y/ >= 2
@@ -150,6 +160,7 @@ min obj 0; x 0 1 int; y 3 - int <- min/st/bounds/ x >= 3 y >= 3/bin x/int/ y y/b
 2 BadLine <- min x/general/ x
 4 BadLine <- min x/st/general/ 3 x
 4 BadLine <- min x/st/binary/ x free >= 1
+5 BadLine <- min x/st/general/ x/ semi/ y
 ";
 
 // ---- the tables are true

@@ -28,6 +28,20 @@ const FAULTS: &str = "\
 9 BadSection <- @COLUMNS
 10 BadSection <- @RANGES/RHS
 10 BadSection <- @BOUNDS/RANGES
+9 BadSection <- @OBJSENSE MAX
+2 BadSection <- OBJSENSE/OBJSENSE
+2 BadSection <- OBJSENSE min/OBJSENSE MAX
+3 BadSection <- OBJSENSE/ MAX/NAME
+2 BadSection <- OBJSENSE/MAX
+2 BadSection <- OBJSENSE MAX/COLUMNS
+1 BadLine <- OBJSENSE FOO
+1 BadLine <- OBJSENSE MAX more
+2 BadLine <- OBJSENSE/ROWS
+2 BadLine <- OBJSENSE/ FOO
+2 BadLine <- OBJSENSE/ MAX MIN
+2 BadLine <- OBJSENSE MAX/ MAX
+3 BadLine <- OBJSENSE/ MAX/ MAX
+2 NoEnd <- OBJSENSE
 1 BadLine <-  N cost
 2 BadLine <- NAME/ N cost
 1 BadLine <- ROWS more
@@ -47,6 +61,13 @@ const FAULTS: &str = "\
 9 BadLine <- @ M 'MARKER' 'INTORG' more
 10 BadLine <- @RHS/ c
 10 BadLine <- @RHS/ R c 1 d 2 more
+11 BadLine <- @RHS/ R c 1/ d 1
+11 BadLine <- @RHS/ c 1/ R d 1
+11 BadLine <- @RHS/ R c 1/ g 1a
+11 BadLine <- @RANGES/ c 1 d 1/ R c 1 d 1
+11 BadLine <- @BOUNDS/ UP b x 1/ LO x 0
+12 BadLine <- @BOUNDS/ UP x 1/ UP x 2/ FR b x
+12 BadLine <- @BOUNDS/ UP b x 1/ UP c x 2/ FR x
 10 BadLine <- @RANGES/ R cost 1
 10 BadLine <- @RANGES/ R f 1
 10 BadLine <- @BOUNDS/ XX b x 1
@@ -56,6 +77,9 @@ const FAULTS: &str = "\
 10 BadLine <- @BOUNDS/ UP b x 1 more
 9 BadNumber <- @ y c 1a
 9 BadNumber <- @ y c .
+9 BadNumber <- @ y c 1,5
+9 BadNumber <- @ y c inf
+9 BadNumber <- @ y c 1a g 1
 9 BadNumber <- @ y c 1 d -
 10 BadNumber <- @RHS/ R c --1
 10 BadNumber <- @RANGES/ R c 1e
@@ -69,6 +93,11 @@ const FAULTS: &str = "\
 10 TooWide <- @BOUNDS/ LO b x -1e39
 9 Unknown <- @ y g 1
 9 Unknown <- @ y g
+9 Unknown <- @ y g 1a
+10 Unknown <- @RHS/ R g
+10 Unknown <- @BOUNDS/ UP b y 1a
+10 BadLine <- @RANGES/ R f 1a
+10 Twice <- @RHS/ R c 1 c 1a
 9 Unknown <- @ y c 1 g 1
 10 Unknown <- @RHS/ R g 1
 10 Unknown <- @RANGES/ R g 1
@@ -115,6 +144,15 @@ const FAULTS_WITHIN_TWO: &str = "\
 // ---- problems
 
 const PROBLEMS: &str = "\
+max cost 0 0:1; x 0 - <- NAME t/OBJSENSE/ MAX/ROWS/ N cost/COLUMNS/ x cost 1/ENDATA/
+max obj 0 <- OBJSENSE\tmaximize/ROWS/COLUMNS/ENDATA
+min obj 0 <- OBJSENSE/* a comment//\t Minimize/ROWS/COLUMNS/ENDATA
+min obj 0 <- NAME/OBJSENSE mIn/ROWS/COLUMNS/ENDATA
+min cost 0 0:1; x 0 - <- NAME\r/ROWS\r/\tN\t cost\r/\r/COLUMNS\r/ x   \t\tcost 1\r/ENDATA\r/
+min größe 0 0:1; Ω 0 - <- ROWS/ N größe/COLUMNS/ Ω größe 1/ENDATA/
+min z 0 0:1 1:-1/2 2:2 3:100 4:100 5:3/20; a 0 -; b 0 -; c 0 -; d 0 -; e 0 -; f 0 -; g 0 - <- ROWS/ N z/COLUMNS/ a z +1/ b z -.5/ c z 2./ d z 1e2/ e z 1E+2/ f z 1.5e-1/ g z 0e999999999999/ENDATA/
+min z 0 | 'MARKER' - 0 0:1; x 0 - <- ROWS/ N z/ L 'MARKER'/COLUMNS/ x 'MARKER' 1/ENDATA/
+min z 0 0:1; x - -; y - 7 <- ROWS/ N z/COLUMNS/ x z 1/ y z 0/BOUNDS/ FR b x/ UP b y 7/ MI b y 3/ PL b x/ FR c y/ENDATA/
 min cost 0 0:1; x 3 2 <- NAME t/ROWS/ N cost/COLUMNS/ x cost 1/BOUNDS/ LO b x 3/ UP b x 2/ UP c x 9/ENDATA/rest
 min obj 0 0:3 1:2 | r.1 - 4 0:1 1:1 | r.2 - 6 0:1 1:3; x 0 3; y 0 - <- ROWS/ N obj/ L r.1/ L r.2/COLUMNS/ x obj 3 r.1 1/ x r.2 1/ y obj 2 r.1 1/ y r.2 3/RHS/ R r.1 4 r.2 6/BOUNDS/ UP b x 3/ENDATA/
 min cost 0 0:1 | c1 3 5 0:1 | c2 1 3/2 | c3 -3 0 | c4 0 2 | c5 - -; x 0 - <- ROWS/ N cost/ E c1/ G c2/ L c3/ E c4/ N c5/COLUMNS/ x cost 1 c1 1/RHS/ R c1 5 c2 1/ R c5 7/RANGES/ G c1 -2 c2 -.5/ G c3 3 c4 2/ENDATA/
@@ -193,4 +231,14 @@ fn bytes_that_are_no_text(rt: HostRuntime) {
     };
     assert_eq!(rt; fault.line, 3);
     assert!(rt; fault.kind == FaultKind::BadLine);
+}
+
+// A byte order mark is no blank, so it begins a header.
+#[test]
+fn byte_order_mark(rt: HostRuntime) {
+    let Err(ReadError::Fault(fault)) = read_mps(rt.alloc(), b"\xef\xbb\xbfROWS\n") else {
+        panic!(rt; "a fault");
+    };
+    assert_eq!(rt; fault.line, 1);
+    assert!(rt; fault.kind == FaultKind::BadSection);
 }

@@ -1,0 +1,75 @@
+// The problem of a finished declaration.
+ghost use Rattle.std.specs.Prelude.{◌≡◌, ◌+◌, ◌<◌, ◌≤◌, ◌++◌, [], ◌∷◌, false, length, map, IfOk};
+ghost use Rattle.std.specs.List.{All};
+ghost use Rattle.milp.specs.Problem.{Row as RowOf};
+ghost use Rattle.instance.specs.WellFormed.{has_row, entry_count as entries_of_rows};
+ghost use Rattle.model_text.specs.Names.{AreNew};
+ghost use Rattle.cplex_lp_draft.specs.Consistent.{HasForm};
+ghost use Rattle.cplex_lp_draft.specs.Rows.{entry_count};
+ghost use Rattle.cplex_lp_draft.specs.Declaration.{entries_of, problem_of};
+
+use crate::draft::Draft;
+use crate::row::DeclaredRow;
+use instance::{Builder, Entries, Instance, MAX_ENTRIES, MAX_ROWS, Name};
+use model_text::{add_columns, add_row};
+use std::alloc::{AllocError, Global};
+
+/// The problem of a declaration.
+pub fn finish(alloc: Global, draft: &Draft) -> Result<Instance, AllocError>
+    ensures { IfOk result (λ problem. problem ≡ problem_of draft.now) }
+{
+    let mut builder = Builder::new(alloc)?;
+    add_columns(alloc, &mut builder, draft.columns())?;
+    add_rows(alloc, &mut builder, draft.rows())?;
+    set_objective(alloc, &mut builder, draft)?;
+    Ok(builder.done())
+}
+
+// ---- rows
+
+fn add_rows(alloc: Global, builder: &mut Builder, rows: &[DeclaredRow]) -> Result<(), AllocError>
+    requires empty { builder.old.rows ≡ [] }
+    requires new { AreNew (map (λ (r : RowOf). r.name) rows.now) }
+    requires few { length rows.now ≤ 100_000 }
+    requires forms { All (HasForm (length builder.old.columns)) rows.now }
+    requires entries { entry_count rows.now ≤ 2_000_000 }
+    ensures { IfOk result (λ _. builder.new ≡ record builder.old { rows = rows.now }) }
+{
+    for row in rows {
+        add_declared_row(alloc, builder, row)?;
+    }
+    Ok(())
+}
+
+fn add_declared_row(
+    alloc: Global,
+    builder: &mut Builder,
+    row: &DeclaredRow,
+) -> Result<(), AllocError>
+    requires new { has_row row.now.name builder.old.rows ≡ false }
+    requires form { HasForm (length builder.old.columns) row.now }
+    requires room { length builder.old.rows < MAX_ROWS }
+    requires entry_room { entries_of_rows builder.old.rows + length row.now.entries ≤ MAX_ENTRIES }
+    ensures { IfOk result (λ _. builder.new ≡ record builder.old { rows = builder.old.rows ++ row.now ∷ [] }) }
+{
+    add_row(
+        alloc,
+        builder,
+        row.name(),
+        row.lower(),
+        row.upper(),
+        row.entries(),
+    )
+}
+
+// ---- the objective
+
+fn set_objective(alloc: Global, builder: &mut Builder, draft: &Draft) -> Result<(), AllocError>
+    requires { length builder.old.columns ≡ length draft.now.columns }
+    ensures { IfOk result (λ _. builder.new ≡ record builder.old { direction = draft.now.direction; objective_name = draft.now.objective_name; objective = entries_of draft.now.objective; constant = draft.now.constant }) }
+{
+    let name = Name::new(alloc, draft.objective_name())?;
+    let entries = Entries::from_vec(draft.objective_entries(alloc)?);
+    builder.objective(draft.direction(), name, entries, draft.constant());
+    Ok(())
+}

@@ -1,0 +1,5 @@
+pub mod Keyed
+pub mod Entries
+pub mod Kept
+pub mod Bounded
+pub mod Building

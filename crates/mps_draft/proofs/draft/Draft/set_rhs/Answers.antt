@@ -1,0 +1,7 @@
+-- Entries and their count are as before.
+use Rattle.std.proofs.Common.{refl}
+use Rattle.mps_draft.proofs.Kept.{set-keeps}
+use Rattle.mps_draft.proofs.draft.Draft.set_rhs.Goals as goal
+
+pub invariant_of-self-else-is_objective : goal.invariant_of-self-else-is_objective
+invariant_of-self-else-is_objective c = rw c.set_rhs-else-is_objective.ensures (set-keeps c.self.invariant _ _ (λ x. refl) (λ x. refl))

@@ -1,0 +1,54 @@
+-- What a line of BOUNDS says of a column.
+use Rattle.std.specs.Prelude.{ℕ, Bool, true, false, List, codes, Some, None, if◌then◌else◌}
+use Rattle.std.specs.declared.option.Option.{Option}
+use Rattle.std.specs.Str.{bytes_eq}
+use Rattle.rational.specs.Rational.{Rational, zero_ℚ, one_ℚ}
+use Rattle.milp.specs.Problem.{Column}
+use Rattle.mps_draft.specs.declared.bound.BoundKind.{BoundKind}
+use Rattle.mps_draft.specs.declared.bound.BoundKind.TheVariants.{Lower, Upper, Fixed, IntegerLower, IntegerUpper, Unbounded, NoLower, NoUpper, Binary}
+
+abbrev pub bound_kind_of : List ℕ → Option BoundKind
+bound_kind_of word =
+    if bytes_eq word (codes "LO") then Some Lower
+    else if bytes_eq word (codes "UP") then Some Upper
+    else if bytes_eq word (codes "FX") then Some Fixed
+    else if bytes_eq word (codes "LI") then Some IntegerLower
+    else if bytes_eq word (codes "UI") then Some IntegerUpper
+    else if bytes_eq word (codes "FR") then Some Unbounded
+    else if bytes_eq word (codes "MI") then Some NoLower
+    else if bytes_eq word (codes "PL") then Some NoUpper
+    else if bytes_eq word (codes "BV") then Some Binary
+    else None
+
+abbrev pub has_value : BoundKind → Bool
+has_value Lower = true
+has_value Upper = true
+has_value Fixed = true
+has_value IntegerLower = true
+has_value IntegerUpper = true
+has_value Unbounded = false
+has_value NoLower = false
+has_value NoUpper = false
+has_value Binary = false
+
+abbrev pub makes_integer : BoundKind → Bool
+makes_integer Lower = false
+makes_integer Upper = false
+makes_integer Fixed = false
+makes_integer IntegerLower = true
+makes_integer IntegerUpper = true
+makes_integer Unbounded = false
+makes_integer NoLower = false
+makes_integer NoUpper = false
+makes_integer Binary = true
+
+abbrev pub bounded : BoundKind → Rational → Column → Column
+bounded Lower v c = record c { lower = Some v }
+bounded Upper v c = record c { upper = Some v }
+bounded Fixed v c = record c { lower = Some v; upper = Some v }
+bounded IntegerLower v c = record c { lower = Some v; integer = true }
+bounded IntegerUpper v c = record c { upper = Some v; integer = true }
+bounded Unbounded v c = record c { lower = None; upper = None }
+bounded NoLower v c = record c { lower = None }
+bounded NoUpper v c = record c { upper = None }
+bounded Binary v c = record c { lower = Some zero_ℚ; upper = Some one_ℚ; integer = true }

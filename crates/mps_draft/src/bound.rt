@@ -1,0 +1,126 @@
+// Bounds of columns.
+ghost use Rattle.std.specs.Prelude.{◌≡◌};
+ghost use Rattle.std.specs.Option.{option_map};
+ghost use Rattle.model_text.specs.Columns.{is_column_named};
+ghost use Rattle.mps_draft.specs.Declaration.{with_first_changed};
+ghost use Rattle.mps_draft.specs.Bounds.{bound_kind_of, bounded, has_value, makes_integer};
+
+use fraction::Frac;
+use model_text::{ColumnTable, DeclaredColumn};
+
+/// LO, UP, FX, LI, UI, FR, MI, PL and BV.
+#[derive(Clone, Copy)]
+pub enum BoundKind {
+    Lower,
+    Upper,
+    Fixed,
+    IntegerLower,
+    IntegerUpper,
+    Unbounded,
+    NoLower,
+    NoUpper,
+    Binary,
+}
+
+impl BoundKind {
+    /// By the word of a line in BOUNDS.
+    pub fn of_word(word: &str) -> Option<BoundKind>
+        ensures { result ≡ bound_kind_of word.now }
+    {
+        if word == "LO" {
+            Some(BoundKind::Lower)
+        } else if word == "UP" {
+            Some(BoundKind::Upper)
+        } else if word == "FX" {
+            Some(BoundKind::Fixed)
+        } else if word == "LI" {
+            Some(BoundKind::IntegerLower)
+        } else if word == "UI" {
+            Some(BoundKind::IntegerUpper)
+        } else if word == "FR" {
+            Some(BoundKind::Unbounded)
+        } else if word == "MI" {
+            Some(BoundKind::NoLower)
+        } else if word == "PL" {
+            Some(BoundKind::NoUpper)
+        } else if word == "BV" {
+            Some(BoundKind::Binary)
+        } else {
+            None
+        }
+    }
+
+    /// A number belongs to it.
+    pub fn has_value(self) -> bool
+        ensures { result ≡ has_value self }
+    {
+        match self {
+            BoundKind::Lower
+            | BoundKind::Upper
+            | BoundKind::Fixed
+            | BoundKind::IntegerLower
+            | BoundKind::IntegerUpper => true,
+            BoundKind::Unbounded | BoundKind::NoLower | BoundKind::NoUpper | BoundKind::Binary =>
+                false,
+        }
+    }
+
+    /// It makes its column an integer one.
+    pub fn makes_integer(self) -> bool
+        ensures { result ≡ makes_integer self }
+    {
+        match self {
+            BoundKind::IntegerLower | BoundKind::IntegerUpper | BoundKind::Binary => true,
+            BoundKind::Lower
+            | BoundKind::Upper
+            | BoundKind::Fixed
+            | BoundKind::Unbounded
+            | BoundKind::NoLower
+            | BoundKind::NoUpper => false,
+        }
+    }
+
+    // Sets this bound of a column.
+    pub(crate) fn set(self, column: &mut DeclaredColumn, value: Frac)
+        ensures { column.new ≡ bounded self value column.old }
+    {
+        match self {
+            BoundKind::Lower => column.set_lower(Some(value)),
+            BoundKind::Upper => column.set_upper(Some(value)),
+            BoundKind::Fixed => {
+                column.set_lower(Some(value));
+                column.set_upper(Some(value));
+            }
+            BoundKind::IntegerLower => {
+                column.set_lower(Some(value));
+                column.make_integer();
+            }
+            BoundKind::IntegerUpper => {
+                column.set_upper(Some(value));
+                column.make_integer();
+            }
+            BoundKind::Unbounded => {
+                column.set_lower(None);
+                column.set_upper(None);
+            }
+            BoundKind::NoLower => column.set_lower(None),
+            BoundKind::NoUpper => column.set_upper(None),
+            BoundKind::Binary => {
+                column.set_lower(Some(Frac::zero()));
+                column.set_upper(Some(Frac::one()));
+                column.make_integer();
+            }
+        }
+    }
+}
+
+// The column of a name has a bound of this kind.
+pub(crate) fn set_bound(columns: &mut ColumnTable, name: &str, kind: BoundKind, value: Frac)
+    ensures { columns.new ≡ with_first_changed (is_column_named name.now) (bounded kind value) columns.old }
+{
+    if let Some(place) = columns.place(name) {
+        let mut column = columns.at(place);
+        kind.set(&mut column, value);
+        columns.set(place, column);
+    }
+}

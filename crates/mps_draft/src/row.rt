@@ -1,0 +1,206 @@
+// Rows of a declaration.
+ghost use Rattle.std.specs.Prelude.{◌≡◌, ◌<◌, ◌≤◌, ◌^◌, IsTrue, OnOk, OnErr};
+ghost use Rattle.instance.specs.WellFormed.{are_entries};
+ghost use Rattle.mps_draft.specs.Declaration.{new_row, is_free};
+ghost use Rattle.mps_draft.specs.Rows.{given, row_kind_of};
+ghost use Rattle.mps_draft.specs.Finished.{row_lower, row_upper};
+ghost use Rattle.mps_draft.specs.Rows.{rhs_added, range_added, rhs_of};
+
+use fraction::Frac;
+use instance::{Entries, Entry};
+use std::alloc::{AllocError, Global};
+use std::marker::Model;
+
+/// The objective, and the kinds N, L, G and E of rows.
+#[derive(Clone, Copy)]
+pub enum RowKind {
+    Objective,
+    Free,
+    AtMost,
+    AtLeast,
+    Exactly,
+}
+
+impl RowKind {
+    /// By the word of a line in ROWS.
+    pub fn of_word(word: &str) -> Option<RowKind>
+        ensures { result ≡ row_kind_of word.now }
+    {
+        if word == "N" {
+            Some(RowKind::Free)
+        } else if word == "L" {
+            Some(RowKind::AtMost)
+        } else if word == "G" {
+            Some(RowKind::AtLeast)
+        } else if word == "E" {
+            Some(RowKind::Exactly)
+        } else {
+            None
+        }
+    }
+
+    /// No bound stands on the row's value.
+    pub fn is_free(self) -> bool
+        ensures { result ≡ is_free self }
+    {
+        match self {
+            RowKind::Objective | RowKind::Free => true,
+            RowKind::AtMost | RowKind::AtLeast | RowKind::Exactly => false,
+        }
+    }
+}
+
+/// The bounds that RANGES gives a row.
+#[derive(Clone, Copy)]
+pub struct RowRange {
+    pub lower: Frac,
+    pub upper: Frac,
+}
+
+/// The objective or a row, as far as it is declared.
+#[derive(Drop)]
+pub struct DeclaredRow<'a> {
+    name: &'a str,
+    kind: RowKind,
+    // what the columns have in it, but for zeros
+    entries: Vec<Entry>,
+    // the last column that gives it a number, counted from 1; 0 where none does
+    latest: usize,
+    rhs: Option<Frac>,
+    range: Option<RowRange>,
+}
+
+impl<'a> Model for DeclaredRow<'a> {
+    ghost use Rattle.std.specs.Prelude.{IsTrue};
+    ghost use Rattle.instance.specs.WellFormed.{are_entries};
+    ghost use Rattle.mps_draft.specs.Declaration.{DeclaredRow as RowOf};
+
+    ghost Value = { RowOf };
+
+    ghost view = { λ r. record { name = r.name.now; kind = r.kind; entries = r.entries.items; latest = r.latest; rhs = r.rhs; range = r.range } };
+
+    ghost invariant = { λ r. IsTrue (are_entries r.latest r.entries.items) };
+}
+
+impl<'a> DeclaredRow<'a> {
+    // A row without entries.
+    pub(crate) fn new(alloc: Global, name: &'a str, kind: RowKind) -> Self
+        ensures { result ≡ new_row name.now kind }
+    {
+        DeclaredRow {
+            name,
+            kind,
+            entries: Vec::new(alloc),
+            latest: 0,
+            rhs: None,
+            range: None,
+        }
+    }
+
+    pub(crate) fn name(&self) -> &'a str
+        ensures { result.now ≡ self.now.name }
+    {
+        self.name
+    }
+
+    /// Its kind.
+    pub fn kind(&self) -> RowKind
+        ensures { result ≡ self.now.kind }
+    {
+        self.kind
+    }
+
+    /// The last column that gives it a number, counted from 1; 0 where none does.
+    pub fn latest(&self) -> usize
+        ensures { result ≡ self.now.latest }
+    {
+        self.latest
+    }
+
+    /// Its right-hand side.
+    pub fn rhs(&self) -> Option<Frac>
+        ensures { result ≡ self.now.rhs }
+    {
+        self.rhs
+    }
+
+    /// Its right-hand side, 0 where none is given.
+    pub fn rhs_or_zero(&self) -> Frac
+        ensures { result ≡ rhs_of self.now }
+    {
+        self.rhs.unwrap_or(Frac::zero())
+    }
+
+    /// The bounds that a range gives it.
+    pub fn range(&self) -> Option<RowRange>
+        ensures { result ≡ self.now.range }
+    {
+        self.range
+    }
+
+    // What the columns have in it: a form in order of column.
+    pub(crate) fn entries(&self) -> &[Entry]
+        ensures value { result.now ≡ self.now.entries }
+        ensures form { IsTrue (are_entries self.now.latest self.now.entries) }
+    {
+        &self.entries
+    }
+
+    // What its value is at least.
+    pub(crate) fn lower(&self) -> Option<Frac>
+        ensures { result ≡ row_lower self.now.kind (rhs_of self.now) self.now.range }
+    {
+        match self.range {
+            Some(range) => Some(range.lower),
+            None => match self.kind {
+                RowKind::AtLeast | RowKind::Exactly => Some(self.rhs_or_zero()),
+                RowKind::Objective | RowKind::Free | RowKind::AtMost => None,
+            },
+        }
+    }
+
+    // What its value is at most.
+    pub(crate) fn upper(&self) -> Option<Frac>
+        ensures { result ≡ row_upper self.now.kind (rhs_of self.now) self.now.range }
+    {
+        match self.range {
+            Some(range) => Some(range.upper),
+            None => match self.kind {
+                RowKind::AtMost | RowKind::Exactly => Some(self.rhs_or_zero()),
+                RowKind::Objective | RowKind::Free | RowKind::AtLeast => None,
+            },
+        }
+    }
+
+    // The last of so many columns gives it a number.
+    pub(crate) fn give(&mut self, columns: usize, value: Frac) -> Result<(), AllocError>
+        requires later { self.old.latest < columns }
+        requires few { columns ≤ 100_000 }
+        ensures given { OnOk result (self.new ≡ given columns value self.old) }
+        ensures kept { OnErr result (self.new ≡ self.old) }
+    {
+        if !value.is_zero() {
+            self.entries.push(Entry {
+                column: columns as u32 - 1,
+                coefficient: value,
+            })?;
+        }
+        self.latest = columns;
+        Ok(())
+    }
+
+    pub(crate) fn set_rhs(&mut self, value: Frac)
+        ensures { self.new ≡ rhs_added value self.old }
+    {
+        self.rhs = match self.kind {
+            RowKind::Free => None,
+            _ => Some(value),
+        };
+    }
+
+    pub(crate) fn set_range(&mut self, range: RowRange)
+        ensures { self.new ≡ range_added range self.old }
+    {
+        self.range = Some(range);
+    }
+}

@@ -1,0 +1,111 @@
+// The rows of a declaration.
+ghost use Rattle.std.specs.Prelude.{◌≡◌, ◌<◌, ◌≤◌, ◌++◌, [], ◌∷◌, None, length, map, OnOk, OnErr, IfSome};
+ghost use Rattle.std.specs.Option.{option_map};
+ghost use Rattle.std.specs.List.{find};
+ghost use Rattle.mps_draft.specs.Declaration.{is_row_named, with_first_changed};
+ghost use Rattle.mps_draft.specs.Declaration.{DeclaredRow as RowOf};
+ghost use Rattle.model_text.specs.Names.{AreNew};
+ghost use Rattle.mps_draft.specs.Rows.{given};
+ghost use Rattle.mps_draft.specs.Rows.{rhs_added, range_added};
+
+use crate::row::{DeclaredRow, RowRange};
+use fraction::Frac;
+use model_text::Names;
+use std::alloc::{AllocError, Global};
+use std::marker::Model;
+
+// RowTable of different names, found by name.
+#[derive(Drop)]
+pub(crate) struct RowTable<'a> {
+    names: Names<'a>,
+    rows: Vec<DeclaredRow<'a>>,
+}
+
+impl<'a> Model for RowTable<'a> {
+    ghost use Rattle.std.specs.Prelude.{◌≡◌, List, map};
+    ghost use Rattle.mps_draft.specs.Declaration.{DeclaredRow as RowOf};
+    ghost use Rattle.model_text.specs.Names.{AreNew};
+
+    ghost Value = { List RowOf };
+
+    ghost view = { λ r. r.rows.items };
+
+    ghost invariant = { λ r. (r.names ≡ map (λ (row : RowOf). row.name) r.rows.items) × AreNew r.names };
+}
+
+impl<'a> RowTable<'a> {
+    pub(crate) fn new(alloc: Global) -> Self
+        ensures { result ≡ [] }
+    {
+        RowTable {
+            names: Names::new(alloc),
+            rows: Vec::new(alloc),
+        }
+    }
+
+    pub(crate) fn len(&self) -> usize
+        ensures { result ≡ length self.now }
+    {
+        self.rows.len()
+    }
+
+    // The rows, for reading. Their names differ.
+    pub(crate) fn as_slice(&self) -> &[DeclaredRow<'a>]
+        ensures value { result.now ≡ self.now }
+        ensures new { AreNew (map (λ (r : RowOf). r.name) self.now) }
+    {
+        &self.rows
+    }
+
+    // The row of a name.
+    pub(crate) fn get(&self, name: &str) -> Option<&DeclaredRow<'a>>
+        ensures { option_map (λ r. r.now) result ≡ find (is_row_named name.now) self.now }
+    {
+        let place = self.names.place(name)?;
+        Some(&self.rows[place])
+    }
+
+    // One more row.
+    pub(crate) fn push(&mut self, row: DeclaredRow<'a>) -> Result<(), AllocError>
+        requires new { find (is_row_named row.name) self.old ≡ None }
+        ensures added { OnOk result (self.new ≡ self.old ++ row.entry ∷ []) }
+        ensures kept { OnErr result (self.new ≡ self.old) }
+    {
+        self.rows.reserve(1)?;
+        self.names.push(row.name())?;
+        self.rows.push(row).unwrap();
+        Ok(())
+    }
+
+    // The last of so many columns gives the row a number.
+    pub(crate) fn give(&mut self, name: &str, columns: usize, value: Frac) -> Result<(), AllocError>
+        requires later { IfSome (find (is_row_named name.now) self.old) (λ r. r.latest < columns) }
+        requires few { columns ≤ 100_000 }
+        ensures given { OnOk result (self.new ≡ with_first_changed (is_row_named name.now) (given columns value) self.old) }
+        ensures kept { OnErr result (self.new ≡ self.old) }
+    {
+        if let Some(place) = self.names.place(name) {
+            let row = &mut self.rows[place];
+            row.give(columns, value)?;
+        }
+        Ok(())
+    }
+
+    pub(crate) fn set_rhs(&mut self, name: &str, value: Frac)
+        ensures { self.new ≡ with_first_changed (is_row_named name.now) (rhs_added value) self.old }
+    {
+        if let Some(place) = self.names.place(name) {
+            let row = &mut self.rows[place];
+            row.set_rhs(value);
+        }
+    }
+
+    pub(crate) fn set_range(&mut self, name: &str, range: RowRange)
+        ensures { self.new ≡ with_first_changed (is_row_named name.now) (range_added range) self.old }
+    {
+        if let Some(place) = self.names.place(name) {
+            let row = &mut self.rows[place];
+            row.set_range(range);
+        }
+    }
+}

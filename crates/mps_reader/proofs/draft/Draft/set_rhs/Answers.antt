@@ -1,7 +1,0 @@
--- Entries and their count are as before.
-use Rattle.std.proofs.Common.{refl}
-use Rattle.mps_reader.proofs.Kept.{set-keeps}
-use Rattle.mps_reader.proofs.draft.Draft.set_rhs.Goals as goal
-
-pub invariant_of-self-else-is_objective : goal.invariant_of-self-else-is_objective
-invariant_of-self-else-is_objective c = rw c.set_rhs-else-is_objective.ensures (set-keeps c.self.invariant _ _ (λ x. refl) (λ x. refl))
