@@ -8,3 +8,4 @@ pub mod ColumnNames
 pub mod RowNames
 pub mod MemberCells
 pub mod RowTerms
+pub mod RowMembers

@@ -4,8 +4,9 @@ use Rattle.std.specs.List.{AllByRecursion}
 use Rattle.instance.specs.WellFormed.{are_distinct_rows}
 use Rattle.gmpl_rows.specs.declared.declared.Declared.{Declared}
 use Rattle.gmpl_rows.specs.declared.draft.RowHead.{RowHead}
+use Rattle.gmpl_rows.specs.Draft.{row_member}
 use Rattle.gmpl_rows.specs.Problem.{LaidColumn, name_of, rows_from}
-use Rattle.gmpl_rows.specs.Premises.{AreDifferent, AreMembers, AreObjects, IsName, declared_name, row_member}
+use Rattle.gmpl_rows.specs.Premises.{AreDifferent, AreDeclared, AreObjects, IsName, declared_name}
 use Rattle.gmpl_rows.specs.Named.{AreRowsNarrow}
 use Rattle.gmpl_rows.proofs.Naming.{Member, full_name, IsGood, Apart, row_name, distinct_rows, names_differ}
 
@@ -53,13 +54,13 @@ other_rows vs h (g ∷ hs) n d ds a = (here, other_rows vs h hs n d ds.1 a.1)
     here e =
         let statement = same_statement vs h.statement g.statement d ds.0 n (ap (λ (m : Member). m.0) e) in
         let subscripts : h.subscripts ≡ g.subscripts = ap (λ (m : Member). m.1) e in
-        a.0 (λ j. (statement j, subscripts j))
+        a.0 (λ j. record { statement = statement j; subscripts = subscripts j })
 
 differ_rows : (vs : List Declared) (hs : List RowHead) → AreDifferent (map declared_name vs) → AllByRecursion (IsDeclared vs) hs → AreDifferent (map row_member hs) → AreDifferent (map (member_of vs) hs)
 differ_rows vs [] n d a = tt
 differ_rows vs (h ∷ hs) n d a = (other_rows vs h hs n d.0 d.1 a.0, differ_rows vs hs n d.1 a.1)
 
-pub new_rows : (vs : List Declared) (ls : List LaidColumn) (hs : List RowHead) → AreObjects vs → AreMembers vs hs → AreRowsNarrow hs → are_distinct_rows [] (rows_from vs ls 0 hs) ≡ true
-new_rows vs ls hs objects members narrow =
-    let differ = names_differ (map (member_of vs) hs) (good_rows vs hs objects.names members.declared narrow) (differ_rows vs hs objects.differ members.declared members.differ) in
-    distinct_rows (rows_from vs ls 0 hs) (subst (λ (ns : List (List ℕ)). AreDifferent ns) (sym (names_rows vs ls 0 hs)) differ)
+pub new_rows : (vs : List Declared) (ls : List LaidColumn) (hs : List RowHead) → AreObjects vs → AreDeclared vs hs → AreDifferent (map row_member hs) → AreRowsNarrow hs → are_distinct_rows [] (rows_from vs ls 0 hs) ≡ true
+new_rows vs ls hs objects declared differ narrow =
+    let names = names_differ (map (member_of vs) hs) (good_rows vs hs objects.names declared narrow) (differ_rows vs hs objects.differ declared differ) in
+    distinct_rows (rows_from vs ls 0 hs) (subst (λ (ns : List (List ℕ)). AreDifferent ns) (sym (names_rows vs ls 0 hs)) names)

@@ -10,7 +10,7 @@ use Rattle.milp.specs.declared.Direction.{Direction}
 use Rattle.gmpl_value.specs.SymbolEquality.{tuple_eq}
 use Rattle.gmpl_value.specs.declared.symbol.Symbol.{Symbol}
 use Rattle.gmpl_rows.specs.Demanded.{Demanded, all_none, changed_at, none_demanded, note_all, noted, noted_in, cell_of, within_limits}
-use Rattle.gmpl_rows.specs.Draft.{Draft, no_rows, with_row, with_objective}
+use Rattle.gmpl_rows.specs.Draft.{Draft, is_row, no_rows, row_member, with_new_row, with_objective, with_row}
 use Rattle.gmpl_rows.specs.Follows.{then_do}
 use Rattle.gmpl_rows.specs.Problem.{cell_in}
 use Rattle.gmpl_rows.specs.Terms.{IsAligned, IsDraft, cells_among, coefficient_at, coefficient_in, is_of}
@@ -168,7 +168,7 @@ record IsMade (head : RowHead) (terms : List Term) (d e : Draft) : Type 0 where
   rows : e.rows ≡ d.rows ++ head ∷ []
   noted : note_all (length d.rows) terms d.variables ≡ Ok e.variables
 
-made_of : (head : RowHead) (terms : List Term) (d e : Draft) → with_row head terms d ≡ Ok e → IsMade head terms d e
+made_of : (head : RowHead) (terms : List Term) (d e : Draft) → with_new_row head terms d ≡ Ok e → IsMade head terms d e
 made_of head terms d e is = few (nat_lt (length d.rows) 100000) is
   where
     put : List Demanded → Result Draft DraftFault
@@ -192,8 +192,8 @@ past_end [] s h = refl
 past_end (d ∷ ds) zero h = absurd (omega (arith, h))
 past_end (d ∷ ds) (suc s) h = past_end ds s (omega (arith, h))
 
-pub row_kept : (head : RowHead) (terms : List Term) (d e : Draft) → with_row head terms d ≡ Ok e → IsDraft d → IsDraft e
-row_kept head terms d e is h =
+new_kept : (head : RowHead) (terms : List Term) (d e : Draft) → with_new_row head terms d ≡ Ok e → IsDraft d → IsDraft e
+new_kept head terms d e is h =
     let made = made_of head terms d e is in
     let noted = all_noted (length d.rows) terms d.variables e.variables h.aligned made.noted in
     record { aligned = noted.aligned; earlier = λ i s m late. by i s m late (nat_lt s (length d.variables)) refl made noted }
@@ -208,16 +208,29 @@ row_kept head terms d e is h =
         let past : length e.variables ≤ s = grind (arith, nat_tests, noted.size) in
         ap (λ (x : Demanded). cell_in i (cells_among m x.members x.columns)) (past_end e.variables s past)
 
+pub row_kept : (head : RowHead) (terms : List Term) (d e : Draft) → with_row head terms d ≡ Ok e → IsDraft d → IsDraft e
+row_kept head terms d e is h = by (is_row (row_member head) d.rows) is
+  where
+    by : (t : Bool) → cond t (Ok d) (with_new_row head terms d) ≡ Ok e → IsDraft e
+    by true k = let same : d ≡ e = cc in subst IsDraft same h
+    by false k = new_kept head terms d e k h
+
+pub row_again : (head : RowHead) (terms : List Term) (d : Draft) → is_row (row_member head) d.rows ≡ true → with_row head terms d ≡ Ok d
+row_again head terms d h = rw h refl
+
+as_new : (head : RowHead) (terms : List Term) (d : Draft) → is_row (row_member head) d.rows ≡ false → with_row head terms d ≡ with_new_row head terms d
+as_new head terms d h = rw h refl
+
 same_row : (n i : ℕ) → (n == i) ≡ true → n ≡ i
 same_row n i h = grind (arith, nat_tests)
 
 swapped : (n i : ℕ) → (n == i) ≡ (i == n)
 swapped n i = grind (arith, nat_tests)
 
-pub row_terms : (head : RowHead) (terms : List Term) (d e : Draft) (i s : ℕ) (m : List Symbol) → with_row head terms d ≡ Ok e → IsDraft d → s < length d.variables
+pub row_terms : (head : RowHead) (terms : List Term) (d e : Draft) (i s : ℕ) (m : List Symbol) → is_row (row_member head) d.rows ≡ false → with_row head terms d ≡ Ok e → IsDraft d → s < length d.variables
     → coefficient_at i s m e.variables ≡ cond (i == length d.rows) (coefficient_in s m terms) (coefficient_at i s m d.variables)
-row_terms head terms d e i s m is h lt =
-    let made = made_of head terms d e is in
+row_terms head terms d e i s m new is h lt =
+    let made = made_of head terms d e (sym (as_new head terms d new) ∙ is) in
     let noted = all_noted (length d.rows) terms d.variables e.variables h.aligned made.noted in
     noted.coefficients i s m lt ∙ ap (λ t. or_else (coefficient_at i s m d.variables) (cond t (coefficient_in s m terms) None)) (swapped (length d.rows) i) ∙ by (i == length d.rows) refl
   where

@@ -1,11 +1,14 @@
 -- What the statements of a model have made so far.
-use Rattle.std.specs.Prelude.{◌-◌, List, [], ◌∷◌, ◌++◌, length, cond, nat_lt, Result, Ok, Err, Option, Some, None}
+use Rattle.std.specs.Prelude.{◌-◌, Bool, List, map, [], ◌∷◌, ◌++◌, length, cond, nat_lt, Result, Ok, Err, Option, Some, None}
+use Rattle.std.specs.List.{list_any}
 use Rattle.rational.specs.Rational.{Rational}
 use Rattle.milp.specs.declared.Direction.{Direction}
 use Rattle.gmpl_rows.specs.Demanded.{Demanded, note_all}
 use Rattle.gmpl_rows.specs.Follows.{then_do}
 use Rattle.gmpl_rows.specs.declared.draft.ObjectiveRow.{ObjectiveRow}
 use Rattle.gmpl_rows.specs.declared.draft.RowHead.{RowHead}
+use Rattle.gmpl_rows.specs.declared.row_member.RowMember.{RowMember}
+use Rattle.gmpl_rows.specs.contracts.row_member.RowMemberPartialEq.TheImpl as impl
 use Rattle.gmpl_rows.specs.declared.term.Term.{Term}
 use Rattle.gmpl_rows.specs.declared.fault.DraftFault.{DraftFault}
 use Rattle.gmpl_rows.specs.declared.fault.DraftFault.TheVariants.{TooMany}
@@ -20,12 +23,27 @@ pub record Draft : Type 0 where
 abbrev pub no_rows : List Demanded → Draft
 no_rows variables = record { rows = []; variables = variables; objective = None }
 
--- one more row; TooMany at the row, entry or column that would pass a limit
-abbrev pub with_row : RowHead → List Term → Draft → Result Draft DraftFault
-with_row head terms d =
+abbrev pub row_member : RowHead → RowMember
+row_member h = record { statement = h.statement; subscripts = h.subscripts }
+
+-- the same statement, and equal subscripts
+abbrev pub member_eq : RowMember → RowMember → Bool
+member_eq = (impl.ghosts).eq
+
+-- a row comes from this member
+abbrev pub is_row : RowMember → List RowHead → Bool
+is_row m hs = list_any (member_eq m) (map row_member hs)
+
+-- TooMany at the row, entry or column that would pass a limit
+abbrev pub with_new_row : RowHead → List Term → Draft → Result Draft DraftFault
+with_new_row head terms d =
     cond (nat_lt (length d.rows) 100000)
     (then_do (λ vs. Ok (record d { rows = d.rows ++ head ∷ []; variables = vs })) (note_all (length d.rows) terms d.variables))
     (Err TooMany)
+
+-- one more row, unless the member is a row already
+abbrev pub with_row : RowHead → List Term → Draft → Result Draft DraftFault
+with_row head terms d = cond (is_row (row_member head) d.rows) (Ok d) (with_new_row head terms d)
 
 abbrev pub first_of : Option ObjectiveRow → ObjectiveRow → ObjectiveRow
 first_of (Some a) b = a

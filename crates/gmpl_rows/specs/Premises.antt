@@ -1,7 +1,6 @@
 -- What makes the names of columns and of rows differ.
 use Rattle.std.specs.Prelude.{ℕ, ◌≡◌, ◌<◌, true, List, [], ◌∷◌, length, map}
 use Rattle.std.specs.List.{AllByRecursion, list_all}
-use Rattle.gmpl_value.specs.declared.symbol.Symbol.{Symbol}
 use Rattle.gmpl_member_names.specs.Names.{is_name_byte}
 use Rattle.gmpl_rows.specs.declared.declared.Declared.{Declared}
 use Rattle.gmpl_rows.specs.declared.draft.RowHead.{RowHead}
@@ -23,11 +22,6 @@ pub record AreObjects (vs : List Declared) : Type 0 where
   pub names : AllByRecursion IsName (map declared_name vs)
   pub differ : AreDifferent (map declared_name vs)
 
--- a row's statement and subscripts
-abbrev pub row_member : RowHead → ℕ × List Symbol
-row_member h = (h.statement, h.subscripts)
-
--- the rows are members of the objects, each at most once
-pub record AreMembers (vs : List Declared) (hs : List RowHead) : Type 0 where
-  pub declared : AllByRecursion (λ (h : RowHead). h.statement < length vs) hs
-  pub differ : AreDifferent (map row_member hs)
+-- the rows come from statements that are there
+abbrev pub AreDeclared : List Declared → List RowHead → Type 0
+AreDeclared vs hs = AllByRecursion (λ (h : RowHead). h.statement < length vs) hs

@@ -1,15 +1,18 @@
 // The rows so far.
-ghost use Rattle.std.specs.Prelude.{◌≡◌, ◌≤◌, length, IfOk};
-ghost use Rattle.gmpl_rows.specs.Draft.{no_rows, with_row, with_objective};
+ghost use Rattle.std.specs.Prelude.{◌≡◌, ◌≤◌, length, map, IfOk};
+ghost use Rattle.gmpl_rows.specs.Draft.{no_rows, with_row, with_objective, row_member};
+ghost use Rattle.gmpl_rows.specs.Premises.{AreDifferent};
 ghost use Rattle.gmpl_rows.specs.Demanded.{all_none, cell_count, used_count};
 ghost use Rattle.gmpl_rows.specs.Follows.{Follows};
 
 use crate::demanded::Demanded;
 use crate::fault::DraftFault;
+use crate::row_member::RowMember;
 use crate::term::Term;
 use crate::variables::Variables;
 use fraction::Frac;
 use gmpl_value::Tuple;
+use indexmap::IndexSet;
 use instance::{MAX_COLUMNS, MAX_ENTRIES, MAX_ROWS};
 use milp::Direction;
 use std::alloc::{AllocError, Global};
@@ -24,6 +27,18 @@ pub struct RowHead {
     pub upper: Option<Frac>,
 }
 
+impl RowHead {
+    // The member that the row comes from.
+    fn member(&self, alloc: Global) -> Result<RowMember, AllocError>
+        ensures { IfOk result (λ member. member ≡ row_member self.now) }
+    {
+        Ok(RowMember {
+            statement: self.statement,
+            subscripts: self.subscripts.copied(alloc)?,
+        })
+    }
+}
+
 /// The objective: the place of the row that has its form, and what else it has.
 #[derive(Clone, Copy)]
 pub struct ObjectiveRow {
@@ -36,19 +51,22 @@ pub struct ObjectiveRow {
 #[derive(Drop)]
 pub struct Draft {
     rows: Vec<RowHead>,
+    members: IndexSet<RowMember>,
     variables: Variables,
     objective: Option<ObjectiveRow>,
 }
 
 impl Model for Draft {
-    ghost use Rattle.std.specs.Prelude.{◌≤◌, length};
-    ghost use Rattle.gmpl_rows.specs.Draft.{Draft as DraftOf};
+    ghost use Rattle.std.specs.Prelude.{◌≡◌, ◌≤◌, length, map};
+    ghost use Rattle.indexmap.specs.IndexSet.{keys};
+    ghost use Rattle.gmpl_rows.specs.Draft.{Draft as DraftOf, row_member};
+    ghost use Rattle.gmpl_rows.specs.Premises.{AreDifferent};
 
     ghost Value = { DraftOf };
 
     ghost view = { λ d. record { rows = d.rows.items; variables = d.variables; objective = d.objective } };
 
-    ghost invariant = { λ d. length d.rows.items ≤ 100000 };
+    ghost invariant = { λ d. record { few : length d.rows.items ≤ 100000; members : keys d.members ≡ map row_member d.rows.items; differ : AreDifferent (map row_member d.rows.items) } };
 }
 
 impl Draft {
@@ -58,29 +76,43 @@ impl Draft {
     {
         Ok(Draft {
             rows: Vec::new(alloc),
+            members: IndexSet::new(alloc),
             variables: Variables::new(alloc, statements)?,
             objective: None,
         })
     }
 
-    /// One more row. Its members are demanded in the order of its terms.
+    /// One more row, unless its member is a row already. The members of variables are demanded in the order of its terms.
     /// Errors: `TooMany` exactly where a row, a column or an entry would pass a limit of an instance; `NoMemory`.
     pub fn row(self, alloc: Global, head: RowHead, terms: Vec<Term>) -> Result<Self, DraftFault>
         ensures { Follows result (with_row head terms.items self) }
     {
         let Draft {
             mut rows,
+            mut members,
             variables,
             objective,
         } = self;
+        let member = head.member(alloc)?;
+        if members.contains(&member) {
+            return Ok(Draft {
+                rows,
+                members,
+                variables,
+                objective,
+            });
+        }
         let place = rows.len();
         if place >= MAX_ROWS {
             return Err(DraftFault::TooMany);
         }
         let variables = variables.note_all(alloc, place as u32, terms)?;
-        rows.push(head)?;
+        rows.reserve(1)?;
+        members.insert(member)?;
+        rows.push_reserved(head);
         Ok(Draft {
             rows,
+            members,
             variables,
             objective,
         })
@@ -92,6 +124,7 @@ impl Draft {
     {
         let Draft {
             rows,
+            members,
             variables,
             objective,
         } = self;
@@ -105,6 +138,7 @@ impl Draft {
         };
         Draft {
             rows,
+            members,
             variables,
             objective: Some(objective),
         }
@@ -113,6 +147,7 @@ impl Draft {
     pub(crate) fn rows(&self) -> &[RowHead]
         ensures value { result.now ≡ self.now.rows }
         ensures few { length self.now.rows ≤ MAX_ROWS }
+        ensures members { AreDifferent (map row_member self.now.rows) }
     {
         &self.rows
     }

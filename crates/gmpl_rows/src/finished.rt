@@ -6,7 +6,7 @@ ghost use Rattle.instance.specs.WellFormed.{are_distinct_columns, are_distinct_r
 ghost use Rattle.gmpl_rows.specs.Problem.{problem_of, columns_of, column_of, row_with, rows_from, laid_out, aimed_at, plain};
 ghost use Rattle.gmpl_rows.specs.Laying.{rows_with, laid_cells};
 ghost use Rattle.gmpl_rows.specs.Named.{AreRowsNarrow};
-ghost use Rattle.gmpl_rows.specs.Premises.{AreMembers, AreObjects};
+ghost use Rattle.gmpl_rows.specs.Premises.{AreDeclared, AreObjects};
 ghost use Rattle.gmpl_member_names.specs.Narrow.{AreNarrow};
 
 use crate::declared::Declared;
@@ -23,7 +23,7 @@ use std::alloc::{AllocError, Global};
 /// have a coefficient other than 0 in some row. `declared` says for each statement what it declares.
 pub fn finish(alloc: Global, declared: &[Declared], draft: &Draft) -> Result<Instance, AllocError>
     requires objects { AreObjects declared.now }
-    requires members { AreMembers declared.now draft.now.rows }
+    requires declared { AreDeclared declared.now draft.now.rows }
     ensures { IfOk result (λ made. made ≡ problem_of declared.now draft.now) }
 {
     let laid = columns(alloc, declared, draft)?;
@@ -54,7 +54,7 @@ fn rows(
     requires columns { length laid.now ≤ MAX_COLUMNS }
     requires cells { laid_cells laid.now ≤ MAX_ENTRIES }
     requires objects { AreObjects declared.now }
-    requires members { AreMembers declared.now draft.now.rows }
+    requires declared { AreDeclared declared.now draft.now.rows }
     ensures value { IfOk result (λ rows. rows.items ≡ rows_from declared.now laid.now 0 draft.now.rows) }
     ensures few { IfOk result (λ rows. length rows.items ≤ MAX_ROWS) }
     ensures entries { IfOk result (λ rows. entry_count rows.items ≤ MAX_ENTRIES) }

@@ -11,6 +11,7 @@ mod laws;
 mod member_column;
 mod named;
 mod row_entries;
+mod row_member;
 mod term;
 mod variables;
 
@@ -20,4 +21,5 @@ pub use fault::DraftFault;
 pub use finished::finish;
 pub use laws::rows_have_their_terms;
 pub use member_column::Cell;
+pub use row_member::RowMember;
 pub use term::{Bounds, Term};

@@ -31,4 +31,4 @@ pub returns-clause-new : goal.returns-clause-new
 returns-clause-new c =
     let P : List Row → Type 0 = λ rs. IsTrue (are_distinct_rows [] rs) in
     let narrow = subst AreRowsNarrow c.rows-heads.ensures.value c.in_ok-rows.ensures.narrow in
-    subst P (sym (returns-clause-value c)) (new_rows c.args.declared.now c.args.laid.now c.args.draft.now.rows c.requires.objects c.requires.members narrow)
+    subst P (sym (returns-clause-value c)) (new_rows c.args.declared.now c.args.laid.now c.args.draft.now.rows c.requires.objects c.requires.declared (c.rows-heads.ensures.members) narrow)

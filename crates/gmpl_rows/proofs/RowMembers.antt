@@ -1,0 +1,38 @@
+-- Rows of different members.
+use Rattle.std.proofs.Common.{◌≡◌, ◌∙◌, ◌++◌, Bool, true, false, if◌then◌else◌, List, [], ◌∷◌, map, refl, sym, ap, subst}
+use Rattle.std.specs.Cmp.{IsEquivalence}
+use Rattle.std.specs.List.{AllByRecursion, IsDistinct, list_any}
+use Rattle.indexmap.specs.IndexSet.{insert_key}
+use Rattle.gmpl_rows.specs.Draft.{member_eq, row_member}
+use Rattle.gmpl_rows.specs.Premises.{AreDifferent}
+use Rattle.gmpl_rows.specs.contracts.row_member.RowMemberEq.TheImpl.Laws.{laws-law}
+use Rattle.gmpl_rows.specs.declared.draft.RowHead.{RowHead}
+use Rattle.gmpl_rows.specs.declared.row_member.RowMember.{RowMember}
+
+member_laws : IsEquivalence member_eq
+member_laws = laws-law
+
+others : (m : RowMember) (ms : List RowMember) → AllByRecursion (λ n. member_eq m n ≡ false) ms → AllByRecursion (λ n. m ≡ n → ⊥) ms
+others m [] h = tt
+others m (n ∷ ms) h = ((λ e. different (subst (λ k. member_eq m k ≡ false) (sym e) h.0)), others m ms h.1)
+  where
+    different : member_eq m m ≡ false → ⊥
+    different f = let t : member_eq m m ≡ true = member_laws.refl m in cc
+
+pub different : (ms : List RowMember) → IsDistinct member_eq ms → AreDifferent ms
+unfolding IsDistinct
+different [] d = tt
+different (m ∷ ms) d = (others m ms d.0, different ms d.1)
+
+pub members_more : (hs : List RowHead) (h : RowHead) → map row_member (hs ++ h ∷ []) ≡ map row_member hs ++ row_member h ∷ []
+members_more [] h = refl
+members_more (g ∷ hs) h = ap (λ ms. row_member g ∷ ms) (members_more hs h)
+
+-- the keys after a member that was none
+pub keys_after : (old new : List RowMember) (m : RowMember) (hs more : List RowHead) (h : RowHead) → old ≡ map row_member hs → m ≡ row_member h → list_any (member_eq m) old ≡ false → new ≡ insert_key member_eq old m → more ≡ hs ++ h ∷ [] → new ≡ map row_member more
+keys_after old new m hs more h a b f is then_is =
+    is ∙ absent (list_any (member_eq m) old) f ∙ ap (λ ms. ms ++ m ∷ []) a ∙ ap (λ x. map row_member hs ++ x ∷ []) b ∙ sym (members_more hs h) ∙ ap (map row_member) (sym then_is)
+  where
+    absent : (t : Bool) → t ≡ false → (if t then old else old ++ m ∷ []) ≡ old ++ m ∷ []
+    absent true e = absurd cc
+    absent false e = refl
