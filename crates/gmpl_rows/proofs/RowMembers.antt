@@ -1,11 +1,12 @@
 -- Rows of different members.
-use Rattle.std.proofs.Common.{◌≡◌, ◌∙◌, ◌++◌, Bool, true, false, if◌then◌else◌, List, [], ◌∷◌, map, refl, sym, ap, subst}
+use Rattle.std.proofs.Common.{◌≡◌, ◌∙◌, ◌<◌, ◌++◌, length, Bool, true, false, if◌then◌else◌, List, [], ◌∷◌, map, refl, sym, ap, subst}
 use Rattle.std.specs.Cmp.{IsEquivalence}
 use Rattle.std.specs.List.{AllByRecursion, IsDistinct, list_any}
 use Rattle.indexmap.specs.IndexSet.{insert_key}
 use Rattle.gmpl_rows.specs.Draft.{member_eq, row_member}
-use Rattle.gmpl_rows.specs.Premises.{AreDifferent}
+use Rattle.gmpl_rows.specs.Premises.{AreDeclared, AreDifferent}
 use Rattle.gmpl_rows.specs.contracts.row_member.RowMemberEq.TheImpl.Laws.{laws-law}
+use Rattle.gmpl_rows.specs.declared.declared.Declared.{Declared}
 use Rattle.gmpl_rows.specs.declared.draft.RowHead.{RowHead}
 use Rattle.gmpl_rows.specs.declared.row_member.RowMember.{RowMember}
 
@@ -36,3 +37,10 @@ keys_after old new m hs more h a b f is then_is =
     absent : (t : Bool) → t ≡ false → (if t then old else old ++ m ∷ []) ≡ old ++ m ∷ []
     absent true e = absurd cc
     absent false e = refl
+
+pub declared_more : (vs : List Declared) (hs more : List RowHead) (h : RowHead) → more ≡ hs ++ h ∷ [] → h.statement < length vs → AreDeclared vs hs → AreDeclared vs more
+declared_more vs hs more h is lt d = subst (AreDeclared vs) (sym is) (last hs d)
+  where
+    last : (gs : List RowHead) → AreDeclared vs gs → AreDeclared vs (gs ++ h ∷ [])
+    last [] e = (lt, tt)
+    last (g ∷ gs) e = (e.0, last gs e.1)

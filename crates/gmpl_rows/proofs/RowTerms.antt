@@ -10,10 +10,11 @@ use Rattle.milp.specs.declared.Direction.{Direction}
 use Rattle.gmpl_value.specs.SymbolEquality.{tuple_eq}
 use Rattle.gmpl_value.specs.declared.symbol.Symbol.{Symbol}
 use Rattle.gmpl_rows.specs.Demanded.{Demanded, all_none, changed_at, none_demanded, note_all, noted, noted_in, cell_of, within_limits}
-use Rattle.gmpl_rows.specs.Draft.{Draft, is_row, no_rows, row_member, with_new_row, with_objective, with_row}
+use Rattle.gmpl_rows.specs.Draft.{Draft, is_new, no_rows, with_new_row, with_objective, with_row}
 use Rattle.gmpl_rows.specs.Follows.{then_do}
 use Rattle.gmpl_rows.specs.Problem.{cell_in}
 use Rattle.gmpl_rows.specs.Terms.{IsAligned, IsDraft, cells_among, coefficient_at, coefficient_in, is_of}
+use Rattle.gmpl_rows.specs.declared.declared.Declared.{Declared}
 use Rattle.gmpl_rows.specs.declared.draft.RowHead.{RowHead}
 use Rattle.gmpl_rows.specs.declared.fault.DraftFault.{DraftFault}
 use Rattle.gmpl_rows.specs.declared.fault.DraftFault.TheVariants.{TooMany}
@@ -157,8 +158,8 @@ none_aligned : (n : ℕ) → AreAligned (all_none n)
 none_aligned zero = tt
 none_aligned (suc n) = (refl, none_aligned n)
 
-pub start : (statements : ℕ) → IsDraft (no_rows (all_none statements))
-start n = record { aligned = none_aligned n; earlier = λ i s m h. none_at n i s m }
+pub start : (objects : List Declared) → IsDraft (no_rows objects)
+start vs = record { aligned = none_aligned (length vs); earlier = λ i s m h. none_at (length vs) i s m }
 
 pub aimed : (direction : Direction) (constant : Rational) (d : Draft) → IsDraft d → IsDraft (with_objective direction constant d)
 aimed direction constant d h = record { aligned = h.aligned; earlier = h.earlier }
@@ -209,16 +210,16 @@ new_kept head terms d e is h =
         ap (λ (x : Demanded). cell_in i (cells_among m x.members x.columns)) (past_end e.variables s past)
 
 pub row_kept : (head : RowHead) (terms : List Term) (d e : Draft) → with_row head terms d ≡ Ok e → IsDraft d → IsDraft e
-row_kept head terms d e is h = by (is_row (row_member head) d.rows) is
+row_kept head terms d e is h = by (is_new head d) is
   where
-    by : (t : Bool) → cond t (Ok d) (with_new_row head terms d) ≡ Ok e → IsDraft e
-    by true k = let same : d ≡ e = cc in subst IsDraft same h
-    by false k = new_kept head terms d e k h
+    by : (t : Bool) → cond t (with_new_row head terms d) (Ok d) ≡ Ok e → IsDraft e
+    by false k = let same : d ≡ e = cc in subst IsDraft same h
+    by true k = new_kept head terms d e k h
 
-pub row_again : (head : RowHead) (terms : List Term) (d : Draft) → is_row (row_member head) d.rows ≡ true → with_row head terms d ≡ Ok d
+pub row_again : (head : RowHead) (terms : List Term) (d : Draft) → is_new head d ≡ false → with_row head terms d ≡ Ok d
 row_again head terms d h = rw h refl
 
-as_new : (head : RowHead) (terms : List Term) (d : Draft) → is_row (row_member head) d.rows ≡ false → with_row head terms d ≡ with_new_row head terms d
+as_new : (head : RowHead) (terms : List Term) (d : Draft) → is_new head d ≡ true → with_row head terms d ≡ with_new_row head terms d
 as_new head terms d h = rw h refl
 
 same_row : (n i : ℕ) → (n == i) ≡ true → n ≡ i
@@ -227,7 +228,7 @@ same_row n i h = grind (arith, nat_tests)
 swapped : (n i : ℕ) → (n == i) ≡ (i == n)
 swapped n i = grind (arith, nat_tests)
 
-pub row_terms : (head : RowHead) (terms : List Term) (d e : Draft) (i s : ℕ) (m : List Symbol) → is_row (row_member head) d.rows ≡ false → with_row head terms d ≡ Ok e → IsDraft d → s < length d.variables
+pub row_terms : (head : RowHead) (terms : List Term) (d e : Draft) (i s : ℕ) (m : List Symbol) → is_new head d ≡ true → with_row head terms d ≡ Ok e → IsDraft d → s < length d.variables
     → coefficient_at i s m e.variables ≡ cond (i == length d.rows) (coefficient_in s m terms) (coefficient_at i s m d.variables)
 row_terms head terms d e i s m new is h lt =
     let made = made_of head terms d e (sym (as_new head terms d new) ∙ is) in

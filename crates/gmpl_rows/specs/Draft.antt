@@ -1,9 +1,10 @@
 -- What the statements of a model have made so far.
-use Rattle.std.specs.Prelude.{◌-◌, Bool, List, map, [], ◌∷◌, ◌++◌, length, cond, nat_lt, Result, Ok, Err, Option, Some, None}
+use Rattle.std.specs.Prelude.{◌-◌, ◌&&◌, not, Bool, List, map, [], ◌∷◌, ◌++◌, length, cond, nat_lt, Result, Ok, Err, Option, Some, None}
 use Rattle.std.specs.List.{list_any}
 use Rattle.rational.specs.Rational.{Rational}
 use Rattle.milp.specs.declared.Direction.{Direction}
-use Rattle.gmpl_rows.specs.Demanded.{Demanded, note_all}
+use Rattle.gmpl_rows.specs.Demanded.{Demanded, all_none, note_all}
+use Rattle.gmpl_rows.specs.declared.declared.Declared.{Declared}
 use Rattle.gmpl_rows.specs.Follows.{then_do}
 use Rattle.gmpl_rows.specs.declared.draft.ObjectiveRow.{ObjectiveRow}
 use Rattle.gmpl_rows.specs.declared.draft.RowHead.{RowHead}
@@ -13,15 +14,16 @@ use Rattle.gmpl_rows.specs.declared.term.Term.{Term}
 use Rattle.gmpl_rows.specs.declared.fault.DraftFault.{DraftFault}
 use Rattle.gmpl_rows.specs.declared.fault.DraftFault.TheVariants.{TooMany}
 
--- the rows but for their entries; for each statement the members of its variable that were demanded, with their
--- coefficients; which row is the objective's
+-- what each statement declares; the rows but for their entries; for each statement the members of its variable that were
+-- demanded, with their coefficients; which row is the objective's
 pub record Draft : Type 0 where
+  pub objects : List Declared
   pub rows : List RowHead
   pub variables : List Demanded
   pub objective : Option ObjectiveRow
 
-abbrev pub no_rows : List Demanded → Draft
-no_rows variables = record { rows = []; variables = variables; objective = None }
+abbrev pub no_rows : List Declared → Draft
+no_rows objects = record { objects = objects; rows = []; variables = all_none (length objects); objective = None }
 
 abbrev pub row_member : RowHead → RowMember
 row_member h = record { statement = h.statement; subscripts = h.subscripts }
@@ -41,9 +43,13 @@ with_new_row head terms d =
     (then_do (λ vs. Ok (record d { rows = d.rows ++ head ∷ []; variables = vs })) (note_all (length d.rows) terms d.variables))
     (Err TooMany)
 
--- one more row, unless the member is a row already
+-- a member of a statement that is there, and no row yet
+abbrev pub is_new : RowHead → Draft → Bool
+is_new head d = nat_lt head.statement (length d.objects) && not (is_row (row_member head) d.rows)
+
+-- one more row, where it is a new one
 abbrev pub with_row : RowHead → List Term → Draft → Result Draft DraftFault
-with_row head terms d = cond (is_row (row_member head) d.rows) (Ok d) (with_new_row head terms d)
+with_row head terms d = cond (is_new head d) (with_new_row head terms d) (Ok d)
 
 abbrev pub first_of : Option ObjectiveRow → ObjectiveRow → ObjectiveRow
 first_of (Some a) b = a

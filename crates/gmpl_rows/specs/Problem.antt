@@ -85,11 +85,11 @@ plain columns rows = record { columns = columns; rows = rows; direction = Min; o
 abbrev pub column_of : LaidColumn → Column
 column_of l = l.column
 
-abbrev pub columns_of : List Declared → Draft → List Column
-columns_of vs d = map column_of (laid_out vs d.variables)
+abbrev pub columns_of : Draft → List Column
+columns_of d = map column_of (laid_out d.objects d.variables)
 
-abbrev pub rows_of : List Declared → Draft → List Row
-rows_of vs d = rows_from vs (laid_out vs d.variables) 0 d.rows
+abbrev pub rows_of : Draft → List Row
+rows_of d = rows_from d.objects (laid_out d.objects d.variables) 0 d.rows
 
-abbrev pub problem_of : List Declared → Draft → Problem
-problem_of vs d = aimed_at d.objective (rows_of vs d) (plain (columns_of vs d) (rows_of vs d))
+abbrev pub problem_of : Draft → Problem
+problem_of d = aimed_at d.objective (rows_of d) (plain (columns_of d) (rows_of d))

@@ -1,10 +1,11 @@
 // The rows so far.
 ghost use Rattle.std.specs.Prelude.{◌≡◌, ◌≤◌, length, map, IfOk};
 ghost use Rattle.gmpl_rows.specs.Draft.{no_rows, with_row, with_objective, row_member};
-ghost use Rattle.gmpl_rows.specs.Premises.{AreDifferent};
-ghost use Rattle.gmpl_rows.specs.Demanded.{all_none, cell_count, used_count};
+ghost use Rattle.gmpl_rows.specs.Premises.{AreDeclared, AreDifferent, AreObjects};
+ghost use Rattle.gmpl_rows.specs.Demanded.{cell_count, used_count};
 ghost use Rattle.gmpl_rows.specs.Follows.{Follows};
 
+use crate::declared::Declared;
 use crate::demanded::Demanded;
 use crate::fault::DraftFault;
 use crate::row_member::RowMember;
@@ -50,6 +51,7 @@ pub struct ObjectiveRow {
 /// What the statements have made so far.
 #[derive(Drop)]
 pub struct Draft {
+    objects: Vec<Declared>,
     rows: Vec<RowHead>,
     members: IndexSet<RowMember>,
     variables: Variables,
@@ -60,42 +62,48 @@ impl Model for Draft {
     ghost use Rattle.std.specs.Prelude.{◌≡◌, ◌≤◌, length, map};
     ghost use Rattle.indexmap.specs.IndexSet.{keys};
     ghost use Rattle.gmpl_rows.specs.Draft.{Draft as DraftOf, row_member};
-    ghost use Rattle.gmpl_rows.specs.Premises.{AreDifferent};
+    ghost use Rattle.gmpl_rows.specs.Premises.{AreDeclared, AreDifferent, AreObjects};
 
     ghost Value = { DraftOf };
 
-    ghost view = { λ d. record { rows = d.rows.items; variables = d.variables; objective = d.objective } };
+    ghost view = { λ d. record { objects = d.objects.items; rows = d.rows.items; variables = d.variables; objective = d.objective } };
 
-    ghost invariant = { λ d. record { few : length d.rows.items ≤ 100000; members : keys d.members ≡ map row_member d.rows.items; differ : AreDifferent (map row_member d.rows.items) } };
+    ghost invariant = { λ d. record { few : length d.rows.items ≤ 100000; members : keys d.members ≡ map row_member d.rows.items; differ : AreDifferent (map row_member d.rows.items); objects : AreObjects d.objects.items; declared : AreDeclared d.objects.items d.rows.items } };
 }
 
 impl Draft {
-    /// Nothing yet, for a model of so many statements.
-    pub fn new(alloc: Global, statements: usize) -> Result<Self, AllocError>
-        ensures { IfOk result (λ made. made ≡ no_rows (all_none statements)) }
+    /// Nothing yet, for a model whose statements declare these objects, of which no two have one name.
+    pub fn new(alloc: Global, objects: Vec<Declared>) -> Result<Self, AllocError>
+        requires { AreObjects objects.items }
+        ensures { IfOk result (λ made. made ≡ no_rows objects.items) }
     {
+        let variables = Variables::new(alloc, objects.len())?;
         Ok(Draft {
+            objects,
             rows: Vec::new(alloc),
             members: IndexSet::new(alloc),
-            variables: Variables::new(alloc, statements)?,
+            variables,
             objective: None,
         })
     }
 
-    /// One more row, unless its member is a row already. The members of variables are demanded in the order of its terms.
+    /// One more row, where its statement is one of the model and its member no row yet. The members of variables are
+    /// demanded in the order of its terms.
     /// Errors: `TooMany` exactly where a row, a column or an entry would pass a limit of an instance; `NoMemory`.
     pub fn row(self, alloc: Global, head: RowHead, terms: Vec<Term>) -> Result<Self, DraftFault>
         ensures { Follows result (with_row head terms.items self) }
     {
         let Draft {
+            objects,
             mut rows,
             mut members,
             variables,
             objective,
         } = self;
         let member = head.member(alloc)?;
-        if members.contains(&member) {
+        if head.statement as usize >= objects.len() || members.contains(&member) {
             return Ok(Draft {
+                objects,
                 rows,
                 members,
                 variables,
@@ -111,6 +119,7 @@ impl Draft {
         members.insert(member)?;
         rows.push_reserved(head);
         Ok(Draft {
+            objects,
             rows,
             members,
             variables,
@@ -123,6 +132,7 @@ impl Draft {
         ensures { result ≡ with_objective direction constant self }
     {
         let Draft {
+            objects,
             rows,
             members,
             variables,
@@ -137,6 +147,7 @@ impl Draft {
             },
         };
         Draft {
+            objects,
             rows,
             members,
             variables,
@@ -144,10 +155,19 @@ impl Draft {
         }
     }
 
+    // What each statement declares.
+    pub(crate) fn objects(&self) -> &[Declared]
+        ensures value { result.now ≡ self.now.objects }
+        ensures differ { AreObjects self.now.objects }
+    {
+        &self.objects
+    }
+
     pub(crate) fn rows(&self) -> &[RowHead]
         ensures value { result.now ≡ self.now.rows }
         ensures few { length self.now.rows ≤ MAX_ROWS }
         ensures members { AreDifferent (map row_member self.now.rows) }
+        ensures declared { AreDeclared self.now.objects self.now.rows }
     {
         &self.rows
     }

@@ -6,7 +6,6 @@ ghost use Rattle.instance.specs.WellFormed.{are_distinct_columns, are_distinct_r
 ghost use Rattle.gmpl_rows.specs.Problem.{problem_of, columns_of, column_of, row_with, rows_from, laid_out, aimed_at, plain};
 ghost use Rattle.gmpl_rows.specs.Laying.{rows_with, laid_cells};
 ghost use Rattle.gmpl_rows.specs.Named.{AreRowsNarrow};
-ghost use Rattle.gmpl_rows.specs.Premises.{AreDeclared, AreObjects};
 ghost use Rattle.gmpl_member_names.specs.Narrow.{AreNarrow};
 
 use crate::declared::Declared;
@@ -20,50 +19,37 @@ use instance::{
 use std::alloc::{AllocError, Global};
 
 /// The problem that the rows so far are: columns by statement and then in the order of first demand, of the members that
-/// have a coefficient other than 0 in some row. `declared` says for each statement what it declares.
-pub fn finish(alloc: Global, declared: &[Declared], draft: &Draft) -> Result<Instance, AllocError>
-    requires objects { AreObjects declared.now }
-    requires declared { AreDeclared declared.now draft.now.rows }
-    ensures { IfOk result (λ made. made ≡ problem_of declared.now draft.now) }
+/// have a coefficient other than 0 in some row.
+pub fn finish(alloc: Global, draft: &Draft) -> Result<Instance, AllocError>
+    ensures { IfOk result (λ made. made ≡ problem_of draft.now) }
 {
-    let laid = columns(alloc, declared, draft)?;
-    let rows = rows(alloc, declared, draft, &laid)?;
+    let laid = columns(alloc, draft)?;
+    let rows = rows(alloc, draft, &laid)?;
     assembled(alloc, laid, rows, draft.objective_row())
 }
 
-fn columns(
-    alloc: Global,
-    declared: &[Declared],
-    draft: &Draft,
-) -> Result<Vec<LaidColumn>, AllocError>
-    requires objects { AreObjects declared.now }
-    ensures value { IfOk result (λ laid. laid.items ≡ laid_out declared.now draft.now.variables) }
-    ensures few { length (laid_out declared.now draft.now.variables) ≤ MAX_COLUMNS }
-    ensures cells { laid_cells (laid_out declared.now draft.now.variables) ≤ MAX_ENTRIES }
-    ensures new { OnOk result (IsTrue (are_distinct_columns [] (columns_of declared.now draft.now))) }
+fn columns(alloc: Global, draft: &Draft) -> Result<Vec<LaidColumn>, AllocError>
+    ensures value { IfOk result (λ laid. laid.items ≡ laid_out draft.now.objects draft.now.variables) }
+    ensures few { length (laid_out draft.now.objects draft.now.variables) ≤ MAX_COLUMNS }
+    ensures cells { laid_cells (laid_out draft.now.objects draft.now.variables) ≤ MAX_ENTRIES }
+    ensures new { OnOk result (IsTrue (are_distinct_columns [] (columns_of draft.now))) }
 {
-    lay_out(alloc, declared, draft.demanded())
+    lay_out(alloc, draft.objects(), draft.demanded())
 }
 
-fn rows(
-    alloc: Global,
-    declared: &[Declared],
-    draft: &Draft,
-    laid: &[LaidColumn],
-) -> Result<Vec<Row>, AllocError>
+fn rows(alloc: Global, draft: &Draft, laid: &[LaidColumn]) -> Result<Vec<Row>, AllocError>
     requires columns { length laid.now ≤ MAX_COLUMNS }
     requires cells { laid_cells laid.now ≤ MAX_ENTRIES }
-    requires objects { AreObjects declared.now }
-    requires declared { AreDeclared declared.now draft.now.rows }
-    ensures value { IfOk result (λ rows. rows.items ≡ rows_from declared.now laid.now 0 draft.now.rows) }
+    ensures value { IfOk result (λ rows. rows.items ≡ rows_from draft.now.objects laid.now 0 draft.now.rows) }
     ensures few { IfOk result (λ rows. length rows.items ≤ MAX_ROWS) }
     ensures entries { IfOk result (λ rows. entry_count rows.items ≤ MAX_ENTRIES) }
     ensures forms { IfOk result (λ rows. IsTrue (list_all (λ (r : RowOf). are_entries (length (map column_of laid.now)) r.entries) rows.items)) }
     ensures new { IfOk result (λ rows. IsTrue (are_distinct_rows [] rows.items)) }
 {
+    let objects = draft.objects();
     let heads = draft.rows();
     let begun = lay_all(alloc, heads.len(), laid)?;
-    let rows = made_rows(alloc, declared, heads, &begun)?;
+    let rows = made_rows(alloc, objects, heads, &begun)?;
     Ok(rows)
 }
 

@@ -3,9 +3,9 @@ ghost use Rattle.std.specs.Prelude.{◌≡◌, ◌<◌, ◌==◌, ℕ, List, Ok,
 ghost use Rattle.rational.specs.Rational.{Rational};
 ghost use Rattle.milp.specs.declared.Direction.{Direction};
 ghost use Rattle.gmpl_value.specs.declared.symbol.Symbol.{Symbol};
-ghost use Rattle.gmpl_rows.specs.Demanded.{all_none};
-ghost use Rattle.gmpl_rows.specs.Draft.{Draft, is_row, no_rows, row_member, with_row, with_objective};
+ghost use Rattle.gmpl_rows.specs.Draft.{Draft, is_new, no_rows, with_row, with_objective};
 ghost use Rattle.gmpl_rows.specs.Terms.{IsDraft, coefficient_at, coefficient_in};
+ghost use Rattle.gmpl_rows.specs.declared.declared.Declared.{Declared};
 ghost use Rattle.gmpl_rows.specs.declared.draft.RowHead.{RowHead};
 ghost use Rattle.gmpl_rows.specs.declared.term.Term.{Term};
 
@@ -13,10 +13,10 @@ ghost use Rattle.gmpl_rows.specs.declared.term.Term.{Term};
 /// are. A member that is a row already makes none. A row's entries are these coefficients, by column.
 #[tactic(auto, using(crate::proofs::RowTerms::start, crate::proofs::RowTerms::row_kept, crate::proofs::RowTerms::row_again, crate::proofs::RowTerms::aimed, crate::proofs::RowTerms::row_terms))]
 pub fn rows_have_their_terms()
-    ensures start { (statements : ℕ) → IsDraft (no_rows (all_none statements)) }
+    ensures start { (objects : List Declared) → IsDraft (no_rows objects) }
     ensures row { (head : RowHead) (terms : List Term) (d e : Draft) → with_row head terms d ≡ Ok e → IsDraft d → IsDraft e }
-    ensures again { (head : RowHead) (terms : List Term) (d : Draft) → is_row (row_member head) d.rows ≡ true → with_row head terms d ≡ Ok d }
+    ensures again { (head : RowHead) (terms : List Term) (d : Draft) → is_new head d ≡ false → with_row head terms d ≡ Ok d }
     ensures objective { (direction : Direction) (constant : Rational) (d : Draft) → IsDraft d → IsDraft (with_objective direction constant d) }
-    ensures terms { (head : RowHead) (terms : List Term) (d e : Draft) (i s : ℕ) (m : List Symbol) → is_row (row_member head) d.rows ≡ false → with_row head terms d ≡ Ok e → IsDraft d → s < length d.variables
+    ensures terms { (head : RowHead) (terms : List Term) (d e : Draft) (i s : ℕ) (m : List Symbol) → is_new head d ≡ true → with_row head terms d ≡ Ok e → IsDraft d → s < length d.variables
         → coefficient_at i s m e.variables ≡ cond (i == length d.rows) (coefficient_in s m terms) (coefficient_at i s m d.variables) }
 {}
