@@ -1,0 +1,3 @@
+mod Levels
+mod Chains
+mod ReadBack
