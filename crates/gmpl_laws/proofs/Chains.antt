@@ -1,12 +1,12 @@
 -- What reads an operand reads it on each level where no operator of the level follows, and with one operator that follows.
-use Rattle.std.specs.Prelude.{◌≡◌, refl, ℕ, zero, suc, Bool, true, false, List, [], ◌∷◌, ◌++◌, length, Option, Some, None, Ok, ◌∙◌}
+use Rattle.std.specs.Prelude.{◌≡◌, refl, ℕ, zero, suc, false, List, [], ◌∷◌, length, Option, Some, None, Ok}
+use Rattle.std.proofs.Common.{◌∙◌}
 use Rattle.gmpl_token.specs.declared.kind.TokenKind.{TokenKind}
 use Rattle.gmpl_token.specs.declared.kind.TokenKind.TheVariants as k
 use Rattle.gmpl_token.specs.Token.{Token}
 use Rattle.gmpl_syntax.specs.declared.fault.SyntaxFaultKind.{SyntaxFaultKind}
 use Rattle.gmpl_syntax.specs.declared.expression.Operator.{Operator}
 use Rattle.gmpl_syntax.specs.declared.expression.Expr.{Expr}
-use Rattle.gmpl_syntax.specs.declared.expression.Expr.TheVariants as e
 use Rattle.gmpl_syntax.specs.declared.expression.Link.{Link, roll-Link}
 use Rattle.gmpl_input.specs.Input.{Input, kind, next, sees}
 use Rattle.gmpl_input.specs.Rules.{Rule, after}
@@ -50,17 +50,17 @@ pub record IsOperand (inside : Inside) (i j : Input) (x : Expr) : Type 0 where
 
 -- no operator goes on here
 pub record Ends (j : Input) : Type 0 where
-  pub power : sees k.Power j ≡ false
-  pub product : operator level.Product (kind j) ≡ None
-  pub sum : operator level.Sum (kind j) ≡ None
-  pub join : operator level.Join (kind j) ≡ None
-  pub dots : sees k.DotDot j ≡ false
-  pub cross : operator level.Cross (kind j) ≡ None
-  pub inter : operator level.Inter (kind j) ≡ None
-  pub union : operator level.Union (kind j) ≡ None
-  pub relation : (inside : Inside) (x : Expr) → related_by inside x (kind j) (relation (kind j)) j ≡ Ok (x, j)
-  pub conjunction : operator level.And (kind j) ≡ None
-  pub disjunction : operator level.Or (kind j) ≡ None
+  pub no_power : sees k.Power j ≡ false
+  pub no_product : operator level.Product (kind j) ≡ None
+  pub no_sum : operator level.Sum (kind j) ≡ None
+  pub no_join : operator level.Join (kind j) ≡ None
+  pub no_dots : sees k.DotDot j ≡ false
+  pub no_cross : operator level.Cross (kind j) ≡ None
+  pub no_inter : operator level.Inter (kind j) ≡ None
+  pub no_union : operator level.Union (kind j) ≡ None
+  pub no_relation : (inside : Inside) (x : Expr) → related_by inside x (kind j) (relation (kind j)) j ≡ Ok (x, j)
+  pub no_and : operator level.And (kind j) ≡ None
+  pub no_or : operator level.Or (kind j) ≡ None
 
 unraised : (inside : Inside) (i j : Input) (x : Expr) → primary inside i ≡ Ok (x, j) → sees k.Power j ≡ false → power inside i ≡ Ok (x, j)
 unfolding power after
@@ -119,28 +119,28 @@ module _ (inside : Inside) (i j : Input) (x : Expr) (o : IsOperand inside i j x)
 
 module _ (inside : Inside) (i j : Input) (x : Expr) (ends : Ends j) (affirmed : negation_by inside (kind i) i ≡ related inside i) where
   pub from_conjunction : conjunction inside i ≡ Ok (x, j) → logical inside i ≡ Ok (x, j)
-  from_conjunction read = alone (operator level.Or) (conjunction inside) i j x read ends.disjunction
+  from_conjunction read = alone (operator level.Or) (conjunction inside) i j x read ends.no_or
 
   pub from_union : union inside i ≡ Ok (x, j) → logical inside i ≡ Ok (x, j)
-  from_union read = from_conjunction (alone (operator level.And) (negation inside) i j x (without_not inside i affirmed ∙ unrelated inside i j x read (ends.relation inside x)) ends.conjunction)
+  from_union read = from_conjunction (alone (operator level.And) (negation inside) i j x (without_not inside i affirmed ∙ unrelated inside i j x read (ends.no_relation inside x)) ends.no_and)
 
   pub from_inter : inter inside i ≡ Ok (x, j) → logical inside i ≡ Ok (x, j)
-  from_inter read = from_union (alone (operator level.Union) (inter inside) i j x read ends.union)
+  from_inter read = from_union (alone (operator level.Union) (inter inside) i j x read ends.no_union)
 
   pub from_cross : cross inside i ≡ Ok (x, j) → logical inside i ≡ Ok (x, j)
-  from_cross read = from_inter (alone (operator level.Inter) (cross inside) i j x read ends.inter)
+  from_cross read = from_inter (alone (operator level.Inter) (cross inside) i j x read ends.no_inter)
 
   pub from_join : join inside i ≡ Ok (x, j) → logical inside i ≡ Ok (x, j)
-  from_join read = from_cross (alone (operator level.Cross) (range inside) i j x (single inside i j x read ends.dots) ends.cross)
+  from_join read = from_cross (alone (operator level.Cross) (range inside) i j x (single inside i j x read ends.no_dots) ends.no_cross)
 
   pub from_sum : sum inside i ≡ Ok (x, j) → logical inside i ≡ Ok (x, j)
-  from_sum read = from_join (alone (operator level.Join) (sum inside) i j x read ends.join)
+  from_sum read = from_join (alone (operator level.Join) (sum inside) i j x read ends.no_join)
 
   pub from_product : product inside i ≡ Ok (x, j) → logical inside i ≡ Ok (x, j)
-  from_product read = from_sum (alone (operator level.Sum) (product inside) i j x read ends.sum)
+  from_product read = from_sum (alone (operator level.Sum) (product inside) i j x read ends.no_sum)
 
   pub from_signed : signed inside i ≡ Ok (x, j) → logical inside i ≡ Ok (x, j)
-  from_signed read = from_product (alone (operator level.Product) (signed inside) i j x read ends.product)
+  from_signed read = from_product (alone (operator level.Product) (signed inside) i j x read ends.no_product)
 
 pub from_operand : (inside : Inside) (i j : Input) (x : Expr) → IsOperand inside i j x → Ends j → logical inside i ≡ Ok (x, j)
-from_operand inside i j x o ends = from_signed inside i j x ends o.affirmed (as_signed inside i j x o ends.power)
+from_operand inside i j x o ends = from_signed inside i j x ends o.affirmed (as_signed inside i j x o ends.no_power)

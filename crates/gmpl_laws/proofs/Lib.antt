@@ -1,3 +1,3 @@
-mod Levels
+mod LevelExamples
 mod Chains
 mod ReadBack

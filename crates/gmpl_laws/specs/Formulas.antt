@@ -1,6 +1,6 @@
 -- Formulas of numbers, names and operators between two operands: their trees, and their tokens with a pair of parentheses round
 -- each operand.
-use Rattle.std.specs.Prelude.{◌≡◌, ◌≤◌, ℕ, suc, max, List, [], ◌∷◌, None, Ok}
+use Rattle.std.specs.Prelude.{◌≡◌, ℕ, suc, max, List, [], ◌∷◌, None, Ok}
 use Rattle.rational.specs.Rational.{Rational}
 use Rattle.fraction.specs.Literal.{read_of}
 use Rattle.gmpl_token.specs.declared.kind.TokenKind.{TokenKind}

@@ -1,4 +1,4 @@
-use Rattle.gmpl_laws.proofs.Levels.{power_from_the_right, power_before_sign, sign_before_product, product_before_sum, sum_before_join, join_before_range, range_before_cross, cross_before_inter, inter_before_union, union_before_relation, relation_before_not, not_before_and, and_before_or, one_level_from_the_left}
+use Rattle.gmpl_laws.proofs.LevelExamples.{power_from_the_right, power_before_sign, sign_before_product, product_before_sum, sum_before_join, join_before_range, range_before_cross, cross_before_inter, inter_before_union, union_before_relation, relation_before_not, not_before_and, and_before_or, one_level_from_the_left}
 use Rattle.gmpl_laws.proofs.levels.operators_bind_by_level.Goals as goal
 
 pub returns : goal.returns

@@ -1,5 +1,5 @@
 -- How operators of neighbouring levels bind: each example computes.
-use Rattle.std.specs.Prelude.{◌≡◌, refl, [], ◌∷◌, None}
+use Rattle.std.specs.Prelude.{refl, [], ◌∷◌, None}
 use Rattle.gmpl_token.specs.declared.kind.TokenKind.TheVariants as k
 use Rattle.gmpl_syntax.specs.declared.expression.Sign.TheVariants as sign
 use Rattle.gmpl_syntax.specs.declared.expression.Operator.TheVariants as o
