@@ -1,20 +1,12 @@
 // What comes of a model's text.
 
 use gmpl_lexer::read_tokens;
-use gmpl_parse::{ParseError, parse};
-use gmpl_statements::read_statements;
+use gmpl_parse::{Model, ParseError, parse};
 use gmpl_syntax::{SyntaxFault, SyntaxFaultKind};
 use outside::{Store, read_all};
 use std::alloc::Global;
 use std::io;
 use std::time::{Clock, Instant};
-
-/// Which passes a model goes through.
-#[derive(Clone, Copy)]
-pub enum Passes {
-    Grammar,
-    All,
-}
 
 /// Prints the name of a model, what comes of it, and the microseconds that reading its text took.
 pub fn report<R: Clock + Print, S: Store>(
@@ -22,55 +14,36 @@ pub fn report<R: Clock + Print, S: Store>(
     alloc: Global,
     files: &mut S,
     name: &str,
-    passes: Passes,
 ) -> io::Result<()> {
     match read_all(alloc, files, name) {
-        Ok(text) => report_text(rt, alloc, name, &text, passes),
+        Ok(text) => report_text(rt, alloc, name, &text),
         Err(_) => println!(rt; "{name}: no file that can be read"),
     }
 }
 
-fn report_text<R: Clock + Print>(
-    rt: &R,
-    alloc: Global,
-    name: &str,
-    text: &[u8],
-    passes: Passes,
-) -> io::Result<()> {
+fn report_text<R: Clock + Print>(rt: &R, alloc: Global, name: &str, text: &[u8]) -> io::Result<()> {
     let start = Instant::now(rt)?;
-    let parsed = match passes {
-        Passes::Grammar => statement_count(alloc, text),
-        Passes::All => model_size(alloc, text),
-    };
+    let parsed = parse_text(alloc, text);
     let elapsed = start.elapsed(rt)?.as_micros();
     match parsed {
-        Ok(count) => println!(rt; "{name}: {count} statements, {elapsed} microseconds"),
-        Err(ParseError::Fault(fault)) => report_fault(rt, name, fault, elapsed),
+        Ok(model) => {
+            let count = model.statements.len();
+            println!(rt; "{name}: {count} statements, {elapsed} microseconds")
+        }
+        Err(ParseError::Fault(fault)) => report_fault(rt, name, fault),
         Err(ParseError::NoMemory) => println!(rt; "{name}: want of memory"),
     }
 }
 
-// How many statements the model of a text has.
-fn model_size(alloc: Global, text: &[u8]) -> Result<usize, ParseError> {
+fn parse_text(alloc: Global, text: &[u8]) -> Result<Model, ParseError> {
     let tokens = read_tokens(alloc, text)?;
-    let model = parse(alloc, &tokens)?;
-    Ok(model.statements.len())
+    parse(alloc, &tokens)
 }
 
-// How many statements the grammar reads.
-fn statement_count(alloc: Global, text: &[u8]) -> Result<usize, ParseError> {
-    let tokens = read_tokens(alloc, text)?;
-    let statements = read_statements(alloc, &tokens)?;
-    match statements.fault {
-        Some(fault) => Err(ParseError::Fault(fault)),
-        None => Ok(statements.items.len()),
-    }
-}
-
-fn report_fault<R: Print>(rt: &R, name: &str, fault: SyntaxFault, elapsed: u128) -> io::Result<()> {
+fn report_fault<R: Print>(rt: &R, name: &str, fault: SyntaxFault) -> io::Result<()> {
     let (number, line) = (fault.statement, fault.line);
     let kind = kind_name(fault.kind);
-    println!(rt; "{name}: statement {number}, line {line}: {kind}, {elapsed} microseconds")
+    println!(rt; "{name}: statement {number}, line {line}: {kind}")
 }
 
 fn kind_name(kind: SyntaxFaultKind) -> &'static str {
