@@ -4,8 +4,9 @@
 usage: bench/gate_times.py [WORDS OF rt ci ..]       as: bench/gate_times.py --anew
 
 It looks at the processes of the prover twice a second, and prints the minutes of processor time that each had used when
-it was last seen, in a table in markdown; and how long the run took. A proof of the crate as it stands from which its
-edits begin counts with them, since only edits want it. Without --anew what earlier runs proved is not done again.
+it was last seen, in a table in markdown; and how long the run took. A process that forked others counts for itself, as
+they do. A proof of the crate as it stands from which its edits begin counts with them, since only edits want it. Without
+--anew what earlier runs proved is not done again.
 """
 import collections
 import os
@@ -40,7 +41,7 @@ def look():
             kind = "programs"
         else:
             kind = "proof"
-        yield (number, stat[19]), name, kind, sum(map(int, stat[11:15])) / TICKS
+        yield (number, stat[19]), name, kind, sum(map(int, stat[11:13])) / TICKS
 
 
 def watch(used, ended):

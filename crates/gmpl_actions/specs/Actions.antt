@@ -15,7 +15,7 @@ use Rattle.gmpl_words.specs.Statements.{begins_with}
 use Rattle.gmpl_expressions.specs.declared.reader.Reader.{Reader}
 use Rattle.gmpl_expressions.specs.Grammar.{indexing_expression}
 use Rattle.gmpl_declarations.specs.Parts.{titled_name}
-use Rattle.gmpl_declarations.specs.Tables.{table_output}
+use Rattle.gmpl_tables.specs.Tables.{table_output}
 use Rattle.gmpl_actions.specs.Simple.{check, display, printf}
 
 -- ---- the heads of a `for`

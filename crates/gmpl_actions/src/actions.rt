@@ -5,10 +5,11 @@ ghost use Rattle.gmpl_actions.specs.Actions as spec;
 ghost use Rattle.gmpl_actions.specs.Actions.{GoesInto};
 
 use crate::simple::{check, display, printf};
-use gmpl_declarations::{table_output, titled_name};
+use gmpl_declarations::titled_name;
 use gmpl_expressions::Reader;
 use gmpl_input::{Cursor, ParseError, list_of_one};
 use gmpl_syntax::{Action, Indexing, SyntaxFaultKind};
+use gmpl_tables::table_output;
 use gmpl_token::TokenKind;
 use gmpl_words::{Beginning, begins_with};
 use sqlite_items::Items;

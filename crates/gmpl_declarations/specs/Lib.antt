@@ -1,4 +1,3 @@
 pub mod Parts
 pub mod Attributes
 pub mod Declarations
-pub mod Tables

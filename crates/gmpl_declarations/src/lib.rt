@@ -4,8 +4,6 @@
 mod attributes;
 mod declarations;
 mod parts;
-mod tables;
 
 pub use declarations::{constraint, declaration, objective};
-pub use parts::titled_name;
-pub use tables::{input_word, table_input, table_output};
+pub use parts::{name, titled_name};

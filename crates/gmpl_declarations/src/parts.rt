@@ -12,7 +12,7 @@ use std::alloc::Global;
 
 /// N: a name that isn't reserved.
 #[tactic(auto, unfolding(crate::specs::Parts::name))]
-pub(crate) fn name(alloc: Global, tokens: &mut Cursor<'_, '_>) -> Result<Text, ParseError>
+pub fn name(alloc: Global, tokens: &mut Cursor<'_, '_>) -> Result<Text, ParseError>
     ensures { Reads (spec.name tokens.old) result tokens.new }
 {
     match tokens.peek() {

@@ -15,7 +15,7 @@ use Rattle.gmpl_words.specs.Statements.{begins_with, is_to}
 use Rattle.gmpl_expressions.specs.Grammar.{max_depth}
 use Rattle.gmpl_declarations.specs.Parts.{titled_name}
 use Rattle.gmpl_declarations.specs.Declarations.{declaration, constraint, objective}
-use Rattle.gmpl_declarations.specs.Tables.{input_word, table_input, table_output}
+use Rattle.gmpl_tables.specs.Tables.{input_word, table_input, table_output}
 use Rattle.gmpl_actions.specs.Actions.{action}
 
 -- ---- "subject" "to" and a constraint

@@ -2,9 +2,9 @@
 ghost use Rattle.std.specs.Prelude.{◌≡◌, []};
 ghost use Rattle.gmpl_input.specs.Rules.{Reads, further, further_from};
 ghost use Rattle.gmpl_declarations.specs.Parts as parts;
-ghost use Rattle.gmpl_declarations.specs.Tables as spec;
+ghost use Rattle.gmpl_tables.specs.Tables as spec;
 
-use crate::parts::name;
+use gmpl_declarations::name;
 use gmpl_expressions::{Reader, is_name, string};
 use gmpl_input::{Cursor, ParseError, list_of_one};
 use gmpl_syntax::{Expr, InputColumn, OutputColumn, TableInput, TableOutput};

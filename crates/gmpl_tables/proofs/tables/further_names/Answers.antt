@@ -4,7 +4,7 @@ use Rattle.std.proofs.lemmas.Grind.{common_steps}
 use Rattle.gmpl_input.proofs.Turns.{one_more, no_more}
 use Rattle.gmpl_input.specs.Rules.{further, further_from}
 use Rattle.gmpl_declarations.specs.Parts.{name}
-use Rattle.gmpl_declarations.proofs.tables.further_names.Goals as goal
+use Rattle.gmpl_tables.proofs.tables.further_names.Goals as goal
 
 pub returns-then-not-eat : goal.returns-then-not-eat
 unfolding further_from

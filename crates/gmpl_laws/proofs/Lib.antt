@@ -1,0 +1,3 @@
+mod LevelExamples
+mod Chains
+mod ReadBack
