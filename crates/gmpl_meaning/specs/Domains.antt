@@ -8,7 +8,8 @@ use Rattle.gmpl_fault.specs.declared.fault.EvalFault.TheVariants.{OutOfDomain}
 use Rattle.gmpl_fault.specs.Outcome.{Outcome, then_do}
 use Rattle.gmpl_operations.specs.Patterns.{Pattern, matched}
 use Rattle.gmpl_meaning.specs.Parts.{Bindings, Demanding, Meant, MeantEntry, MeantIndexing}
-use Rattle.gmpl_meaning.specs.Walks.{pattern, entry_set, holds}
+use Rattle.gmpl_meaning.specs.declared.walk.EntryValue.{EntryValue}
+use Rattle.gmpl_meaning.specs.Walks.{entry_value, holds}
 use Rattle.gmpl_meaning.specs.Expressions.{indexing_meaning}
 
 -- how many subscripts an entry takes: as many as its index has components, else as its set's elements have
@@ -26,11 +27,12 @@ abbrev pub within_by : Bindings → List Symbol → Option (List Symbol) → Out
 within_by b rest None = Err OutOfDomain
 within_by b rest (Some new) = Ok (b ++ new, rest)
 
-abbrev pub within_set : Bindings → List Symbol → Pattern → Set → Outcome (Bindings × List Symbol)
-within_set b subscripts p set = within_by b (drop (width p set) subscripts) (indices_of p set (take (width p set) subscripts))
+abbrev pub within_value : Bindings → List Symbol → EntryValue → Outcome (Bindings × List Symbol)
+within_value b subscripts v =
+    within_by b (drop (width v.pattern v.set) subscripts) (indices_of v.pattern v.set (take (width v.pattern v.set) subscripts))
 
 abbrev pub within_entry : MeantEntry → Bindings → List Symbol → Outcome (Bindings × List Symbol)
-within_entry entry b subscripts = then_do (λ p. then_do (λ set. within_set b subscripts p set) (entry_set entry.set b)) (pattern entry.index b)
+within_entry entry b subscripts = then_do (within_value b subscripts) (entry_value entry b)
 
 abbrev pub within_entries : List MeantEntry → Bindings → List Symbol → Outcome Bindings
 within_entries [] b subscripts = Ok b

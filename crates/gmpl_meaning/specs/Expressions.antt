@@ -80,27 +80,26 @@ names_set statements (name.Object place) = declares_set (slice_get statements pl
 
 -- ---- functions
 
-abbrev pub size : Meant → Meaning
-size x b = then_do (λ s. Ok (of_number (whole (pos (length s))))) (then_do set_in (x.value b))
+abbrev pub size : List Meant → Meaning
+size [] b = Err NotANumber
+size (x ∷ xs) b = then_do (λ s. Ok (of_number (whole (pos (length s))))) (then_do set_in (x.value b))
 
-abbrev pub text_length : Meant → Meaning
-text_length x b = then_do (λ s. Ok (of_number (length_of s))) (then_do symbol_in (x.value b))
+abbrev pub text_length : List Meant → Meaning
+text_length [] b = Err NotANumber
+text_length (x ∷ xs) b = then_do (λ s. Ok (of_number (length_of s))) (then_do symbol_in (x.value b))
 
-abbrev pub substring : Meant → List Meant → Meaning
-substring x xs b = then_do (λ s. then_do (λ ns. then_do (λ t. Ok (Scalar t)) (sliced s ns)) (numbers [] xs b)) (then_do symbol_in (x.value b))
+abbrev pub substring : List Meant → Meaning
+substring [] b = Err NotANumber
+substring (x ∷ xs) b = then_do (λ s. then_do (λ ns. then_do (λ t. Ok (Scalar t)) (sliced s ns)) (numbers [] xs b)) (then_do symbol_in (x.value b))
 
 abbrev pub function_of : Function → List Meant → Meaning
 function_of function xs b = then_do (λ ns. as_number (of_numbers function ns)) (numbers [] xs b)
 
-abbrev pub called_behind : Function → Meant → List Meant → Meaning
-called_behind f.Card x xs b = size x b
-called_behind f.Length x xs b = text_length x b
-called_behind f.Substr x xs b = substring x xs b
-called_behind function x xs b = function_of function (x ∷ xs) b
-
 abbrev pub called : Function → List Meant → Meaning
-called function [] b = Err NotANumber
-called function (x ∷ xs) b = called_behind function x xs b
+called f.Card xs b = size xs b
+called f.Length xs b = text_length xs b
+called f.Substr xs b = substring xs b
+called function xs b = function_of function xs b
 
 -- ---- groups
 
@@ -176,11 +175,14 @@ iterates_to_set _ = false
 
 -- ---- choices
 
--- without `else` it is 0, or the empty set
+-- what is written without `else`: 0, or the empty set
+abbrev pub nothing : Bool → Value
+nothing true = Elements []
+nothing false = of_number zero_ℚ
+
 abbrev pub otherwise : Bool → Option Meant → Meaning
+otherwise is_set None b = Ok (nothing is_set)
 otherwise is_set (Some x) b = x.value b
-otherwise true None b = Ok (Elements [])
-otherwise false None b = Ok (of_number zero_ℚ)
 
 abbrev pub conditional : Meant → Meant → Option Meant → Meaning
 conditional condition first other b = then_do (λ t. if t then first.value b else otherwise first.is_set other b) (then_do truth_in (condition.value b))
@@ -213,24 +215,25 @@ chain_is_set first (link ∷ links) = makes_set link.operator
 
 -- ---- ranges, comparisons and the rest
 
+abbrev pub number_at : Meant → Bindings → Outcome Rational
+number_at x b = then_do number_in (x.value b)
+
 abbrev pub step_of : Option Meant → Bindings → Outcome Rational
 step_of None b = Ok one_ℚ
-step_of (Some x) b = then_do number_in (x.value b)
+step_of (Some x) b = number_at x b
 
 abbrev pub range_by : Rational → Rational → Rational → Outcome Value
 range_by from to by = if is_zero by then Err DivZero else as_elements (range_of from to by)
 
 abbrev pub range : Meant → Meant → Option Meant → Meaning
-range first last step b =
-    then_do (λ from. then_do (λ to. then_do (λ by. range_by from to by) (step_of step b)) (then_do number_in (last.value b))) (then_do number_in (first.value b))
+range first last step b = then_do (λ from. then_do (λ to. then_do (λ by. range_by from to by) (step_of step b)) (number_at last b)) (number_at first b)
 
 abbrev pub compared : Relation → Meant → Meant → Meaning
 compared relation left right b =
     then_do (λ l. then_do (λ r. as_truth (related relation l r)) (right.value b)) (then_do (left_side relation) (left.value b))
 
 abbrev pub power : Meant → Meant → Meaning
-power base exponent b =
-    then_do (λ x. then_do (λ n. as_number (power_of x n)) (then_do number_in (exponent.value b))) (then_do number_in (base.value b))
+power base exponent b = then_do (λ x. then_do (λ n. as_number (power_of x n)) (number_at exponent b)) (number_at base b)
 
 abbrev pub negation : Meant → Meaning
 negation part b = then_do (λ t. Ok (Truth (if t then false else true))) (then_do truth_in (part.value b))

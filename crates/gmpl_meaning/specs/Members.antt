@@ -34,9 +34,18 @@ use Rattle.gmpl_meaning.specs.Restrictions.{is_symbolic, is_binary, assigned, de
 abbrev pub most_height : ℕ
 most_height = 400
 
+abbrev pub behind_the_first : ℕ
+behind_the_first = 399
+
 abbrev pub as_value : Kept → Value
 as_value (kept.Scalar s) = Scalar s
 as_value (kept.Elements s) = Elements s
+
+abbrev pub variable : ℕ → List Symbol → Variable
+variable place subscripts = record { statement = place; subscripts = subscripts }
+
+abbrev pub no_bounds : Bounds
+no_bounds = record { lower = None; upper = None }
 
 module _ (model : LoadedModel) (demand : Demanding) where
   abbrev pub value_at : Bindings → Expr → Outcome Value
@@ -89,18 +98,12 @@ module _ (model : LoadedModel) (demand : Demanding) where
   abbrev pub set_member : ℕ → Declaration → List Symbol → Outcome Value
   set_member place d subscripts = then_do (set_within place d subscripts) (domain_of d subscripts)
 
-  abbrev pub no_bounds : Bounds
-  no_bounds = record { lower = None; upper = None }
-
   abbrev pub bounds_within : Declaration → Bindings → Outcome Bounds
   bounds_within d b = then_do (λ x. Ok (where_binary (is_binary d.attributes) x)) (bounded model.statements demand b no_bounds d.attributes)
 
   -- the bounds of a variable's member, evaluated at each demand
   abbrev pub variable_bounds : Declaration → List Symbol → Outcome Bounds
   variable_bounds d subscripts = then_do (bounds_within d) (domain_of d subscripts)
-
-  abbrev pub variable : ℕ → List Symbol → Variable
-  variable place subscripts = record { statement = place; subscripts = subscripts }
 
   abbrev pub variable_member : ℕ → Declaration → List Symbol → Outcome Value
   variable_member place d subscripts = then_do (λ _. Ok (Linear (linear ((variable place subscripts, one_ℚ) ∷ []) zero_ℚ))) (variable_bounds d subscripts)
@@ -140,6 +143,6 @@ abbrev pub elements_of : LoadedModel → Option Indexing → Bindings → Walk
 elements_of model None b = start
 elements_of model (Some indexing) b = walked (indexing_meaning model.statements (member model most_height) indexing) b
 
--- the bounds of a variable's member, which is the first in its chain of demands
+-- the bounds of a variable's member, which is the first in the chain of demands
 abbrev pub bounds_at : LoadedModel → ℕ → List Symbol → Outcome Bounds
-bounds_at model place subscripts = declared_bounds model (member model 399) (statement_at model place) subscripts
+bounds_at model place subscripts = declared_bounds model (member model behind_the_first) (statement_at model place) subscripts

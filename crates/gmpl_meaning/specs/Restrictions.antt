@@ -99,6 +99,17 @@ abbrev pub is_in : Relation → Bool
 is_in r.In = true
 is_in _ = false
 
+-- ---- bounds
+
+abbrev pub bounds : Option Rational → Option Rational → Bounds
+bounds lower upper = record { lower = lower; upper = upper }
+
+abbrev pub with_bound : Bounds → Relation → Rational → Bounds
+with_bound so_far r.AtLeast q = bounds (Some q) so_far.upper
+with_bound so_far r.AtMost q = bounds so_far.lower (Some q)
+with_bound so_far r.Equal q = bounds (Some q) (Some q)
+with_bound so_far _ q = so_far
+
 module _ (statements : List Numbered) (demand : Demanding) (b : Bindings) where
   abbrev pub value_of : Expr → Outcome Value
   value_of x = (meaning statements demand x).value b
@@ -143,15 +154,6 @@ module _ (statements : List Numbered) (demand : Demanding) (b : Bindings) where
   inclusions_hold (x ∷ xs) set = then_do (λ _. inclusions_hold xs set) (inclusion_holds x set)
 
   -- ---- variables
-
-  abbrev pub bounds : Option Rational → Option Rational → Bounds
-  bounds lower upper = record { lower = lower; upper = upper }
-
-  abbrev pub with_bound : Bounds → Relation → Rational → Bounds
-  with_bound so_far r.AtLeast q = bounds (Some q) so_far.upper
-  with_bound so_far r.AtMost q = bounds so_far.lower (Some q)
-  with_bound so_far r.Equal q = bounds (Some q) (Some q)
-  with_bound so_far _ q = so_far
 
   abbrev pub bounded_by : Bounds → Attribute → Outcome Bounds
   bounded_by so_far (a.Restriction relation x) = then_do (λ q. Ok (with_bound so_far relation q)) (then_do number_in (value_of x))

@@ -8,6 +8,7 @@ use Rattle.gmpl_fault.specs.Outcome.{Outcome, then_do}
 use Rattle.gmpl_operations.specs.declared.value.Value.{Value}
 use Rattle.gmpl_operations.specs.Values.{symbol_in, truth_in, set_in}
 use Rattle.gmpl_operations.specs.Patterns.{Pattern, matched}
+use Rattle.gmpl_meaning.specs.declared.walk.EntryValue.{EntryValue}
 use Rattle.gmpl_meaning.specs.declared.walk.Element.{Element}
 use Rattle.gmpl_meaning.specs.declared.walk.Walk.{Walk}
 use Rattle.gmpl_meaning.specs.Parts.{Bindings, Meaning, Meant, MeantComponent, MeantEntry, MeantIndexing}
@@ -46,19 +47,20 @@ abbrev pub with_matches : List Element → Element → Pattern → Set → List 
 with_matches found x p [] = found
 with_matches found x p (t ∷ ts) = with_matches (with_match found x t (matched p t)) x p ts
 
--- an element with what an entry's pattern and set give
-abbrev pub entered : List Element → Element → MeantEntry → Bindings → Outcome (List Element)
-entered found x entry b = then_do (λ p. then_do (λ s. Ok (with_matches found x p s)) (entry_set entry.set b)) (pattern entry.index b)
+-- an entry's pattern, and then its set
+abbrev pub entry_value : MeantEntry → Bindings → Outcome EntryValue
+entry_value entry b = then_do (λ p. then_do (λ s. Ok (record { pattern = p; set = s })) (entry_set entry.set b)) (pattern entry.index b)
 
 -- what goes on behind the elements so far, or ends there
-abbrev pub unless_fault : List Element → Outcome (List Element) → (List Element → Walk) → Walk
-unless_fault found (Ok more) go = go more
+abbrev pub unless_fault : {A : Type 0} → List Element → Outcome A → (A → Walk) → Walk
+unless_fault found (Ok a) go = go a
 unless_fault found (Err fault) go = walk found (Some fault)
 
 -- each element with those of the next entry
 abbrev pub extended : MeantEntry → Bindings → List Element → List Element → Option EvalFault → Walk
 extended entry b found [] fault = walk found fault
-extended entry b found (x ∷ xs) fault = unless_fault found (entered found x entry (b ++ x.indices)) (λ more. extended entry b more xs fault)
+extended entry b found (x ∷ xs) fault =
+    unless_fault found (entry_value entry (b ++ x.indices)) (λ v. extended entry b (with_matches found x v.pattern v.set) xs fault)
 
 abbrev pub over_entries : List MeantEntry → Bindings → Walk → Walk
 over_entries [] b w = w
@@ -66,10 +68,8 @@ over_entries (entry ∷ entries) b w = over_entries entries b (extended entry b 
 
 -- ---- the condition
 
-abbrev pub kept_by : List Element → Element → Outcome Bool → Outcome (List Element)
-kept_by found x (Ok true) = Ok (found ++ x ∷ [])
-kept_by found x (Ok false) = Ok found
-kept_by found x (Err fault) = Err fault
+abbrev pub kept_by : List Element → Element → Bool → List Element
+kept_by found x holds = if holds then found ++ x ∷ [] else found
 
 abbrev pub holds : Meant → Bindings → Outcome Bool
 holds condition b = then_do truth_in (condition.value b)
@@ -78,7 +78,7 @@ holds condition b = then_do truth_in (condition.value b)
 abbrev pub filtered : Meant → Bindings → List Element → List Element → Option EvalFault → Walk
 filtered condition b found [] fault = walk found fault
 filtered condition b found (x ∷ xs) fault =
-    unless_fault found (kept_by found x (holds condition (b ++ x.indices))) (λ more. filtered condition b more xs fault)
+    unless_fault found (holds condition (b ++ x.indices)) (λ t. filtered condition b (kept_by found x t) xs fault)
 
 abbrev pub under : Option Meant → Bindings → Walk → Walk
 under None b w = w

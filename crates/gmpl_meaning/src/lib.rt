@@ -5,4 +5,4 @@ mod bounds;
 mod walk;
 
 pub use bounds::Bounds;
-pub use walk::{Element, Walk};
+pub use walk::{Element, EntryValue, Walk};
