@@ -128,9 +128,7 @@ pub fn elements_of(
 {
     match domain {
         None => Ok(start(alloc)?),
-        Some(indexing) => {
-            walked(alloc, context.model, MOST_HEIGHT, ROOM, indexing, bindings)
-        }
+        Some(indexing) => { walked(alloc, context.model, MOST_HEIGHT, ROOM, indexing, bindings) }
     }
 }
 
@@ -144,5 +142,12 @@ pub fn bounds_of(
     ensures value { Gives result (bounds_at context.old.model.now place subscripts.now) }
     ensures same { context.new.model ≡ context.old.model }
 {
-    bounds_by(alloc, context.model, MOST_HEIGHT - 1, ROOM, place, subscripts)
+    bounds_by(
+        alloc,
+        context.model,
+        MOST_HEIGHT - 1,
+        ROOM,
+        place,
+        subscripts,
+    )
 }

@@ -58,34 +58,99 @@ pub(crate) fn eval(
         Expr::Text(text) => Ok(Value::Scalar(Symbol::Word(text.copied(alloc)?))),
         Expr::Named(name, subscripts, suffix) => {
             let subscripts = subscripts.as_slice();
-            named(alloc, model, height, room, *name, subscripts, *suffix, bindings)
+            named(
+                alloc, model, height, room, *name, subscripts, *suffix, bindings,
+            )
         }
         Expr::Call(function, arguments) => {
-            called(alloc, model, height, room, *function, arguments.as_slice(), bindings)
+            called(
+                alloc,
+                model,
+                height,
+                room,
+                *function,
+                arguments.as_slice(),
+                bindings,
+            )
         }
         Expr::Group(parts) => group(alloc, model, height, room, parts.as_slice(), bindings),
         Expr::Braces(indexing) => braces(alloc, model, height, room, indexing, bindings),
         Expr::Iterated(iteration, indexing, body) => {
-            iterated(alloc, model, height, room, *iteration, indexing, body.get(), bindings)
+            iterated(
+                alloc,
+                model,
+                height,
+                room,
+                *iteration,
+                indexing,
+                body.get(),
+                bindings,
+            )
         }
         Expr::If(condition, first, other) => {
             let condition = condition.get();
-            conditional(alloc, model, height, room, condition, first.get(), other, bindings)
+            conditional(
+                alloc,
+                model,
+                height,
+                room,
+                condition,
+                first.get(),
+                other,
+                bindings,
+            )
         }
         Expr::Signed(sign, part) => {
-            signed(*sign, eval(alloc, model, height, room, part.get(), bindings)?)
+            signed(
+                *sign,
+                eval(alloc, model, height, room, part.get(), bindings)?,
+            )
         }
         Expr::Power(base, exponent) => {
-            power(alloc, model, height, room, base.get(), exponent.get(), bindings)
+            power(
+                alloc,
+                model,
+                height,
+                room,
+                base.get(),
+                exponent.get(),
+                bindings,
+            )
         }
         Expr::Chain(first, links) => {
-            chain(alloc, model, height, room, first.get(), links.as_slice(), bindings)
+            chain(
+                alloc,
+                model,
+                height,
+                room,
+                first.get(),
+                links.as_slice(),
+                bindings,
+            )
         }
         Expr::Range(first, last, step) => {
-            range(alloc, model, height, room, first.get(), last.get(), step, bindings)
+            range(
+                alloc,
+                model,
+                height,
+                room,
+                first.get(),
+                last.get(),
+                step,
+                bindings,
+            )
         }
         Expr::Compared(relation, left, right) => {
-            compared(alloc, model, height, room, *relation, left.get(), right.get(), bindings)
+            compared(
+                alloc,
+                model,
+                height,
+                room,
+                *relation,
+                left.get(),
+                right.get(),
+                bindings,
+            )
         }
         Expr::Not(part) => negation(alloc, model, height, room, part.get(), bindings),
     }
@@ -277,7 +342,14 @@ fn braces(
         let walk = walked(alloc, model, height, room, indexing, bindings)?;
         set_over(alloc, &walk)
     } else {
-        listed(alloc, model, height, room, indexing.entries.as_slice(), bindings)
+        listed(
+            alloc,
+            model,
+            height,
+            room,
+            indexing.entries.as_slice(),
+            bindings,
+        )
     }
 }
 
@@ -713,7 +785,15 @@ fn declared(
     match model.statement(place) {
         None => Err(EvalFault::NoValue),
         Some(found) => {
-            member_of(alloc, model, height, room, place, &found.statement, subscripts)
+            member_of(
+                alloc,
+                model,
+                height,
+                room,
+                place,
+                &found.statement,
+                subscripts,
+            )
         }
     }
 }
@@ -732,10 +812,11 @@ fn member_of(
 {
     match statement {
         Statement::Set(set) => set_member(alloc, model, height, room, place, set, subscripts),
-        Statement::Param(param) => param_member(alloc, model, height, room, place, param, subscripts),
+        Statement::Param(param) => param_member(
+            alloc, model, height, room, place, param, subscripts,
+        ),
         Statement::Var(variable) => {
-            variable_bounds(alloc, model, height, room, variable, subscripts)?;
-            variable_form(alloc, place, subscripts)
+            variable_member(alloc, model, height, room, place, variable, subscripts)
         }
         _ => Err(EvalFault::NoValue),
     }
@@ -879,10 +960,14 @@ fn param_member(
 {
     let attributes = param.attributes.as_slice();
     let bindings = within_domain(alloc, model, height, room, &param.head.domain, subscripts)?;
-    let value = source(alloc, model, height, room, &bindings, place, subscripts, attributes)?;
+    let value = source(
+        alloc, model, height, room, &bindings, place, subscripts, attributes,
+    )?;
     let symbolic = is_symbolic(attributes);
     let symbol = held(symbolic, value)?;
-    restricted(alloc, model, height, room, &bindings, symbolic, attributes, symbol)
+    restricted(
+        alloc, model, height, room, &bindings, symbolic, attributes, symbol,
+    )
 }
 
 #[cycle(evaluation)]
@@ -899,7 +984,9 @@ fn restricted(
     ensures { Gives result (restrictions.restricted model.now.statements (member model.now height) bindings.now symbolic attributes.now symbol) }
 {
     where_true(all_allow(attributes, &symbol))?;
-    relations_hold(alloc, model, height, room, bindings, symbolic, attributes, &symbol)?;
+    relations_hold(
+        alloc, model, height, room, bindings, symbolic, attributes, &symbol,
+    )?;
     memberships_hold(alloc, model, height, room, bindings, attributes, &symbol)?;
     Ok(Value::Scalar(symbol))
 }
@@ -918,7 +1005,9 @@ fn relations_hold(
     ensures { Gives result (restrictions.relations_hold model.now.statements (member model.now height) bindings.now symbolic attributes.now symbol.now) }
 {
     for attribute in attributes {
-        relation_holds(alloc, model, height, room, bindings, symbolic, attribute, symbol)?;
+        relation_holds(
+            alloc, model, height, room, bindings, symbolic, attribute, symbol,
+        )?;
     }
     Ok(())
 }
@@ -1012,7 +1101,9 @@ fn set_member(
     if model.is_overfull(place, subscripts) {
         return Err(EvalFault::TooMany);
     }
-    let value = source(alloc, model, height, room, &bindings, place, subscripts, attributes)?;
+    let value = source(
+        alloc, model, height, room, &bindings, place, subscripts, attributes,
+    )?;
     let set = value.into_set()?;
     inclusions_hold(alloc, model, height, room, &bindings, attributes, &set)?;
     Ok(Value::Elements(set))
@@ -1059,6 +1150,24 @@ fn inclusion_holds(
 
 // ---- variables
 
+#[cycle(evaluation)]
+fn variable_member(
+    alloc: Global,
+    model: &LoadedModel,
+    height: u32,
+    room: u32,
+    place: usize,
+    variable: &Declaration,
+    subscripts: &Tuple,
+) -> Result<Value, EvalFault>
+    ensures { Gives result (members.variable_member model.now (member model.now height) place variable.now subscripts.now) }
+{
+    match variable_bounds(alloc, model, height, room, variable, subscripts) {
+        Ok(_) => variable_form(alloc, place, subscripts),
+        Err(fault) => Err(fault),
+    }
+}
+
 /// The bounds of a variable's member.
 #[cycle(evaluation)]
 fn variable_bounds(
@@ -1072,8 +1181,19 @@ fn variable_bounds(
     ensures { Gives result (members.variable_bounds model.now (member model.now height) variable.now subscripts.now) }
 {
     let attributes = variable.attributes.as_slice();
-    let bindings = within_domain(alloc, model, height, room, &variable.head.domain, subscripts)?;
-    let found = bounded(alloc, model, height, room, &bindings, attributes)?;
+    let bindings = within_domain(
+        alloc,
+        model,
+        height,
+        room,
+        &variable.head.domain,
+        subscripts,
+    )?;
+    let none = Bounds {
+        lower: None,
+        upper: None,
+    };
+    let found = bounded(alloc, model, height, room, &bindings, none, attributes)?;
     Ok(where_binary(attributes, found))
 }
 
@@ -1099,6 +1219,7 @@ pub(crate) fn bounds_by(
     }
 }
 
+// Recursion over the attributes, which are few, since bounds can't be carried round a loop.
 #[cycle(evaluation)]
 fn bounded(
     alloc: Global,
@@ -1106,18 +1227,21 @@ fn bounded(
     height: u32,
     room: u32,
     bindings: &Tuple,
+    so_far: Bounds,
     attributes: &[Attribute],
 ) -> Result<Bounds, EvalFault>
-    ensures { Gives result (restrictions.bounded model.now.statements (member model.now height) bindings.now members.no_bounds attributes.now) }
+    ensures { Gives result (restrictions.bounded model.now.statements (member model.now height) bindings.now so_far attributes.now) }
 {
-    let mut found = Bounds {
-        lower: None,
-        upper: None,
-    };
-    for attribute in attributes {
-        found = bounded_by(alloc, model, height, room, bindings, found, attribute)?;
+    if room == 0 {
+        return Err(EvalFault::NoMemory);
     }
-    Ok(found)
+    match attributes {
+        [] => Ok(so_far),
+        [first, others @ ..] => {
+            let more = bounded_by(alloc, model, height, room, bindings, so_far, first)?;
+            bounded(alloc, model, height, room - 1, bindings, more, others)
+        }
+    }
 }
 
 #[cycle(evaluation)]

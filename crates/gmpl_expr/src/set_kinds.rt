@@ -4,7 +4,6 @@ ghost use Rattle.gmpl_meaning.specs.Expressions as spec;
 ghost use Rattle.gmpl_expr.specs.At as at;
 ghost use Rattle.gmpl_resolved.specs.declared.expression.Meaning.TheVariants as names;
 
-
 use gmpl_data::LoadedModel;
 use gmpl_resolved::{Entry, Expr, Indexing, Meaning, Statement};
 use gmpl_syntax::{Iteration, Operator};
@@ -34,9 +33,8 @@ fn makes_set(operator: Operator) -> bool
     ensures { result ≡ spec.makes_set operator }
 {
     match operator {
-        Operator::Union | Operator::Diff | Operator::Symdiff | Operator::Inter | Operator::Cross => {
-            true
-        }
+        Operator::Union | Operator::Diff | Operator::Symdiff | Operator::Inter | Operator::Cross =>
+            { true }
         _ => false,
     }
 }

@@ -3,12 +3,14 @@
 use crate::texts::{fault_word, form_word, set_word, symbol_word, tuple_word};
 use fraction::Frac;
 use gmpl_data::{DataTables, Given, LoadedModel};
-use gmpl_expr::{Context, bounds_of, elements_of, eval_bool, eval_form, eval_num, eval_set, eval_sym};
+use gmpl_expr::{
+    Context, bounds_of, elements_of, eval_bool, eval_form, eval_num, eval_set, eval_sym,
+};
 use gmpl_fault::EvalFault;
 use gmpl_lexer::read_tokens;
+use gmpl_meaning::Walk;
 use gmpl_members::{Members, Value};
 use gmpl_parse::parse;
-use gmpl_meaning::Walk;
 use gmpl_resolved::{Attribute, Expr, Indexing, Numbered, Statement};
 use gmpl_syntax::Relation;
 use gmpl_value::{SetValue, Symbol, Tuple};
@@ -247,9 +249,8 @@ fn add(
         return Ok(());
     };
     match &mut found.statement {
-        Statement::Set(declaration) | Statement::Param(declaration) | Statement::Var(declaration) => {
-            declaration.attributes.push(attribute)
-        }
+        Statement::Set(declaration) | Statement::Param(declaration) | Statement::Var(declaration) =>
+            { declaration.attributes.push(attribute) }
         _ => Ok(()),
     }
 }
@@ -324,7 +325,10 @@ fn give(alloc: Global, given: &mut Given, change: &str) -> Result<(), AllocError
         given.default = Some(Symbol::Number(number(word)));
         return Ok(());
     }
-    match given.values.insert(tuple_of(alloc, member)?, value_of(alloc, word)?) {
+    match given
+        .values
+        .insert(tuple_of(alloc, member)?, value_of(alloc, word)?)
+    {
         Ok(()) => Ok(()),
         Err(_) => Err(AllocError),
     }
@@ -394,9 +398,8 @@ fn bounds_word(alloc: Global, model: &LoadedModel) -> Result<String, AllocError>
 
 fn domain(statement: &Statement) -> &Option<Indexing> {
     match statement {
-        Statement::Set(declaration) | Statement::Param(declaration) | Statement::Var(declaration) => {
-            &declaration.head.domain
-        }
+        Statement::Set(declaration) | Statement::Param(declaration) | Statement::Var(declaration) =>
+            { &declaration.head.domain }
         Statement::Constraint(constraint) => &constraint.head.domain,
         Statement::Objective(objective) => &objective.head.domain,
     }
@@ -432,12 +435,7 @@ fn elements_word(alloc: Global, model: &LoadedModel) -> Result<String, AllocErro
     }
 }
 
-fn member_word(
-    alloc: Global,
-    kind: &str,
-    changes: &str,
-    text: &str,
-) -> Result<String, AllocError> {
+fn member_word(alloc: Global, kind: &str, changes: &str, text: &str) -> Result<String, AllocError> {
     let Some(statements) = statements_of(alloc, text)? else {
         return "no model".to_string(alloc);
     };

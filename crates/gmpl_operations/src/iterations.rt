@@ -52,12 +52,7 @@ fn first(alloc: Global, iteration: Iteration, value: Value) -> Result<Value, Eva
     }
 }
 
-fn next(
-    alloc: Global,
-    iteration: Iteration,
-    total: Value,
-    value: Value,
-) -> Result<Value, EvalFault>
+fn next(alloc: Global, iteration: Iteration, total: Value, value: Value) -> Result<Value, EvalFault>
     ensures { Gives result (spec.next iteration total value) }
 {
     match iteration {
@@ -114,11 +109,7 @@ fn empty(alloc: Global, iteration: Iteration) -> Result<Value, EvalFault>
 }
 
 /// The value behind the last element; over nothing `sum` is 0, `prod` 1, and `min` and `max` have no value.
-pub fn ended(
-    alloc: Global,
-    iteration: Iteration,
-    total: Option<Value>,
-) -> Result<Value, EvalFault>
+pub fn ended(alloc: Global, iteration: Iteration, total: Option<Value>) -> Result<Value, EvalFault>
     ensures { result ≡ spec.ended iteration total }
 {
     match total {

@@ -21,9 +21,8 @@ pub fn taken(operator: Operator, left: Value) -> Result<Value, EvalFault>
 {
     match operator {
         Operator::Or | Operator::And => taken_truth(&left),
-        Operator::Union | Operator::Diff | Operator::Symdiff | Operator::Inter | Operator::Cross => {
-            taken_set(left)
-        }
+        Operator::Union | Operator::Diff | Operator::Symdiff | Operator::Inter | Operator::Cross =>
+            { taken_set(left) }
         Operator::Join => taken_symbol(left),
         Operator::Plus | Operator::Minus | Operator::Times | Operator::Over => taken_amount(left),
         Operator::Less | Operator::Div | Operator::Mod => taken_number(&left),
@@ -91,9 +90,8 @@ pub fn applied(
 {
     match operator {
         Operator::Or | Operator::And => taken_truth(&right),
-        Operator::Union | Operator::Diff | Operator::Symdiff | Operator::Inter | Operator::Cross => {
-            sets_joined(alloc, operator, left, right)
-        }
+        Operator::Union | Operator::Diff | Operator::Symdiff | Operator::Inter | Operator::Cross =>
+            { sets_joined(alloc, operator, left, right) }
         Operator::Join => texts_joined(alloc, left, right),
         Operator::Plus | Operator::Minus | Operator::Times | Operator::Over => {
             amounts_joined(alloc, operator, left, right)

@@ -18,7 +18,11 @@ pub fn bound(
     ensures { IfOk result (λ made. made ≡ spec.bound found pattern.now symbols.now) }
 {
     match pattern {
-        [] => Ok(if symbols.is_empty() { Some(found) } else { None }),
+        [] => Ok(if symbols.is_empty() {
+            Some(found)
+        } else {
+            None
+        }),
         [part, parts @ ..] => match symbols {
             [] => Ok(None),
             [symbol, others @ ..] => component(alloc, found, part, parts, symbol, others),

@@ -40,10 +40,10 @@ abbrev pub decreases-conditional : goal.decreases-conditional
 decreases-conditional l = 32 * l.room + 2
 
 abbrev pub decreases-declared : goal.decreases-declared
-decreases-declared l = 32 * l.room + 9
+decreases-declared l = 32 * l.room + 10
 
 abbrev pub decreases-demanded : goal.decreases-demanded
-decreases-demanded l = 32 * l.room + 10
+decreases-demanded l = 32 * l.room + 11
 
 abbrev pub decreases-entry_value : goal.decreases-entry_value
 decreases-entry_value l = 32 * l.room + 3
@@ -85,7 +85,7 @@ abbrev pub decreases-listed : goal.decreases-listed
 decreases-listed l = 32 * l.room + 1
 
 abbrev pub decreases-member_of : goal.decreases-member_of
-decreases-member_of l = 32 * l.room + 8
+decreases-member_of l = 32 * l.room + 9
 
 abbrev pub decreases-membership_holds : goal.decreases-membership_holds
 decreases-membership_holds l = 32 * l.room + 1
@@ -94,7 +94,7 @@ abbrev pub decreases-memberships_hold : goal.decreases-memberships_hold
 decreases-memberships_hold l = 32 * l.room + 2
 
 abbrev pub decreases-named : goal.decreases-named
-decreases-named l = 32 * l.room + 11
+decreases-named l = 32 * l.room + 12
 
 abbrev pub decreases-negation : goal.decreases-negation
 decreases-negation l = 32 * l.room + 2
@@ -149,6 +149,9 @@ decreases-text_length l = 32 * l.room + 1
 
 abbrev pub decreases-variable_bounds : goal.decreases-variable_bounds
 decreases-variable_bounds l = 32 * l.room + 7
+
+abbrev pub decreases-variable_member : goal.decreases-variable_member
+decreases-variable_member l = 32 * l.room + 8
 
 abbrev pub decreases-walked : goal.decreases-walked
 decreases-walked l = 32 * l.room + 6
@@ -213,7 +216,3 @@ invariant-memberships_hold-loop-attribute l =
 abbrev pub invariant-inclusions_hold-loop-attribute : goal.invariant-inclusions_hold-loop-attribute
 invariant-inclusions_hold-loop-attribute l =
     restrictions.inclusions_hold l.model.statements (member l.model l.height) l.bindings l.attributes l.set ≡ restrictions.inclusions_hold l.model.statements (member l.model l.height) l.bindings (drop l.attribute-index l.attributes) l.set
-
-abbrev pub invariant-bounded-loop-attribute : goal.invariant-bounded-loop-attribute
-invariant-bounded-loop-attribute l =
-    restrictions.bounded l.model.statements (member l.model l.height) l.bindings members.no_bounds l.attributes ≡ restrictions.bounded l.model.statements (member l.model l.height) l.bindings l.found (drop l.attribute-index l.attributes)
