@@ -283,7 +283,7 @@ f 5y+1x.1+0 => y + x[1] + 4 * y
 f !NotANumber => y + 'a'
 ";
 
-fn check(rt: &impl Abort, alloc: Global, table: &str) -> Result<(), Fail> {
+pub(crate) fn check(rt: &impl Abort, alloc: Global, table: &str) -> Result<(), Fail> {
     for row in table.lines() {
         let Some((want, expression)) = row.split_once(" => ") else {
             panic!(rt; "an answer and an expression: {row}");
@@ -295,17 +295,6 @@ fn check(rt: &impl Abort, alloc: Global, table: &str) -> Result<(), Fail> {
         assert_eq!(rt; found.as_str(), want, "at {row}");
     }
     Ok(())
-}
-
-// A set of more than 1,000,000 elements.
-const LARGE: &str = "\
-S !TooMany => {i in 1..1000, j in 1..1001}
-S !TooMany => 1..1000 cross 1..1001
-";
-
-#[test]
-fn large_sets(rt: HostRuntime) -> Result<(), Fail> {
-    check(&rt, rt.alloc(), LARGE)
 }
 
 #[test]
