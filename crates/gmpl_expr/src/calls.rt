@@ -21,7 +21,7 @@ use std::alloc::Global;
 const MOST_HEIGHT: u32 = 400;
 
 // How many expressions may stand within one another, through members too.
-const ROOM: u32 = 2000;
+const ROOM: u32 = 1300;
 
 fn evaluated(
     alloc: Global,

@@ -17,13 +17,13 @@ use crate::attributes::{
     all_allow, assigned, default_of, held, is_in, is_symbolic, where_binary, where_true, with_bound,
 };
 use crate::listing::{add, set_over};
-use crate::parts::{bound_to, closed, kept_value, nothing, ranged, variable_form};
+use crate::parts::{bound_to, closed, kept_value, nothing, ranged, size_of, variable_form};
 use crate::places::{add_matches, copied, start, stopped, within_value};
 use crate::set_kinds::{is_indexing, is_set};
 use fraction::Frac;
 use gmpl_data::LoadedModel;
 use gmpl_fault::EvalFault;
-use gmpl_functions::{card, length, power as power_of};
+use gmpl_functions::{length, power as power_of};
 use gmpl_meaning::{Bounds, EntryValue, Walk};
 use gmpl_operations::{
     Value, applied, called_with_numbers, compared as symbols_compared, decides, ended, is_decided,
@@ -260,8 +260,8 @@ fn size(
     match arguments {
         [] => Err(EvalFault::NotANumber),
         [set, ..] => {
-            let set = eval(alloc, model, height, room, set, bindings)?.into_set()?;
-            Ok(Value::number(card(&set)))
+            let set = eval(alloc, model, height, room, set, bindings)?;
+            size_of(set)
         }
     }
 }
@@ -878,12 +878,27 @@ fn within_entries(
     let mut bindings = Tuple::new(alloc);
     let mut rest = subscripts.copied(alloc)?;
     for entry in entries {
-        let value = entry_value(alloc, model, height, room, entry, &bindings)?;
-        let behind = within_value(alloc, &bindings, &rest, &value)?;
+        let behind = within_entry(alloc, model, height, room, entry, &bindings, &rest)?;
         bindings = behind.0;
         rest = behind.1;
     }
     Ok(bindings)
+}
+
+#[cycle(evaluation)]
+fn within_entry(
+    alloc: Global,
+    model: &LoadedModel,
+    height: u32,
+    room: u32,
+    entry: &Entry,
+    bindings: &Tuple,
+    subscripts: &Tuple,
+) -> Result<(Tuple, Tuple), EvalFault>
+    ensures { Gives result (domains.within_entry (at.entry model.now height entry.now) bindings.now subscripts.now) }
+{
+    let value = entry_value(alloc, model, height, room, entry, bindings)?;
+    within_value(alloc, bindings, subscripts, &value)
 }
 
 // ---- parameters and sets

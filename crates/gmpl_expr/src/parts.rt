@@ -1,7 +1,8 @@
 // Steps of the evaluation that evaluate nothing themselves.
 ghost use Rattle.std.specs.Prelude.{◌≡◌, slice_get, IfOk, [], ◌∷◌, IfSome};
 ghost use Rattle.rational.specs.Rational.{one_ℚ, zero_ℚ};
-ghost use Rattle.gmpl_fault.specs.Outcome.{Gives, GivesAs};
+ghost use Rattle.gmpl_fault.specs.Outcome.{Gives, then_do};
+ghost use Rattle.gmpl_operations.specs.Values.{set_in};
 ghost use Rattle.gmpl_forms.specs.Linear.{linear};
 ghost use Rattle.gmpl_meaning.specs.Expressions as spec;
 ghost use Rattle.gmpl_meaning.specs.Members as members;
@@ -11,6 +12,7 @@ ghost use Rattle.std.specs.Prelude.{Ok};
 use fraction::Frac;
 use gmpl_fault::EvalFault;
 use gmpl_forms::{Form, Variable};
+use gmpl_functions::card;
 use gmpl_members::Value as Kept;
 use gmpl_operations::{Value, ended, is_decided};
 use gmpl_syntax::Iteration;
@@ -35,6 +37,14 @@ pub(crate) fn ranged(alloc: Global, from: Frac, to: Frac, by: Frac) -> Result<Va
         return Err(EvalFault::DivZero);
     }
     Ok(Value::Elements(range(alloc, from, to, by)?))
+}
+
+/// How many elements a set has.
+pub(crate) fn size_of(value: Value) -> Result<Value, EvalFault>
+    ensures { Gives result (then_do spec.counted (set_in value)) }
+{
+    let set = value.into_set()?;
+    Ok(Value::number(card(&set)))
 }
 
 /// What an `if` without `else` is where its condition does not hold.

@@ -125,8 +125,6 @@ pub(crate) fn answer(
 // `symbolic 0` add the attribute. `give 0 1.2 5` gives a member a number, `give 0 1 {5}` a set of one number, `give 0 * 5` a default,
 // and `crowd 0 1` a set's member too many elements.
 const MEMBERS: &str = "\
-n 399 => drop | param own{n in 0..400} := 1; param f{n in 0..400} := if n = 0 then 0 else own[n-1] + 1; param answer := own[399];
-n !Depth => drop | param own{n in 0..400} := 1; param f{n in 0..400} := if n = 0 then 0 else own[n-1] + 1; param answer := own[400];
 n !Depth => drop | param own := 1; param f := own; param answer := own;
 n 10 => drop | param own{n in 0..7, k in 0..n} := 1; param comb{n in 0..7, k in 0..n} := if k = 0 or k = n then 1 else own[n-1,k-1] + own[n-1,k]; param answer := own[5,2];
 n !OutOfDomain => drop | param own{n in 0..7, k in 0..n} := 1; param comb{n in 0..7, k in 0..n} := own[n-1,k]; param answer := own[5,5];

@@ -80,9 +80,12 @@ names_set statements (name.Object place) = declares_set (slice_get statements pl
 
 -- ---- functions
 
+abbrev pub counted : Set → Outcome Value
+counted s = Ok (of_number (whole (pos (length s))))
+
 abbrev pub size : List Meant → Meaning
 size [] b = Err NotANumber
-size (x ∷ xs) b = then_do (λ s. Ok (of_number (whole (pos (length s))))) (then_do set_in (x.value b))
+size (x ∷ xs) b = then_do counted (then_do set_in (x.value b))
 
 abbrev pub text_length : List Meant → Meaning
 text_length [] b = Err NotANumber

@@ -40,10 +40,10 @@ abbrev pub decreases-conditional : goal.decreases-conditional
 decreases-conditional l = 32 * l.room + 2
 
 abbrev pub decreases-declared : goal.decreases-declared
-decreases-declared l = 32 * l.room + 10
+decreases-declared l = 32 * l.room + 11
 
 abbrev pub decreases-demanded : goal.decreases-demanded
-decreases-demanded l = 32 * l.room + 11
+decreases-demanded l = 32 * l.room + 12
 
 abbrev pub decreases-entry_value : goal.decreases-entry_value
 decreases-entry_value l = 32 * l.room + 3
@@ -85,7 +85,7 @@ abbrev pub decreases-listed : goal.decreases-listed
 decreases-listed l = 32 * l.room + 1
 
 abbrev pub decreases-member_of : goal.decreases-member_of
-decreases-member_of l = 32 * l.room + 9
+decreases-member_of l = 32 * l.room + 10
 
 abbrev pub decreases-membership_holds : goal.decreases-membership_holds
 decreases-membership_holds l = 32 * l.room + 1
@@ -94,7 +94,7 @@ abbrev pub decreases-memberships_hold : goal.decreases-memberships_hold
 decreases-memberships_hold l = 32 * l.room + 2
 
 abbrev pub decreases-named : goal.decreases-named
-decreases-named l = 32 * l.room + 12
+decreases-named l = 32 * l.room + 13
 
 abbrev pub decreases-negation : goal.decreases-negation
 decreases-negation l = 32 * l.room + 2
@@ -109,7 +109,7 @@ abbrev pub decreases-over_entries : goal.decreases-over_entries
 decreases-over_entries l = 32 * l.room + 5
 
 abbrev pub decreases-param_member : goal.decreases-param_member
-decreases-param_member l = 32 * l.room + 7
+decreases-param_member l = 32 * l.room + 8
 
 abbrev pub decreases-power : goal.decreases-power
 decreases-power l = 32 * l.room + 2
@@ -127,7 +127,7 @@ abbrev pub decreases-restricted : goal.decreases-restricted
 decreases-restricted l = 32 * l.room + 3
 
 abbrev pub decreases-set_member : goal.decreases-set_member
-decreases-set_member l = 32 * l.room + 7
+decreases-set_member l = 32 * l.room + 8
 
 abbrev pub decreases-size : goal.decreases-size
 decreases-size l = 32 * l.room + 1
@@ -148,22 +148,25 @@ abbrev pub decreases-text_length : goal.decreases-text_length
 decreases-text_length l = 32 * l.room + 1
 
 abbrev pub decreases-variable_bounds : goal.decreases-variable_bounds
-decreases-variable_bounds l = 32 * l.room + 7
+decreases-variable_bounds l = 32 * l.room + 8
 
 abbrev pub decreases-variable_member : goal.decreases-variable_member
-decreases-variable_member l = 32 * l.room + 8
+decreases-variable_member l = 32 * l.room + 9
 
 abbrev pub decreases-walked : goal.decreases-walked
 decreases-walked l = 32 * l.room + 6
 
 abbrev pub decreases-within_domain : goal.decreases-within_domain
-decreases-within_domain l = 32 * l.room + 6
+decreases-within_domain l = 32 * l.room + 7
 
 abbrev pub decreases-within_entries : goal.decreases-within_entries
-decreases-within_entries l = 32 * l.room + 4
+decreases-within_entries l = 32 * l.room + 5
+
+abbrev pub decreases-within_entry : goal.decreases-within_entry
+decreases-within_entry l = 32 * l.room + 4
 
 abbrev pub decreases-within_indexing : goal.decreases-within_indexing
-decreases-within_indexing l = 32 * l.room + 5
+decreases-within_indexing l = 32 * l.room + 6
 
 abbrev pub invariant-symbols-loop-one : goal.invariant-symbols-loop-one
 invariant-symbols-loop-one l =
