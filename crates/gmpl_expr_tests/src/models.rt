@@ -136,8 +136,8 @@ n 8 => default 0, give 0 * 8 | param p{1..2}; param answer := p[2]; param d := 3
 n !NoValue => give 0 1 4 | param p{1..2}; param answer := p[2];
 n 11 => give 0 1 9, give 0 2 2 | param p{1..2}; param answer := p[1] + p[2];
 n !OutOfDomain => give 0 3 9 | param p{1..2}; param answer := p[3];
-n !Restriction => param 0, default 0 | var p{i in 1..2} >= i; param answer := p[2]; param d := 1;
-n 1 => param 0, default 0 | var p{i in 1..2} >= i; param answer := p[1]; param d := 1;
+n !Restriction => param 0, default 0 | var p{i in 1..2} >= i; minimize answer: p[2]; param d := 1;
+n 1 => param 0, default 0 | var p{i in 1..2} >= i; minimize answer: p[1]; param d := 1;
 n !Restriction => integer 0, give 0 1 1/2 | param p{1..2}; param answer := p[1];
 n 5 => integer 0, give 0 1 5 | param p{1..2}; param answer := p[1];
 n !Restriction => binary 0, give 0 1 2 | param p{1..2}; param answer := p[1];
@@ -146,9 +146,9 @@ n 0 => binary 0, give 0 1 0 | param p{1..2}; param answer := p[1];
 n 1 => binary 0, give 0 1 1 | param p{1..2}; param answer := p[1];
 n !Restriction => in 0, give 0 1 4 | param p{1..2}; param answer := p[1]; set s := 1..3;
 n 3 => in 0, give 0 1 3 | param p{1..2}; param answer := p[1]; set s := 1..3;
-n !Restriction => param 0, in 0, give 0 1 0 | var p{i in 1..2} >= i; param answer := p[1]; set s := 1..1/0;
-n !DivZero => param 0, in 0, give 0 1 1 | var p{i in 1..2} >= i; param answer := p[1]; set s := 1..1/0;
-n !Restriction => integer 0, param 0, give 0 1 1/2 | var p{i in 1..2} >= 1/0; param answer := p[1];
+n !Restriction => param 0, in 0, give 0 1 0 | var p{i in 1..2} >= i; minimize answer: p[1]; set s := 1..1/0;
+n !DivZero => param 0, in 0, give 0 1 1 | var p{i in 1..2} >= i; minimize answer: p[1]; set s := 1..1/0;
+n !Restriction => integer 0, param 0, give 0 1 1/2 | var p{i in 1..2} >= 1/0; minimize answer: p[1];
 n 2 => within 0, give 0 1 {2} | set s{1..2}; param answer := card(s[1]) + 1; set t := 1..3;
 n !Restriction => within 0, give 0 1 {4} | set s{1..2}; param answer := card(s[1]); set t := 1..3;
 n !NoValue => within 0 | set s{1..2}; param answer := card(s[1]); set t := 1..3;
@@ -184,7 +184,7 @@ e 1/1 2/2 => - | param y{i in 1..2};
 e 1/ 2/ => - | param y{1..2};
 e 1.2.1/2.1 1.2.2/2.2 => - | set s := {(1,2), (3,4)}; param p{(1,j) in s, k in 1..j};
 e 1/1 2/2 !DivZero => - | param p{i in 1..4: 1 / (i - 3) < 0};
-e 2.2/2.2 1.1/1.1 !DivZero => - | param p{i in 2..0 by -1, j in i..2/i: i = j};
+e 1.1/1.1 !DivZero => - | param p{i in 2..0 by -1, j in i..2/i: i = j};
 ";
 
 fn place_of(word: &str) -> usize {
