@@ -1,5 +1,5 @@
 -- The meaning of ranges and comparisons, part by part.
-use Rattle.std.proofs.Common.{rules, None, Some, ◌≡◌, ◌∙◌, ℕ, Option, List, Result, ap, sym, subst}
+use Rattle.std.proofs.Common.{None, Some, ◌≡◌, ◌∙◌, ℕ, Option, List, Result, ap, sym, subst}
 use Rattle.gmpl_syntax.specs.declared.expression.Relation.{Relation}
 use Rattle.gmpl_resolved.specs.declared.expression.Component.TheOpen.{Expr-F}
 use Rattle.gmpl_resolved.specs.declared.expression.Component.TheFolds.{fold-roll-Expr}

@@ -1,5 +1,5 @@
 -- What the parts of a model mean with so many members left in a chain of demands.
-use Rattle.std.specs.Prelude.{ℕ, Option, Some, None, List, map}
+use Rattle.std.specs.Prelude.{ℕ, Option, List}
 use Rattle.gmpl_resolved.specs.declared.expression.Component.{Component}
 use Rattle.gmpl_resolved.specs.declared.expression.Expr.{Expr}
 use Rattle.gmpl_resolved.specs.declared.expression.Indexing.{Indexing}

@@ -1,4 +1,4 @@
-use Rattle.std.proofs.Common.{◌≡◌, drop, [], ◌++◌}
+use Rattle.std.proofs.Common.{◌≡◌, drop}
 use Rattle.gmpl_meaning.specs.Restrictions as spec
 use Rattle.gmpl_expr.proofs.attributes.default_of.Given as goal
 

@@ -1,5 +1,5 @@
 -- A member's demand, and the parts of ranges and comparisons.
-use Rattle.std.proofs.Common.{◌≡◌, ◌<◌, arith, subst, sym}
+use Rattle.std.proofs.Common.{◌<◌, arith, subst, sym}
 use Rattle.gmpl_fault.specs.Outcome.{Gives}
 use Rattle.gmpl_expr.proofs.Demands.{member_none, member_some}
 use Rattle.gmpl_expr.proofs.Rolled.{compared_at, range_at}

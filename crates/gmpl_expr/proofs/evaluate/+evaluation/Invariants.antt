@@ -1,11 +1,10 @@
 -- How far the evaluation may go on, and what loops keep: what is done, then the rest.
-use Rattle.std.proofs.Common.{◌≡◌, ◌+◌, ◌*◌, [], drop, Ok}
+use Rattle.std.proofs.Common.{◌≡◌, ◌+◌, ◌*◌, [], drop}
 use Rattle.gmpl_expr.specs.At as at
 use Rattle.gmpl_meaning.specs.Expressions as spec
 use Rattle.gmpl_meaning.specs.Walks as walks
 use Rattle.gmpl_meaning.specs.Domains as domains
 use Rattle.gmpl_meaning.specs.Restrictions as restrictions
-use Rattle.gmpl_meaning.specs.Members as members
 use Rattle.gmpl_meaning.specs.Members.{member}
 use Rattle.gmpl_expr.proofs.evaluate.+evaluation.Given as goal
 

@@ -1,4 +1,4 @@
-use Rattle.std.proofs.Common.{◌≡◌, drop, [], ◌++◌}
+use Rattle.std.proofs.Common.{◌≡◌, drop}
 use Rattle.gmpl_meaning.specs.Expressions as spec
 use Rattle.gmpl_expr.proofs.listing.set_over.Given as goal
 

@@ -1,4 +1,4 @@
-use Rattle.std.proofs.Common.{◌≡◌, drop, [], ◌++◌}
+use Rattle.std.proofs.Common.{◌≡◌, drop}
 use Rattle.gmpl_meaning.specs.Walks as walks
 use Rattle.gmpl_expr.proofs.places.add_matches.Given as goal
 

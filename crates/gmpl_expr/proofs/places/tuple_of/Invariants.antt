@@ -1,4 +1,4 @@
-use Rattle.std.proofs.Common.{◌≡◌, drop, [], ◌++◌}
+use Rattle.std.proofs.Common.{◌≡◌, drop, ◌++◌}
 use Rattle.gmpl_expr.proofs.places.tuple_of.Given as goal
 
 abbrev pub invariant-loop-symbol : goal.invariant-loop-symbol

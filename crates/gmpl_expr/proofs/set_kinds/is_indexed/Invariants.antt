@@ -1,4 +1,4 @@
-use Rattle.std.proofs.Common.{◌≡◌, drop, [], ◌++◌}
+use Rattle.std.proofs.Common.{◌≡◌, drop}
 use Rattle.gmpl_expr.specs.At as at
 use Rattle.gmpl_meaning.specs.Expressions as spec
 use Rattle.gmpl_expr.proofs.set_kinds.is_indexed.Given as goal
