@@ -1,0 +1,6 @@
+//! A model together with what data give to its sets and parameters.
+#![tactic(auto)]
+
+mod tables;
+
+pub use tables::{DataTables, Given, LoadedModel};

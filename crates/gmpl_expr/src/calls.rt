@@ -1,0 +1,153 @@
+// The evaluators.
+ghost use Rattle.std.specs.Prelude.{◌≡◌, Ok};
+ghost use Rattle.gmpl_fault.specs.Outcome.{Gives, then_do};
+ghost use Rattle.gmpl_forms.specs.Amounts.{form_in};
+ghost use Rattle.gmpl_meaning.specs.Members.{evaluated, elements_of, bounds_at};
+ghost use Rattle.gmpl_operations.specs.Values.{number_in, symbol_in, set_in, truth_in, amount_in};
+
+use crate::context::Context;
+use crate::evaluate::{bounds_by, eval, walked};
+use crate::places::start;
+use fraction::Frac;
+use gmpl_fault::EvalFault;
+use gmpl_forms::{Amount, Form};
+use gmpl_meaning::{Bounds, Walk};
+use gmpl_operations::Value;
+use gmpl_resolved::{Expr, Indexing};
+use gmpl_value::{SetValue, Symbol, Tuple};
+use std::alloc::Global;
+
+// The longest chain of members.
+const MOST_HEIGHT: u32 = 400;
+
+// How many expressions may stand within one another, through members too.
+const ROOM: u32 = 1300;
+
+fn evaluated(
+    alloc: Global,
+    context: &mut Context<'_>,
+    whole: &Expr,
+    bindings: &Tuple,
+) -> Result<Value, EvalFault>
+    ensures value { Gives result (evaluated context.old.model.now whole.now bindings.now) }
+    ensures same { context.new.model ≡ context.old.model }
+{
+    eval(alloc, context.model, MOST_HEIGHT, ROOM, whole, bindings)
+}
+
+/// The number that an expression comes to. `Nonlinear` where a variable stands in it.
+pub fn eval_num(
+    alloc: Global,
+    context: &mut Context<'_>,
+    whole: &Expr,
+    bindings: &Tuple,
+) -> Result<Frac, EvalFault>
+    ensures value { Gives result (then_do number_in (evaluated context.old.model.now whole.now bindings.now)) }
+    ensures same { context.new.model ≡ context.old.model }
+{
+    let value = evaluated(alloc, context, whole, bindings)?;
+    value.as_number()
+}
+
+/// The symbol that an expression comes to.
+pub fn eval_sym(
+    alloc: Global,
+    context: &mut Context<'_>,
+    whole: &Expr,
+    bindings: &Tuple,
+) -> Result<Symbol, EvalFault>
+    ensures value { Gives result (then_do symbol_in (evaluated context.old.model.now whole.now bindings.now)) }
+    ensures same { context.new.model ≡ context.old.model }
+{
+    let value = evaluated(alloc, context, whole, bindings)?;
+    value.into_symbol()
+}
+
+/// The set that an expression comes to.
+pub fn eval_set(
+    alloc: Global,
+    context: &mut Context<'_>,
+    whole: &Expr,
+    bindings: &Tuple,
+) -> Result<SetValue, EvalFault>
+    ensures value { Gives result (then_do set_in (evaluated context.old.model.now whole.now bindings.now)) }
+    ensures same { context.new.model ≡ context.old.model }
+{
+    let value = evaluated(alloc, context, whole, bindings)?;
+    value.into_set()
+}
+
+/// Whether an expression is true.
+pub fn eval_bool(
+    alloc: Global,
+    context: &mut Context<'_>,
+    whole: &Expr,
+    bindings: &Tuple,
+) -> Result<bool, EvalFault>
+    ensures value { Gives result (then_do truth_in (evaluated context.old.model.now whole.now bindings.now)) }
+    ensures same { context.new.model ≡ context.old.model }
+{
+    let value = evaluated(alloc, context, whole, bindings)?;
+    value.as_truth()
+}
+
+/// The linear form that an expression comes to; a number is a form without terms.
+pub fn eval_form(
+    alloc: Global,
+    context: &mut Context<'_>,
+    whole: &Expr,
+    bindings: &Tuple,
+) -> Result<Form, EvalFault>
+    ensures value { Gives result (then_do (λ a. Ok (form_in a)) (then_do amount_in (evaluated context.old.model.now whole.now bindings.now))) }
+    ensures same { context.new.model ≡ context.old.model }
+{
+    let value = evaluated(alloc, context, whole, bindings)?;
+    let amount = value.into_amount()?;
+    Ok(form(alloc, amount))
+}
+
+fn form(alloc: Global, amount: Amount) -> Form
+    ensures { result ≡ form_in amount }
+{
+    match amount {
+        Amount::Number(number) => Form::number(alloc, number),
+        Amount::Form(form) => form,
+    }
+}
+
+/// What a domain goes over: its elements in order, up to the first fault; without a domain, one element without components. The
+/// only error is want of memory.
+pub fn elements_of(
+    alloc: Global,
+    context: &mut Context<'_>,
+    domain: &Option<Indexing>,
+    bindings: &Tuple,
+) -> Result<Walk, EvalFault>
+    ensures value { Gives result (Ok (elements_of context.old.model.now domain.now bindings.now)) }
+    ensures same { context.new.model ≡ context.old.model }
+{
+    match domain {
+        None => Ok(start(alloc)?),
+        Some(indexing) => { walked(alloc, context.model, MOST_HEIGHT, ROOM, indexing, bindings) }
+    }
+}
+
+/// The bounds of a variable's member.
+pub fn bounds_of(
+    alloc: Global,
+    context: &mut Context<'_>,
+    place: usize,
+    subscripts: &Tuple,
+) -> Result<Bounds, EvalFault>
+    ensures value { Gives result (bounds_at context.old.model.now place subscripts.now) }
+    ensures same { context.new.model ≡ context.old.model }
+{
+    bounds_by(
+        alloc,
+        context.model,
+        MOST_HEIGHT - 1,
+        ROOM,
+        place,
+        subscripts,
+    )
+}

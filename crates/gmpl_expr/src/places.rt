@@ -1,0 +1,168 @@
+// Elements of indexing expressions, and subscripts within an entry's set.
+ghost use Rattle.std.specs.Prelude.{◌≡◌, OnOk, IfOk, take, drop, Ok};
+ghost use Rattle.gmpl_fault.specs.Outcome.{Gives};
+ghost use Rattle.gmpl_expr.specs.Stops as stops;
+ghost use Rattle.gmpl_meaning.specs.Walks as walks;
+ghost use Rattle.gmpl_meaning.specs.Domains as domains;
+ghost use Rattle.gmpl_operations.specs.Patterns.{matched};
+
+use gmpl_fault::EvalFault;
+use gmpl_meaning::{Element, EntryValue, Walk};
+use gmpl_operations::matched;
+use gmpl_value::{Symbol, Tuple};
+use sqlite_items::Items;
+use std::alloc::{AllocError, Global};
+
+/// A walk that ends at a fault.
+pub(crate) fn stopped(found: Items<Element>, fault: EvalFault) -> Result<Walk, EvalFault>
+    ensures { result ≡ stops.stopped found fault }
+{
+    match fault {
+        EvalFault::NoMemory => Err(EvalFault::NoMemory),
+        fault => Ok(Walk {
+            elements: found,
+            fault: Some(fault),
+        }),
+    }
+}
+
+/// The one element before the first entry.
+pub(crate) fn start(alloc: Global) -> Result<Walk, AllocError>
+    ensures { IfOk result (λ made. made ≡ walks.start) }
+{
+    let mut elements = Items::new(alloc);
+    elements.push(Element {
+        indices: Tuple::new(alloc),
+        tuple: Tuple::new(alloc),
+    })?;
+    Ok(Walk {
+        elements,
+        fault: None,
+    })
+}
+
+/// The same element again.
+pub(crate) fn copied(alloc: Global, element: &Element) -> Result<Element, AllocError>
+    ensures { IfOk result (λ made. made ≡ element.now) }
+{
+    Ok(Element {
+        indices: element.indices.copied(alloc)?,
+        tuple: element.tuple.copied(alloc)?,
+    })
+}
+
+fn add_match(
+    alloc: Global,
+    found: &mut Items<Element>,
+    element: &Element,
+    tuple: &Tuple,
+    new: Option<Tuple>,
+) -> Result<(), AllocError>
+    ensures { OnOk result (found.new ≡ walks.with_match found.old element.now tuple.now new) }
+{
+    match new {
+        None => Ok(()),
+        Some(new) => {
+            let indices = element.indices.joined(alloc, &new)?;
+            let tuple = element.tuple.joined(alloc, tuple)?;
+            found.push(Element { indices, tuple })?;
+            Ok(())
+        }
+    }
+}
+
+/// An element with each tuple that matches an entry's pattern.
+pub(crate) fn add_matches(
+    alloc: Global,
+    found: &mut Items<Element>,
+    element: &Element,
+    value: &EntryValue,
+) -> Result<(), AllocError>
+    ensures { OnOk result (found.new ≡ walks.with_matches found.old element.now value.now.pattern value.now.set) }
+{
+    for tuple in value.set.elements() {
+        let new = matched(alloc, &value.pattern, tuple)?;
+        add_match(alloc, found, element, tuple, new)?;
+    }
+    Ok(())
+}
+
+// ---- subscripts
+
+fn width(value: &EntryValue) -> usize
+    ensures { result ≡ domains.width value.now.pattern value.now.set }
+{
+    match &value.pattern {
+        Some(parts) => parts.len(),
+        None => match value.set.elements() {
+            [] => 1,
+            [first, ..] => first.len(),
+        },
+    }
+}
+
+fn tuple_of(alloc: Global, symbols: &[Symbol]) -> Result<Tuple, AllocError>
+    ensures { IfOk result (λ made. made ≡ symbols.now) }
+{
+    let mut made = Tuple::new(alloc);
+    for symbol in symbols {
+        made.push(symbol.copied(alloc)?)?;
+    }
+    Ok(made)
+}
+
+fn first_symbols(symbols: &[Symbol], count: usize) -> &[Symbol]
+    ensures { result.now ≡ take count symbols.now }
+{
+    if count < symbols.len() {
+        &symbols[..count]
+    } else {
+        symbols
+    }
+}
+
+fn other_symbols(symbols: &[Symbol], count: usize) -> &[Symbol]
+    ensures { result.now ≡ drop count symbols.now }
+{
+    if count < symbols.len() {
+        &symbols[count..]
+    } else {
+        &[]
+    }
+}
+
+fn indices_of(
+    alloc: Global,
+    value: &EntryValue,
+    subscripts: &Tuple,
+) -> Result<Option<Tuple>, AllocError>
+    ensures { IfOk result (λ made. made ≡ domains.indices_of value.now.pattern value.now.set subscripts.now) }
+{
+    if value.set.contains(subscripts) {
+        matched(alloc, &value.pattern, subscripts)
+    } else {
+        Ok(None)
+    }
+}
+
+/// The indices in scope behind an entry, and the subscripts that are left; `OutOfDomain` where those that it takes don't lie in
+/// its set or don't match.
+pub(crate) fn within_value(
+    alloc: Global,
+    bindings: &Tuple,
+    subscripts: &Tuple,
+    value: &EntryValue,
+) -> Result<(Tuple, Tuple), EvalFault>
+    ensures { Gives result (domains.within_value bindings.now subscripts.now value.now) }
+{
+    let count = width(value);
+    let own = tuple_of(alloc, first_symbols(subscripts.symbols(), count))?;
+    match indices_of(alloc, value, &own)? {
+        None => Err(EvalFault::OutOfDomain),
+        Some(new) => {
+            let inner = bindings.joined(alloc, &new)?;
+            let rest = tuple_of(alloc, other_symbols(subscripts.symbols(), count))?;
+            Ok((inner, rest))
+        }
+    }
+}

@@ -1,0 +1,471 @@
+// Small models, evaluated. What the parser does not take so far is put into the tree by changes: a row has its answer, the changes,
+// and the model's text, whose last statement is the one that is asked.
+use crate::texts::{fault_word, form_word, set_word, symbol_word, tuple_word};
+use fraction::Frac;
+use gmpl_data::{DataTables, Given, LoadedModel};
+use gmpl_expr::{
+    Context, bounds_of, elements_of, eval_bool, eval_form, eval_num, eval_set, eval_sym,
+};
+use gmpl_fault::EvalFault;
+use gmpl_lexer::read_tokens;
+use gmpl_meaning::Walk;
+use gmpl_members::{Members, Value};
+use gmpl_parse::parse;
+use gmpl_resolved::{Attribute, Expr, Indexing, Numbered, Statement};
+use gmpl_syntax::Relation;
+use gmpl_value::{SetValue, Symbol, Tuple};
+use sqlite_items::Items;
+use std::alloc::{AllocError, Global};
+use std::process::Abort;
+use std::test::Fail;
+
+// The statement that asks for an expression, by the kind of the row.
+fn statement_text(alloc: Global, kind: &str, expression: &str) -> Result<String, AllocError> {
+    match kind {
+        "s" => format!(in alloc; "param answer symbolic := {expression}; end;"),
+        "S" => format!(in alloc; "set answer := {expression}; end;"),
+        "b" => format!(in alloc; "param answer := if {expression} then 1; end;"),
+        "f" => format!(in alloc; "minimize answer: {expression}; end;"),
+        _ => format!(in alloc; "param answer := {expression}; end;"),
+    }
+}
+
+fn statements_of(alloc: Global, text: &str) -> Result<Option<Items<Numbered>>, AllocError> {
+    let tokens = read_tokens(alloc, text.as_bytes())?;
+    match parse(alloc, &tokens) {
+        Ok(model) => Ok(Some(model.statements)),
+        Err(_) => Ok(None),
+    }
+}
+
+fn assigned(attributes: &[Attribute]) -> Option<&Expr> {
+    for attribute in attributes {
+        if let Attribute::Assigned(value) = attribute {
+            return Some(value);
+        }
+    }
+    None
+}
+
+// The expression of the last statement.
+fn asked(statements: &[Numbered]) -> Option<&Expr> {
+    let Some(last) = statements.last() else {
+        return None;
+    };
+    match &last.statement {
+        Statement::Set(set) => assigned(set.attributes.as_slice()),
+        Statement::Param(param) => assigned(param.attributes.as_slice()),
+        Statement::Objective(objective) => Some(&objective.form),
+        _ => None,
+    }
+}
+
+// What stands between `if` and `then`.
+fn condition(whole: &Expr) -> &Expr {
+    match whole {
+        Expr::If(condition, _, _) => condition.get(),
+        _ => whole,
+    }
+}
+
+fn value_word(
+    alloc: Global,
+    context: &mut Context<'_>,
+    kind: &str,
+    whole: &Expr,
+) -> Result<String, EvalFault> {
+    let bindings = Tuple::new(alloc);
+    match kind {
+        "s" => Ok(symbol_word(alloc, &eval_sym(alloc, context, whole, &bindings)?)?),
+        "S" => Ok(set_word(alloc, &eval_set(alloc, context, whole, &bindings)?)?),
+        "b" => {
+            let truth = eval_bool(alloc, context, condition(whole), &bindings)?;
+            Ok((if truth { "1" } else { "0" }).to_string(alloc)?)
+        }
+        "f" => Ok(form_word(alloc, &eval_form(alloc, context, whole, &bindings)?)?),
+        _ => Ok(eval_num(alloc, context, whole, &bindings)?.text(alloc)?),
+    }
+}
+
+fn asked_word(alloc: Global, model: &LoadedModel, kind: &str) -> Result<String, AllocError> {
+    let Some(whole) = asked(model.statements.as_slice()) else {
+        return "no expression".to_string(alloc);
+    };
+    let mut context = Context::new(model);
+    match value_word(alloc, &mut context, kind, whole) {
+        Ok(word) => Ok(word),
+        Err(fault) => fault_word(alloc, fault),
+    }
+}
+
+/// What an expression of this kind comes to behind the statements of a prelude.
+pub(crate) fn answer(
+    alloc: Global,
+    prelude: &str,
+    kind: &str,
+    expression: &str,
+) -> Result<String, AllocError> {
+    let statement = statement_text(alloc, kind, expression)?;
+    let text = format!(in alloc; "{prelude}{statement}")?;
+    let Some(statements) = statements_of(alloc, &text)? else {
+        return "no model".to_string(alloc);
+    };
+    let model = LoadedModel {
+        statements,
+        tables: DataTables::empty(alloc),
+    };
+    asked_word(alloc, &model, kind)
+}
+
+// ---- members: the changes, and the text
+
+// `drop` takes the first statement out, so that its name means the statement behind it: a member that demands its own kind.
+// `param 0` makes a parameter of a variable's statement, whose bounds become restrictions, at this place. `default 0`, `in 0` and
+// `within 0` take the last statement's expression as an attribute of the statement at this place. `integer 0`, `binary 0` and
+// `symbolic 0` add the attribute. `give 0 1.2 5` gives a member a number, `give 0 1 {5}` a set of one number, `give 0 * 5` a default,
+// and `crowd 0 1` a set's member too many elements.
+const MEMBERS: &str = "\
+n !Depth => drop | param own := 1; param f := own; param answer := own;
+n 10 => drop | param own{n in 0..7, k in 0..n} := 1; param comb{n in 0..7, k in 0..n} := if k = 0 or k = n then 1 else own[n-1,k-1] + own[n-1,k]; param answer := own[5,2];
+n !OutOfDomain => drop | param own{n in 0..7, k in 0..n} := 1; param comb{n in 0..7, k in 0..n} := own[n-1,k]; param answer := own[5,5];
+n 3 => default 0 | param p{1..2}; param answer := p[1]; param d := 3;
+n !OutOfDomain => default 0 | param p{1..2}; param answer := p[3]; param d := 3;
+n 4 => default 0, give 0 1 4 | param p{1..2}; param answer := p[1]; param d := 3;
+n 3 => default 0, give 0 1 4 | param p{1..2}; param answer := p[2]; param d := 3;
+n 8 => default 0, give 0 * 8 | param p{1..2}; param answer := p[2]; param d := 3;
+n !NoValue => give 0 1 4 | param p{1..2}; param answer := p[2];
+n 11 => give 0 1 9, give 0 2 2 | param p{1..2}; param answer := p[1] + p[2];
+n !OutOfDomain => give 0 3 9 | param p{1..2}; param answer := p[3];
+n !Restriction => param 0, default 0 | var p{i in 1..2} >= i; minimize answer: p[2]; param d := 1;
+n 1 => param 0, default 0 | var p{i in 1..2} >= i; minimize answer: p[1]; param d := 1;
+n !Restriction => integer 0, give 0 1 1/2 | param p{1..2}; param answer := p[1];
+n 5 => integer 0, give 0 1 5 | param p{1..2}; param answer := p[1];
+n !Restriction => binary 0, give 0 1 2 | param p{1..2}; param answer := p[1];
+n !Restriction => binary 0, give 0 1 1/2 | param p{1..2}; param answer := p[1];
+n 0 => binary 0, give 0 1 0 | param p{1..2}; param answer := p[1];
+n 1 => binary 0, give 0 1 1 | param p{1..2}; param answer := p[1];
+n !Restriction => in 0, give 0 1 4 | param p{1..2}; param answer := p[1]; set s := 1..3;
+n 3 => in 0, give 0 1 3 | param p{1..2}; param answer := p[1]; set s := 1..3;
+n !Restriction => param 0, in 0, give 0 1 0 | var p{i in 1..2} >= i; minimize answer: p[1]; set s := 1..1/0;
+n !DivZero => param 0, in 0, give 0 1 1 | var p{i in 1..2} >= i; minimize answer: p[1]; set s := 1..1/0;
+n !Restriction => integer 0, param 0, give 0 1 1/2 | var p{i in 1..2} >= 1/0; minimize answer: p[1];
+n 2 => within 0, give 0 1 {2} | set s{1..2}; param answer := card(s[1]) + 1; set t := 1..3;
+n !Restriction => within 0, give 0 1 {4} | set s{1..2}; param answer := card(s[1]); set t := 1..3;
+n !NoValue => within 0 | set s{1..2}; param answer := card(s[1]); set t := 1..3;
+n 3 => default 0 | set s; param answer := card(s); set t := 1..3;
+n !TooMany => crowd 0 1 | set s{1..2} := 1..2; param answer := card(s[1]);
+n 2 => crowd 0 1 | set s{1..2} := 1..2; param answer := card(s[2]);
+n !OutOfDomain => crowd 0 3 | set s{1..2} := 1..2; param answer := card(s[3]);
+n !OutOfDomain => drop | param own{1..3, 1..3}; param p{i in 1..3, j in 1..3: i < j and j < 3} := 1; param answer := own[1,3];
+n !NotANumber => - | param p := 'x'; param answer := p;
+n 5 => - | param p := '5'; param answer := p;
+s 'x => symbolic 0 | param p := 'x'; param answer symbolic := p;
+s '5 => symbolic 0 | param p := '5'; param answer symbolic := p;
+n 0 => - | set s{i in 1..3} := 1..i; param p{i in 1..3, j in s[i]} := i - j; param answer := p[3,3];
+n !OutOfDomain => - | set s{i in 1..3} := 1..i; param p{i in 1..3, j in s[i]} := i - j; param answer := p[1,2];
+n 7 => - | set s := {(1,2), (3,4)}; param p{(i,j) in s} := i + j; param answer := p[3,4];
+n !OutOfDomain => - | set s := {(1,2), (3,4)}; param p{s} := 1; param answer := p[1,4];
+n 1 => - | set s := {(1,2), (3,4)}; param p{s, 1..2} := 1; param answer := p[1,2,2];
+n !OutOfDomain => - | set s := {(1,2), (3,4)}; param p{k in 1..2, (1,j) in s} := 1; param answer := p[1,3,4];
+n 2 => - | set s := {(1,2), (3,4)}; param p{k in 1..2, (1,j) in s} := j; param answer := p[2,1,2];
+n !DivZero => - | param p{1/0..2} := 1; param answer := p[1];
+n !OutOfDomain => - | param p{1..2, 1..1/0} := 1; param answer := p[3,1];
+v 1..10 => - | var y{i in 1..2} >= i, <= 10;
+v -..- => - | var y{1..2};
+v 3..3 => - | var y{1..2} = 3;
+v 0..1 => binary 0 | var y{1..2} >= -3;
+v 1/2..1 => binary 0 | var y{1..2} >= 1/2, <= 7;
+v 0..-2 => binary 0 | var y{1..2} <= -2;
+v !OutOfDomain => - | var y{2..3};
+v !DivZero => - | var y{1..2} >= 1/0;
+v !NoValue => - | param y{1..2};
+e / => - | param y;
+e 1/1 2/2 => - | param y{i in 1..2};
+e 1/ 2/ => - | param y{1..2};
+e 1.2.1/2.1 1.2.2/2.2 => - | set s := {(1,2), (3,4)}; param p{(1,j) in s, k in 1..j};
+e 1/1 2/2 !DivZero => - | param p{i in 1..4: 1 / (i - 3) < 0};
+e 1.1/1.1 !DivZero => - | param p{i in 2..0 by -1, j in i..2/i: i = j};
+";
+
+fn place_of(word: &str) -> usize {
+    match word.parse::<usize>() {
+        Ok(place) => place,
+        Err(_) => 0,
+    }
+}
+
+fn number(word: &str) -> Frac {
+    match Frac::read_canonical(word) {
+        Ok(number) => number,
+        Err(_) => Frac::whole(-9999),
+    }
+}
+
+fn in_order(alloc: Global, statements: Items<Numbered>) -> Result<Vec<Numbered>, AllocError> {
+    let mut left = statements;
+    let mut made = Vec::new(alloc);
+    while let Some(statement) = left.pop() {
+        made.push(statement)?;
+    }
+    made.reverse();
+    Ok(made)
+}
+
+fn taken(attributes: Items<Attribute>) -> Option<Expr> {
+    let mut left = attributes;
+    match left.pop() {
+        Some(Attribute::Assigned(value)) => Some(value),
+        _ => None,
+    }
+}
+
+// The last statement's expression.
+fn last_expression(statements: &mut Vec<Numbered>) -> Option<Expr> {
+    let Some(last) = statements.pop() else {
+        return None;
+    };
+    match last.statement {
+        Statement::Set(set) => taken(set.attributes),
+        Statement::Param(param) => taken(param.attributes),
+        _ => None,
+    }
+}
+
+fn as_param(statement: Statement) -> Statement {
+    match statement {
+        Statement::Var(variable) => Statement::Param(variable),
+        other => other,
+    }
+}
+
+fn add(
+    statements: &mut Vec<Numbered>,
+    place: usize,
+    attribute: Attribute,
+) -> Result<(), AllocError> {
+    let Some(found) = statements.get_mut(place) else {
+        return Ok(());
+    };
+    match &mut found.statement {
+        Statement::Set(declaration) | Statement::Param(declaration) | Statement::Var(declaration) =>
+            { declaration.attributes.push(attribute) }
+        _ => Ok(()),
+    }
+}
+
+fn attribute_of(name: &str, statements: &mut Vec<Numbered>) -> Option<Attribute> {
+    match name {
+        "integer" => Some(Attribute::Integer),
+        "binary" => Some(Attribute::Binary),
+        "symbolic" => Some(Attribute::Symbolic),
+        "default" => Some(Attribute::Default(last_expression(statements)?)),
+        "in" => Some(Attribute::Restriction(Relation::In, last_expression(statements)?)),
+        _ => Some(Attribute::Restriction(Relation::Within, last_expression(statements)?)),
+    }
+}
+
+fn make_param(statements: &mut Vec<Numbered>, place: usize) -> Result<(), AllocError> {
+    if place >= statements.len() {
+        return Ok(());
+    }
+    let Numbered { line, statement } = statements.remove(place);
+    statements.insert(
+        place,
+        Numbered {
+            line,
+            statement: as_param(statement),
+        },
+    )?;
+    Ok(())
+}
+
+fn tuple_of(alloc: Global, text: &str) -> Result<Tuple, AllocError> {
+    let mut made = Tuple::new(alloc);
+    for word in text.split('.') {
+        made.push(Symbol::Number(number(word)))?;
+    }
+    Ok(made)
+}
+
+fn value_of(alloc: Global, word: &str) -> Result<Value, AllocError> {
+    let Some(inner) = word.strip_prefix('{') else {
+        return Ok(Value::Scalar(Symbol::Number(number(word))));
+    };
+    let mut set = SetValue::new(alloc);
+    let element = Tuple::single(alloc, Symbol::Number(number(inner.trim_end_matches('}'))))?;
+    match set.insert(element) {
+        Ok(_) => Ok(Value::Elements(set)),
+        Err(_) => Err(AllocError),
+    }
+}
+
+fn nothing_given(alloc: Global) -> Given {
+    Given {
+        values: Members::new(alloc),
+        overfull: SetValue::new(alloc),
+        default: None,
+    }
+}
+
+// What one change gives the object at place 0.
+fn give(alloc: Global, given: &mut Given, change: &str) -> Result<(), AllocError> {
+    let mut words = change.split_whitespace().skip(2);
+    let Some(member) = words.next() else {
+        return Ok(());
+    };
+    let Some(word) = words.next() else {
+        return match given.overfull.insert(tuple_of(alloc, member)?) {
+            Ok(_) => Ok(()),
+            Err(_) => Err(AllocError),
+        };
+    };
+    if member == "*" {
+        given.default = Some(Symbol::Number(number(word)));
+        return Ok(());
+    }
+    match given
+        .values
+        .insert(tuple_of(alloc, member)?, value_of(alloc, word)?)
+    {
+        Ok(()) => Ok(()),
+        Err(_) => Err(AllocError),
+    }
+}
+
+fn change_statements(statements: &mut Vec<Numbered>, change: &str) -> Result<(), AllocError> {
+    let (name, place) = change.split_once(' ').unwrap_or((change, "0"));
+    let place = place_of(place);
+    match name {
+        "-" => Ok(()),
+        "drop" => {
+            if statements.len() > 0 {
+                statements.remove(0);
+            }
+            Ok(())
+        }
+        "param" => make_param(statements, place),
+        _ => match attribute_of(name, statements) {
+            Some(attribute) => add(statements, place, attribute),
+            None => Ok(()),
+        },
+    }
+}
+
+fn changed(
+    alloc: Global,
+    statements: Items<Numbered>,
+    changes: &str,
+) -> Result<LoadedModel, AllocError> {
+    let mut statements = in_order(alloc, statements)?;
+    let mut given = nothing_given(alloc);
+    for change in changes.split(", ") {
+        if change.starts_with("give ") || change.starts_with("crowd ") {
+            give(alloc, &mut given, change)?;
+        } else {
+            change_statements(&mut statements, change)?;
+        }
+    }
+    let mut objects = Items::new(alloc);
+    objects.push(given)?;
+    Ok(LoadedModel {
+        statements: Items::from_vec(statements),
+        tables: DataTables { objects },
+    })
+}
+
+fn bound_word(alloc: Global, bound: Option<Frac>) -> Result<String, AllocError> {
+    match bound {
+        Some(number) => number.text(alloc),
+        None => "-".to_string(alloc),
+    }
+}
+
+// The bounds of the member with the subscript 1 of the first statement.
+fn bounds_word(alloc: Global, model: &LoadedModel) -> Result<String, AllocError> {
+    let mut context = Context::new(model);
+    let subscripts = tuple_of(alloc, "1")?;
+    match bounds_of(alloc, &mut context, 0, &subscripts) {
+        Ok(bounds) => {
+            let lower = bound_word(alloc, bounds.lower)?;
+            let upper = bound_word(alloc, bounds.upper)?;
+            format!(in alloc; "{lower}..{upper}")
+        }
+        Err(fault) => fault_word(alloc, fault),
+    }
+}
+
+fn domain(statement: &Statement) -> &Option<Indexing> {
+    match statement {
+        Statement::Set(declaration) | Statement::Param(declaration) | Statement::Var(declaration) =>
+            { &declaration.head.domain }
+        Statement::Constraint(constraint) => &constraint.head.domain,
+        Statement::Objective(objective) => &objective.head.domain,
+    }
+}
+
+fn walk_word(alloc: Global, walk: &Walk) -> Result<String, AllocError> {
+    let mut made = String::new(alloc);
+    for element in walk.elements.as_slice() {
+        if !made.is_empty() {
+            made.push(' ')?;
+        }
+        made.push_str(tuple_word(alloc, &element.tuple)?.as_str())?;
+        made.push('/')?;
+        made.push_str(tuple_word(alloc, &element.indices)?.as_str())?;
+    }
+    if let Some(fault) = walk.fault {
+        made.push(' ')?;
+        made.push_str(fault_word(alloc, fault)?.as_str())?;
+    }
+    Ok(made)
+}
+
+// What the domain of the last statement goes over: the components, and those of the new indices behind `/`.
+fn elements_word(alloc: Global, model: &LoadedModel) -> Result<String, AllocError> {
+    let Some(last) = model.statements.as_slice().last() else {
+        return "no statement".to_string(alloc);
+    };
+    let mut context = Context::new(model);
+    let bindings = Tuple::new(alloc);
+    match elements_of(alloc, &mut context, domain(&last.statement), &bindings) {
+        Ok(walk) => walk_word(alloc, &walk),
+        Err(fault) => fault_word(alloc, fault),
+    }
+}
+
+fn member_word(alloc: Global, kind: &str, changes: &str, text: &str) -> Result<String, AllocError> {
+    let Some(statements) = statements_of(alloc, text)? else {
+        return "no model".to_string(alloc);
+    };
+    let model = changed(alloc, statements, changes)?;
+    match kind {
+        "v" => bounds_word(alloc, &model),
+        "e" => elements_word(alloc, &model),
+        _ => asked_word(alloc, &model, kind),
+    }
+}
+
+// A row is a kind, an answer, changes and a text.
+fn parts<'a>(rt: &impl Abort, row: &'a str) -> (&'a str, &'a str, &'a str, &'a str) {
+    let Some((head, text)) = row.split_once(" | ") else {
+        panic!(rt; "changes and a text: {row}");
+    };
+    let Some((answer, changes)) = head.split_once(" => ") else {
+        panic!(rt; "an answer and changes: {row}");
+    };
+    let Some((kind, want)) = answer.split_once(' ') else {
+        panic!(rt; "a kind and an answer: {row}");
+    };
+    (kind, want, changes, text)
+}
+
+#[test]
+fn members_of_models(rt: HostRuntime) -> Result<(), Fail> {
+    let alloc = rt.alloc();
+    for row in MEMBERS.lines() {
+        let (kind, want, changes, text) = parts(&rt, row);
+        let found = member_word(alloc, kind, changes, text)?;
+        assert_eq!(rt; found.as_str(), want, "at {row}");
+    }
+    Ok(())
+}

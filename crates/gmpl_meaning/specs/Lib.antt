@@ -1,0 +1,6 @@
+pub mod Parts
+pub mod Walks
+pub mod Expressions
+pub mod Domains
+pub mod Restrictions
+pub mod Members

@@ -1,0 +1,148 @@
+-- What members come to (GNU MathProg Language Reference, sections on the set, the parameter and the variable statement): with at
+-- most so many members in a chain of demands, each evaluated anew.
+use Rattle.std.specs.Prelude.{ℕ, zero, suc, Bool, true, false, Option, Some, None, Ok, Err, List, [], ◌∷◌, if◌then◌else◌}
+use Rattle.rational.specs.Rational.{Rational, zero_ℚ, one_ℚ}
+use Rattle.gmpl_resolved.specs.declared.expression.Expr.{Expr}
+use Rattle.gmpl_resolved.specs.declared.expression.Indexing.{Indexing}
+use Rattle.gmpl_resolved.specs.declared.statement.Attribute.{Attribute}
+use Rattle.gmpl_resolved.specs.declared.statement.Declaration.{Declaration}
+use Rattle.gmpl_resolved.specs.declared.statement.Numbered.{Numbered}
+use Rattle.gmpl_resolved.specs.declared.statement.Statement.{Statement}
+use Rattle.gmpl_resolved.specs.declared.statement.Statement.TheVariants as statement
+use Rattle.gmpl_value.specs.declared.symbol.Symbol.{Symbol}
+use Rattle.gmpl_value.specs.Sets.{Elements as Set}
+use Rattle.gmpl_members.specs.declared.value.Value.{Value as Kept}
+use Rattle.gmpl_members.specs.declared.value.Value.TheVariants as kept
+use Rattle.gmpl_data.specs.declared.tables.LoadedModel.{LoadedModel}
+use Rattle.gmpl_data.specs.Given.{statement_at, value_given, is_overfull, default_given}
+use Rattle.gmpl_fault.specs.declared.fault.EvalFault.TheVariants.{NoValue, TooMany, Depth}
+use Rattle.gmpl_fault.specs.Outcome.{Outcome, then_do}
+use Rattle.gmpl_forms.specs.declared.variable.Variable.{Variable}
+use Rattle.gmpl_forms.specs.Linear.{linear}
+use Rattle.gmpl_operations.specs.declared.value.Value.{Value}
+use Rattle.gmpl_operations.specs.declared.value.Value.TheVariants.{Scalar, Elements, Linear}
+use Rattle.gmpl_operations.specs.Values.{set_in}
+use Rattle.gmpl_meaning.specs.declared.bounds.Bounds.{Bounds}
+use Rattle.gmpl_meaning.specs.declared.walk.Walk.{Walk}
+use Rattle.gmpl_meaning.specs.Parts.{Bindings, Demanding, Meant}
+use Rattle.gmpl_meaning.specs.Walks.{walked, start}
+use Rattle.gmpl_meaning.specs.Expressions.{meaning, indexing_meaning}
+use Rattle.gmpl_meaning.specs.Domains.{within_domain}
+use Rattle.gmpl_meaning.specs.Restrictions.{is_symbolic, is_binary, assigned, default_of, held, restricted, inclusions_hold, bounded, bounds, where_binary}
+
+-- the longest chain of demands
+abbrev pub most_height : ℕ
+most_height = 400
+
+abbrev pub behind_the_first : ℕ
+behind_the_first = 399
+
+abbrev pub as_value : Kept → Value
+as_value (kept.Scalar s) = Scalar s
+as_value (kept.Elements s) = Elements s
+
+abbrev pub variable : ℕ → List Symbol → Variable
+variable place subscripts = record { statement = place; subscripts = subscripts }
+
+abbrev pub no_bounds : Bounds
+no_bounds = record { lower = None; upper = None }
+
+module _ (model : LoadedModel) (demand : Demanding) where
+  abbrev pub value_at : Bindings → Expr → Outcome Value
+  value_at b x = (meaning model.statements demand x).value b
+
+  -- ---- where a member's value comes from: data, else `:=`, else the default of the data, else that of the model
+
+  abbrev pub by_default : Bindings → Option Expr → Outcome Value
+  by_default b None = Err NoValue
+  by_default b (Some x) = value_at b x
+
+  abbrev pub by_data_default : Bindings → Option Symbol → List Attribute → Outcome Value
+  by_data_default b (Some s) xs = Ok (Scalar s)
+  by_data_default b None xs = by_default b (default_of xs)
+
+  abbrev pub by_statement : Bindings → ℕ → Option Expr → List Attribute → Outcome Value
+  by_statement b place (Some x) xs = value_at b x
+  by_statement b place None xs = by_data_default b (default_given model place) xs
+
+  abbrev pub by_data : Bindings → ℕ → Option Kept → List Attribute → Outcome Value
+  by_data b place (Some v) xs = Ok (as_value v)
+  by_data b place None xs = by_statement b place (assigned xs) xs
+
+  abbrev pub source : Bindings → ℕ → List Symbol → List Attribute → Outcome Value
+  source b place subscripts xs = by_data b place (value_given model place subscripts) xs
+
+  -- ---- the three kinds of members
+
+  abbrev pub domain_of : Declaration → List Symbol → Outcome Bindings
+  domain_of d subscripts = within_domain model.statements demand d.head.domain subscripts
+
+  abbrev pub param_within : ℕ → Declaration → List Symbol → Bindings → Outcome Value
+  param_within place d subscripts b =
+      then_do (restricted model.statements demand b (is_symbolic d.attributes) d.attributes)
+      (then_do (held (is_symbolic d.attributes)) (source b place subscripts d.attributes))
+
+  abbrev pub param_member : ℕ → Declaration → List Symbol → Outcome Value
+  param_member place d subscripts = then_do (param_within place d subscripts) (domain_of d subscripts)
+
+  abbrev pub included : Bindings → List Attribute → Set → Outcome Value
+  included b xs set = then_do (λ _. Ok (Elements set)) (inclusions_hold model.statements demand b xs set)
+
+  -- a set to which data give too many elements is TooMany where it is demanded
+  abbrev pub set_source : Bindings → ℕ → List Symbol → List Attribute → Outcome Set
+  set_source b place subscripts xs = if is_overfull model place subscripts then Err TooMany else then_do set_in (source b place subscripts xs)
+
+  abbrev pub set_within : ℕ → Declaration → List Symbol → Bindings → Outcome Value
+  set_within place d subscripts b = then_do (included b d.attributes) (set_source b place subscripts d.attributes)
+
+  abbrev pub set_member : ℕ → Declaration → List Symbol → Outcome Value
+  set_member place d subscripts = then_do (set_within place d subscripts) (domain_of d subscripts)
+
+  abbrev pub bounds_within : Declaration → Bindings → Outcome Bounds
+  bounds_within d b = then_do (λ x. Ok (where_binary (is_binary d.attributes) x)) (bounded model.statements demand b no_bounds d.attributes)
+
+  -- the bounds of a variable's member, evaluated at each demand
+  abbrev pub variable_bounds : Declaration → List Symbol → Outcome Bounds
+  variable_bounds d subscripts = then_do (bounds_within d) (domain_of d subscripts)
+
+  abbrev pub variable_member : ℕ → Declaration → List Symbol → Outcome Value
+  variable_member place d subscripts = then_do (λ _. Ok (Linear (linear ((variable place subscripts, one_ℚ) ∷ []) zero_ℚ))) (variable_bounds d subscripts)
+
+  -- constraints and objectives have no value before `solve`
+  abbrev pub member_of : ℕ → Statement → List Symbol → Outcome Value
+  member_of place (statement.Set d) subscripts = set_member place d subscripts
+  member_of place (statement.Param d) subscripts = param_member place d subscripts
+  member_of place (statement.Var d) subscripts = variable_member place d subscripts
+  member_of place _ subscripts = Err NoValue
+
+  abbrev pub declared : ℕ → Option Numbered → List Symbol → Outcome Value
+  declared place None subscripts = Err NoValue
+  declared place (Some x) subscripts = member_of place x.statement subscripts
+
+  abbrev pub bounds_of : Statement → List Symbol → Outcome Bounds
+  bounds_of (statement.Var d) subscripts = variable_bounds d subscripts
+  bounds_of _ subscripts = Err NoValue
+
+  abbrev pub declared_bounds : Option Numbered → List Symbol → Outcome Bounds
+  declared_bounds None subscripts = Err NoValue
+  declared_bounds (Some x) subscripts = bounds_of x.statement subscripts
+
+-- a member with so many members left in the chain: Depth before anything of it is evaluated
+unfoldable pub member : LoadedModel → ℕ → Demanding
+member model zero place subscripts = Err Depth
+member model (suc height) place subscripts = declared model (member model height) place (statement_at model place) subscripts
+
+-- ---- what is asked of a model with its data
+
+-- an expression, where the indices in scope have these values
+abbrev pub evaluated : LoadedModel → Expr → Bindings → Outcome Value
+evaluated model x b = (meaning model.statements (member model most_height) x).value b
+
+-- what a domain goes over: without a domain, once
+abbrev pub elements_of : LoadedModel → Option Indexing → Bindings → Walk
+elements_of model None b = start
+elements_of model (Some indexing) b = walked (indexing_meaning model.statements (member model most_height) indexing) b
+
+-- the bounds of a variable's member, which is the first in the chain of demands
+abbrev pub bounds_at : LoadedModel → ℕ → List Symbol → Outcome Bounds
+bounds_at model place subscripts = declared_bounds model (member model behind_the_first) (statement_at model place) subscripts

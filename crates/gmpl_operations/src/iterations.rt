@@ -1,0 +1,119 @@
+// What goes over the elements of an indexing expression.
+ghost use Rattle.std.specs.Prelude.{◌≡◌};
+ghost use Rattle.gmpl_fault.specs.Outcome.{Gives};
+ghost use Rattle.gmpl_operations.specs.Iterations as spec;
+
+use crate::operators::{applied, decides, taken};
+use crate::value::Value;
+use fraction::Frac;
+use gmpl_fault::EvalFault;
+use gmpl_functions::{greater, lesser};
+use gmpl_syntax::{Iteration, Operator};
+use gmpl_value::SetValue;
+use std::alloc::Global;
+
+fn with_tuple(alloc: Global, total: Value, value: Value) -> Result<Value, EvalFault>
+    ensures { Gives result (spec.with_tuple total value) }
+{
+    let tuple = value.into_tuple(alloc)?;
+    let mut set = total.into_set()?;
+    match set.insert(tuple) {
+        Ok(_) => Ok(Value::Elements(set)),
+        Err(refused) => Err(EvalFault::from(refused.1)),
+    }
+}
+
+fn greater_value(total: &Value, value: &Value) -> Result<Value, EvalFault>
+    ensures { Gives result (spec.greater_value total.now value.now) }
+{
+    let total = total.as_number()?;
+    let number = value.as_number()?;
+    Ok(Value::number(greater(total, number)))
+}
+
+fn lesser_value(total: &Value, value: &Value) -> Result<Value, EvalFault>
+    ensures { Gives result (spec.lesser_value total.now value.now) }
+{
+    let total = total.as_number()?;
+    let number = value.as_number()?;
+    Ok(Value::number(lesser(total, number)))
+}
+
+fn first(alloc: Global, iteration: Iteration, value: Value) -> Result<Value, EvalFault>
+    ensures { Gives result (spec.first iteration value) }
+{
+    match iteration {
+        Iteration::Sum => taken(Operator::Plus, value),
+        Iteration::Prod => taken(Operator::Times, value),
+        Iteration::Min | Iteration::Max => taken(Operator::Less, value),
+        Iteration::Setof => with_tuple(alloc, Value::Elements(SetValue::new(alloc)), value),
+        Iteration::Forall => taken(Operator::And, value),
+        Iteration::Exists => taken(Operator::Or, value),
+    }
+}
+
+fn next(alloc: Global, iteration: Iteration, total: Value, value: Value) -> Result<Value, EvalFault>
+    ensures { Gives result (spec.next iteration total value) }
+{
+    match iteration {
+        Iteration::Sum => applied(alloc, Operator::Plus, total, value),
+        Iteration::Prod => applied(alloc, Operator::Times, total, value),
+        Iteration::Min => lesser_value(&total, &value),
+        Iteration::Max => greater_value(&total, &value),
+        Iteration::Setof => with_tuple(alloc, total, value),
+        Iteration::Forall => applied(alloc, Operator::And, total, value),
+        Iteration::Exists => applied(alloc, Operator::Or, total, value),
+    }
+}
+
+/// The value so far, where there is one, with one more value.
+pub fn joined(
+    alloc: Global,
+    iteration: Iteration,
+    total: Option<Value>,
+    value: Value,
+) -> Result<Option<Value>, EvalFault>
+    ensures { Gives result (spec.joined iteration total value) }
+{
+    match total {
+        None => Ok(Some(first(alloc, iteration, value)?)),
+        Some(total) => Ok(Some(next(alloc, iteration, total, value)?)),
+    }
+}
+
+/// Whether what is left can't change the value so far: `forall` behind what is false, `exists` behind what is true.
+pub fn is_decided(iteration: Iteration, total: &Option<Value>) -> bool
+    ensures { result ≡ spec.is_decided iteration total.now }
+{
+    match total {
+        None => false,
+        Some(total) => match iteration {
+            Iteration::Forall => decides(Operator::And, total),
+            Iteration::Exists => decides(Operator::Or, total),
+            _ => false,
+        },
+    }
+}
+
+fn empty(alloc: Global, iteration: Iteration) -> Result<Value, EvalFault>
+    ensures { result ≡ spec.empty iteration }
+{
+    match iteration {
+        Iteration::Sum => Ok(Value::number(Frac::zero())),
+        Iteration::Prod => Ok(Value::number(Frac::one())),
+        Iteration::Min | Iteration::Max => Err(EvalFault::NoValue),
+        Iteration::Setof => Ok(Value::Elements(SetValue::new(alloc))),
+        Iteration::Forall => Ok(Value::Truth(true)),
+        Iteration::Exists => Ok(Value::Truth(false)),
+    }
+}
+
+/// The value behind the last element; over nothing `sum` is 0, `prod` 1, and `min` and `max` have no value.
+pub fn ended(alloc: Global, iteration: Iteration, total: Option<Value>) -> Result<Value, EvalFault>
+    ensures { result ≡ spec.ended iteration total }
+{
+    match total {
+        None => empty(alloc, iteration),
+        Some(total) => Ok(total),
+    }
+}
