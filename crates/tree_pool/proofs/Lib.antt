@@ -1,0 +1,10 @@
+mod Slots
+mod Kinds
+mod Ways
+mod LogNodes
+mod Ledgers
+mod Leases
+mod Grafts
+mod Offers
+mod Reclaims
+mod Closed
