@@ -14,6 +14,7 @@ use Rattle.instance.specs.Sums.{and_then, sum_answer}
 use Rattle.rational.specs.Compare.{is_same}
 use Rattle.verdicts.specs.Certificate.{Side as SideOf, Low, High, Derived, TreeNode, Branch, Empty, Bound, Certificate}
 use Rattle.verdicts.specs.Proves.{Part, Proves}
+use Rattle.certificate.specs.Written.{fills, is_tree}
 use Rattle.cert_check.specs.Parts.{point_answer, value_answer, derived_answer, node_answer}
 use Rattle.cert_check.specs.Outcome.{Trial, Outcome, Acceptance, judged, outcome, derived_trials, node_trials, tree_trials, form_goal, verdict_trials, trials}
 use Rattle.cert_check.specs.declared.part.Checked.TheVariants.{Accepted}
@@ -99,3 +100,19 @@ finished_accepted b k f =
 
 pub finished_proves : (b : Board) → IsKept b → IsFinished b → Proves b.problem (certificate_of b)
 finished_proves b k f = check_accepted b.problem (certificate_of b) (Ok Accepted) (sym (finished_accepted b k f)) refl
+
+-- ---- one whole tree
+
+fills_then : (t : Tree) (sides : List SideOf) (more : ℕ) (rest : List TreeNode) → AllLeaves (λ at leaf. IsThere (closed_node leaf)) sides t → fills (suc more) (nodes_of t ++ rest) ≡ fills more rest
+fills_then (AtLeaf (Refuted w)) sides more rest h = refl
+fills_then (AtLeaf (Bounded w)) sides more rest h = refl
+fills_then (AtLeaf (Todo hint)) sides more rest h = absurd h
+fills_then (AtLeaf (Treated hint)) sides more rest h = absurd h
+fills_then (AtLeaf (Leased lease)) sides more rest h = absurd h
+fills_then (AtLeaf (NotFitting e)) sides more rest h = absurd h
+fills_then (AtLeaf (AtLimit bases)) sides more rest h = absurd h
+fills_then (Divided s low high) sides more rest h =
+    ap (fills (suc (suc more))) (append_assoc (nodes_of low) (nodes_of high) rest) ∙ fills_then low (Low s ∷ sides) (suc more) (nodes_of high ++ rest) h.0 ∙ fills_then high (High s ∷ sides) more rest h.1
+
+pub finished_tree : (b : Board) → IsFinished b → is_tree (nodes_of b.tree) ≡ true
+finished_tree b f = ap (fills 1) (sym (append-nil (nodes_of b.tree))) ∙ fills_then b.tree [] zero [] f

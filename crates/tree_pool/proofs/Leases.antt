@@ -29,7 +29,7 @@ lease_is b seat place at way told lease t is_way is_told is_lease is_tree =
 -- the same event, with the way that the log tells
 pub lease_replays : (b : Board) (seat place : ℕ) (at : IsTodoAt b.tree place) (told : List Side) (lease : Lease) (t : Tree) → IsReplay b → told ≡ at.way → lease ≡ next_lease b → t ≡ replaced b.tree at.way (AtLeaf (Leased lease))
     → IsReplay (after b t b.best (Leasing seat) (Given told lease))
-lease_replays b place at told lease t h is_told is_lease is_tree =
+lease_replays b seat place at told lease t h is_told is_lease is_tree =
     let s = lease_is b seat place at told told lease t is_told is_told is_lease is_tree in
     record { cuts = h.cuts; history = one_more (opening b) b.log b (after b t b.best (Leasing seat) (Given told lease)) (record { event = Leasing seat; reply = Given told lease }) h.history s }
 

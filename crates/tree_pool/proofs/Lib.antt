@@ -1,5 +1,5 @@
 mod Slots
-mod Kinds
+mod KindLemmas
 mod Ways
 mod LogNodes
 mod Ledgers
@@ -7,4 +7,6 @@ mod Leases
 mod Grafts
 mod Offers
 mod Reclaims
-mod Closed
+mod ClosedNodes
+mod Replays
+mod BestPoints

@@ -1,5 +1,6 @@
 -- A tree's preorder, with another preorder in the place of a leaf.
 use Rattle.std.proofs.Common.{◌≡◌, ◌∙◌, ℕ, suc, ◌+◌, ◌<◌, length, set, false, Result, Ok, Err, is_err, OnOk, IfOk, take, drop, arith, length-append, List, [], ◌∷◌, ◌++◌, refl, sym, ap, Option, Some, None, IfSome, append_assoc, append-nil}
+use Rattle.verdicts.specs.Certificate.{Split}
 use Rattle.certificate.specs.declared.split.Side.{Side}
 use Rattle.certificate.specs.declared.split.Side.TheVariants.{Low, High}
 use Rattle.search_tree.specs.declared.leaf.Leaf.{Leaf}
@@ -19,10 +20,19 @@ pub record IsCutAt (t : Tree) (way : List Side) (leaf : Leaf) : Type 0 where
   pub number : length before ≡ place_of t way
   pub other : (u : Tree) → before ++ (slots_of u ++ after) ≡ slots_of (replaced t way u)
 
+pub not_there : (side : Side) (leaf : Leaf) → None ≡ Some (AtLeaf leaf) → ⊥
+not_there side leaf h = cc
+
+pub not_a_leaf : (s : Split) (low high : Tree) (leaf : Leaf) → Some (Divided s low high) ≡ Some (AtLeaf leaf) → ⊥
+not_a_leaf s low high leaf h = cc
+
+pub same_leaf : (l leaf : Leaf) → Some (AtLeaf l) ≡ Some (AtLeaf leaf) → l ≡ leaf
+same_leaf l leaf h = cc
+
 abbrev pub cut_at : (t : Tree) (way : List Side) (leaf : Leaf) → at_place t way ≡ Some (AtLeaf leaf) → IsCutAt t way leaf
-cut_at (AtLeaf l) [] leaf h = record { before = []; after = []; is_tree = let same : l ≡ leaf = cc in ap (λ m. slot.Leaf m ∷ []) same; number = refl; other = λ u. append-nil (slots_of u) }
-cut_at (AtLeaf l) (side ∷ way) leaf h = cc
-cut_at (Divided s low high) [] leaf h = cc
+cut_at (AtLeaf l) [] leaf h = record { before = []; after = []; is_tree = ap (λ m. slot.Leaf m ∷ []) (same_leaf l leaf h); number = refl; other = λ u. append-nil (slots_of u) }
+cut_at (AtLeaf l) (side ∷ way) leaf h = absurd (not_there side leaf h)
+cut_at (Divided s low high) [] leaf h = absurd (not_a_leaf s low high leaf h)
 cut_at (Divided s low high) (Low ∷ way) leaf h =
     let k = cut_at low way leaf h in
     let d : Slot = slot.Divided s in

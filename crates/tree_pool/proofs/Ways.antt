@@ -79,6 +79,14 @@ way_is (Divided s low high) [] leaf h = cc
 way_is (Divided s low high) (Low ∷ way) leaf h = ap (λ sides. Low ∷ sides) (way_is low way leaf h)
 way_is (Divided s low high) (High ∷ way) leaf h = ap (λ sides. High ∷ sides) (way_is high way leaf h)
 
+-- the splits on the way, with their sides
+pub sides_are : (t : Tree) (way : List Side) (above : List SideOf) → sides_of (taken_to t way) ++ above ≡ sides_to t way above
+sides_are (AtLeaf l) [] above = refl
+sides_are (Divided s low high) [] above = refl
+sides_are (AtLeaf l) (side ∷ way) above = refl
+sides_are (Divided s low high) (Low ∷ way) above = append_assoc (sides_of (taken_to low way)) (LowOf s ∷ []) above ∙ sides_are low way (LowOf s ∷ above)
+sides_are (Divided s low high) (High ∷ way) above = append_assoc (sides_of (taken_to high way)) (HighOf s ∷ []) above ∙ sides_are high way (HighOf s ∷ above)
+
 -- ---- one node further back
 
 last_kind : (xs : List Kind) (n : ℕ) (k : Kind) → slice_get xs n ≡ Some k → reverse (take (suc n) xs) ≡ k ∷ reverse (take n xs)

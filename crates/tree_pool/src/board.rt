@@ -8,19 +8,22 @@ ghost use Rattle.search_node.specs.Sides.{sides_of};
 ghost use Rattle.search_tree.specs.declared.leaf.Leaf.TheVariants.{Todo, Leased};
 ghost use Rattle.search_tree.specs.Tree.{AtLeaf, AllLeaves, IsTodo, at_place, sides_to, made};
 ghost use Rattle.search_tree.specs.Board.{value_of};
-ghost use Rattle.search_tree.specs.Kept.{AllPass, HasSums};
-ghost use Rattle.search_tree.specs.Steps.{MayGraft, IsGraft, IsOffer, IsReclaim};
+ghost use Rattle.search_tree.specs.Kept.{AllPass, HasSums, IsKept, IsCovered};
+ghost use Rattle.search_tree.specs.Steps.{MayGraft, IsGraft, IsOffer, IsReclaim, IsReplay};
+ghost use Rattle.cert_check.specs.Outcome.{Acceptance, outcome, trials};
+ghost use Rattle.search_tree.specs.Finished.{IsFinished, certificate_of};
 ghost use Rattle.tree_pool.specs.Answers.{IsAnswer};
 ghost use Rattle.tree_pool.specs.Places.{IsTodoAt};
 
 use crate::answer::LeaseAnswer;
+use crate::verdict::certificate_with;
 use crate::choice::Order;
 use crate::ledger::Ledger;
-use certificate::DerivedRows;
+use certificate::{Certificate, DerivedRows};
 use fraction::Frac;
 use instance::{Instance, Point, signed, value};
 use milp::Direction;
-use search_node::{Node, SplitTaken, SplitsTaken};
+use search_node::{Node, SplitsTaken};
 use search_tree::{Lease, Subtree};
 use std::alloc::{AllocError, Global};
 use std::marker::Model;
@@ -231,10 +234,9 @@ impl Board {
             return Err(AllocError);
         };
         let taken = self.ledger.splits_to(alloc, place)?;
-        let splits = splits_taken(alloc, &taken)?;
         Ok(Node {
             root_basis: None,
-            splits,
+            splits: SplitsTaken::from_vec(taken),
         })
     }
 
@@ -273,23 +275,72 @@ impl Board {
         self.splits_made
     }
 
+    /// The board is the replay of its log, and so it is kept: each feasible point that is better than the best lies in a
+    /// leaf that is not closed. A call does nothing: it says that what follows rests on this.
+    pub fn keeps_its_log(&self)
+        ensures replay { IsReplay self.now }
+        ensures kept { IsKept self.now }
+        ensures covered { IsCovered self.now }
+    {
+        let _ledger = &self.ledger;
+    }
+
+    /// The certificate of a board whose leaves are all closed: the checker accepts it. Where memory is wanting the board
+    /// comes back.
+    pub fn into_certificate(self, alloc: Global) -> Result<Certificate, Board>
+        requires { IsFinished self }
+        ensures ok { IfOk result (λ c. c ≡ certificate_of self) }
+        ensures accepted { IfOk result (λ c. outcome (trials self.problem c) ≡ Acceptance) }
+        ensures back { IfErr result (λ b. b ≡ self) }
+    {
+        self.keeps_its_log();
+        self.certified(alloc)
+    }
+
+    // The same, without the check.
+    fn certified(self, alloc: Global) -> Result<Certificate, Board>
+        requires { IsFinished self }
+        ensures ok { IfOk result (λ c. c ≡ certificate_of self) }
+        ensures back { IfErr result (λ b. b ≡ self) }
+    {
+        let Ok(tree) = self.ledger.closed_tree(alloc) else {
+            return Err(self);
+        };
+        let Ok(best) = self.ledger.best_copy(alloc) else {
+            return Err(self);
+        };
+        let rows = self.rows();
+        let columns = self.columns();
+        let Board {
+            cuts, best_value, ..
+        } = self;
+        Ok(certificate_with(
+            rows, columns, cuts, tree, best, best_value,
+        ))
+    }
+
+    // The number of rows of the problem.
+    fn rows(&self) -> u32
+        ensures { result ≡ length self.now.problem.rows }
+    {
+        self.problem.keeps_its_limits();
+        self.problem.rows().len() as u32
+    }
+
+    // The number of columns of the problem.
+    fn columns(&self) -> u32
+        ensures { result ≡ length self.now.problem.columns }
+    {
+        self.problem.keeps_its_limits();
+        self.problem.columns().len() as u32
+    }
+
     /// The number of events.
     pub fn events(&self) -> usize
         ensures { result ≡ length self.now.log }
     {
         self.ledger.count()
     }
-}
-
-// Splits in the list that a node has.
-fn splits_taken(alloc: Global, taken: &[SplitTaken]) -> Result<SplitsTaken, AllocError>
-    ensures { IfOk result (λ splits. splits ≡ taken.now) }
-{
-    let mut splits = SplitsTaken::new(alloc);
-    for split in taken {
-        splits.push(*split)?;
-    }
-    Ok(splits)
 }
 
 // The value is better than the best, where there is one.

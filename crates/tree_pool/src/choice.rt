@@ -1,5 +1,5 @@
 // Which leaf is worked on next.
-ghost use Rattle.std.specs.Prelude.{◌≡◌, ◌⊎◌, Some, None, IfSome};
+ghost use Rattle.std.specs.Prelude.{◌≡◌, ◌⊎◌, true, false, Some, None, IfSome};
 ghost use Rattle.tree_pool.specs.declared.kind.Kind.TheVariants.{ToDo};
 ghost use Rattle.tree_pool.specs.Ledger.{kinds_in, IsPlaceOf, HasNone};
 
@@ -37,7 +37,8 @@ pub(crate) fn chosen(log: &[Entry], nodes: &[NodeRef], order: Order) -> Option<u
 }
 
 fn is_todo(kind: Kind) -> bool
-    ensures { if result then kind ≡ ToDo else ¬ (kind ≡ ToDo) }
+    ensures yes { result ≡ true → kind ≡ ToDo }
+    ensures no { result ≡ false → ¬ (kind ≡ ToDo) }
 {
     match kind {
         Kind::ToDo => true,

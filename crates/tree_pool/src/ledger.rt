@@ -256,6 +256,16 @@ impl Ledger {
         }
     }
 
+    /// A copy of the best point, if there is one.
+    pub(crate) fn best_copy(&self, alloc: Global) -> Result<Option<Point>, AllocError>
+        ensures { IfOk result (λ best. best ≡ self.now.best) }
+    {
+        match self.best() {
+            None => Ok(None),
+            Some(point) => Ok(Some(point.copy(alloc)?)),
+        }
+    }
+
     /// The tree as a certificate has it, without the leaves that are not closed.
     pub(crate) fn closed_tree(&self, alloc: Global) -> Result<Tree, AllocError>
         ensures { IfOk result (λ t. t ≡ nodes_of self.now.tree) }

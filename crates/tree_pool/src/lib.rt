@@ -11,6 +11,7 @@ mod ledger;
 mod put;
 mod refs;
 mod scan;
+mod verdict;
 
 pub use answer::LeaseAnswer;
 pub use board::Board;

@@ -8,7 +8,7 @@ use Rattle.tree_pool.specs.declared.kind.Kind.TheVariants as kind
 use Rattle.tree_pool.specs.Ledger.{IsPlaceOf}
 use Rattle.tree_pool.specs.Places.{IsTodoAt}
 use Rattle.tree_pool.proofs.Slots.{if_some}
-use Rattle.tree_pool.proofs.Kinds.{kinds_are, none_todo, todo_at}
+use Rattle.tree_pool.proofs.KindLemmas.{kinds_are, none_todo, todo_at}
 use Rattle.tree_pool.proofs.ledger.Ledger.chosen.Goals as goal
 
 pub returns-clause-todo : goal.returns-clause-todo

@@ -4,7 +4,7 @@ use Rattle.tree_pool.specs.declared.kind.Kind.{Kind}
 use Rattle.tree_pool.specs.LogNodes.{nodes_in}
 use Rattle.tree_pool.specs.Kinds.{kind_of}
 use Rattle.tree_pool.specs.Ledger.{kinds_in}
-use Rattle.tree_pool.proofs.Kinds.{kinds_are, leased_is}
+use Rattle.tree_pool.proofs.KindLemmas.{kinds_are, leased_is}
 use Rattle.tree_pool.proofs.ledger.Ledger.leased.Goals as goal
 
 pub returns : goal.returns

@@ -1,6 +1,5 @@
 use Rattle.std.proofs.Common.{◌≡◌, ◌∙◌, ◌≤◌, List, length, map, sym, ap, subst, arith, Some, reverse, take}
 use Rattle.certificate.specs.declared.split.Side.{Side as SideOf}
-use Rattle.std.specs.Vec.{Vec}
 use Rattle.search_node.specs.declared.node.SplitTaken.{SplitTaken}
 use Rattle.search_tree.specs.declared.leaf.Leaf.{Leaf as LeafOf}
 use Rattle.search_tree.specs.Slots.{slots_of, place_of}
@@ -12,7 +11,7 @@ use Rattle.tree_pool.specs.Ledger.{kinds_in, taken_back}
 use Rattle.tree_pool.specs.Places.{taken_to}
 use Rattle.tree_pool.proofs.Slots.{place_within, if_ok}
 use Rattle.tree_pool.proofs.Ledgers.{size}
-use Rattle.tree_pool.proofs.Kinds.{kinds_are}
+use Rattle.tree_pool.proofs.KindLemmas.{kinds_are}
 use Rattle.tree_pool.proofs.Ways.{taken_is}
 use Rattle.tree_pool.proofs.ledger.Ledger.splits_to.Goals as goal
 

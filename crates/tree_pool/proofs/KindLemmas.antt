@@ -64,21 +64,21 @@ record IsAt (t : Tree) (place : ℕ) (k : Kind) : Type 0 where
   pub there : at_place t way ≡ Some (AtLeaf leaf)
   pub number : place_of t way ≡ place
 
-IsNoSplit : Kind → Type 0
+abbrev IsNoSplit : Kind → Type 0
 IsNoSplit k = (s : Split) → kind.SplitBy s ≡ k → ⊥
 
 leaf_at : (t : Tree) (n : ℕ) (k : Kind) → IsNoSplit k → slice_get (map kind_of (slots_of t)) n ≡ Some k → IsAt t n k
 leaf_at (AtLeaf leaf) zero k none h = record { way = []; leaf = leaf; is_kind = same_Some _ _ h; there = refl; number = refl }
 leaf_at (AtLeaf leaf) (suc n) k none h = cc
 leaf_at (Divided s low high) zero k none h = absurd (none s (same_Some _ _ h))
-leaf_at (Divided s low high) (suc n) k none h = ⊎_elim on_low on_high (in_either (map kind_of (slots_of low)) (map kind_of (slots_of high)) n k (ap (λ ks. slice_get ks n) (sym (map-append kind_of (slots_of low) (slots_of high))) ∙ h))
+leaf_at (Divided s low high) (suc n) k none h = ⊎_elim (on_low (leaf_at low n k none)) (on_high (λ m e. leaf_at high m k none e)) (in_either (map kind_of (slots_of low)) (map kind_of (slots_of high)) n k (ap (λ ks. slice_get ks n) (sym (map-append kind_of (slots_of low) (slots_of high))) ∙ h))
   where
-    on_low : slice_get (map kind_of (slots_of low)) n ≡ Some k → IsAt (Divided s low high) (suc n) k
-    on_low e = let at = leaf_at low n k none e in record { way = Low ∷ at.way; leaf = at.leaf; is_kind = at.is_kind; there = at.there; number = ap suc at.number }
+    on_low : (slice_get (map kind_of (slots_of low)) n ≡ Some k → IsAt low n k) → slice_get (map kind_of (slots_of low)) n ≡ Some k → IsAt (Divided s low high) (suc n) k
+    on_low below e = let at = below e in record { way = Low ∷ at.way; leaf = at.leaf; is_kind = at.is_kind; there = at.there; number = ap suc at.number }
 
-    on_high : IsPast (map kind_of (slots_of low)) (map kind_of (slots_of high)) n k → IsAt (Divided s low high) (suc n) k
-    on_high past =
-        let at = leaf_at high past.rest k none past.there in
+    on_high : ((m : ℕ) → slice_get (map kind_of (slots_of high)) m ≡ Some k → IsAt high m k) → IsPast (map kind_of (slots_of low)) (map kind_of (slots_of high)) n k → IsAt (Divided s low high) (suc n) k
+    on_high below past =
+        let at = below past.rest past.there in
         let many = size (slots_of low) in
         let e = past.number in
         let f = at.number in
@@ -202,8 +202,11 @@ same_place t place way lease one at h =
     let sum = sum_is f t in
     unique f kinds (place_of t way) (place_of t at.way) (kind.LeasedUnder n) (kind.LeasedUnder at.lease.number) here there (one_of n n refl) (one_of at.lease.number n at.is_under) (omega arith) ∙ at.number
   where
-    one_of : (m n : ℕ) → m ≡ n → cond (m == n) 1 0 ≡ 1
-    one_of m n e = ap (λ t. cond t 1 0) (same m n e)
+    one_or_none : Bool → ℕ
+    one_or_none t = cond t 1 0
+
+    one_of : (m n : ℕ) → m ≡ n → one_or_none (m == n) ≡ one_or_none true
+    one_of m n e = ap one_or_none (same m n e)
       where
         same : (m n : ℕ) → m ≡ n → (m == n) ≡ true
         same m n e = grind (arith, nat_tests)
@@ -215,8 +218,12 @@ one_more [] n k h = cc
 one_more (x ∷ xs) zero k h = ap (λ y. y ∷ xs) (same_Some _ _ h)
 one_more (x ∷ xs) (suc n) k h = one_more xs n k h
 
-pub count_more : (kinds : List Kind) (n count more : ℕ) (k : Kind) → slice_get kinds n ≡ Some k → more ≡ of_kind (λ m. 1) k → count + lease_count (drop n kinds) ≡ lease_count kinds → count + more + lease_count (drop (suc n) kinds) ≡ lease_count kinds
-count_more kinds n count more k there is_more h = let e = ap lease_count (one_more kinds n k there) in omega arith
+pub count_more : (kinds : List Kind) (n count more : ℕ) (k : Kind) → slice_get kinds n ≡ Some k → more ≡ of_kind (λ m. 1) k → count + lease_count (drop n kinds) ≡ lease_count kinds → count + more + lease_count (drop (n + 1) kinds) ≡ lease_count kinds
+count_more kinds n count more k there is_more h =
+    let next : n + 1 ≡ suc n = omega arith in
+    let e = ap lease_count (one_more kinds n k there) in
+    let f = ap (λ m. lease_count (drop m kinds)) next in
+    omega arith
 
 pub none_after : (kinds : List Kind) (n : ℕ) → length kinds ≤ n → drop n kinds ≡ []
 none_after [] zero h = refl
