@@ -34,10 +34,6 @@ under_in n leaf = of_lease (λ lease. cond (lease.number == n) 1 0) (lease_of le
 
 -- ---- a better value
 
--- `best` is at least as good as `goal`, where there is a goal
-IsAsGood : Problem → Option Rational → Option Rational → Type 0
-IsAsGood p best goal = IfSome goal (IsNoBetter p best)
-
 pub leaf_as_good : (p : Problem) (ds : List Derived) (limit : ℕ) (goal best : Option Rational) → IfSome goal (IsNoBetter p best) → (sides : List SideOf) (leaf : Leaf) → KeepsLeaf p ds limit goal sides leaf → KeepsLeaf p ds limit best sides leaf
 leaf_as_good p ds limit goal best h sides (Todo hint) k = tt
 leaf_as_good p ds limit goal best h sides (Treated hint) k = k

@@ -1,5 +1,5 @@
 -- The closed leaves and the branches of a tree in preorder.
-use Rattle.std.proofs.Common.{◌≡◌, ◌∙◌, ℕ, zero, suc, ◌+◌, List, [], ◌∷◌, ◌++◌, map, drop, refl, sym, ap, append_assoc, append-nil, Option, Some, None}
+use Rattle.std.proofs.Common.{◌≡◌, ◌∙◌, List, [], ◌∷◌, ◌++◌, refl, sym, ap, append_assoc, append-nil, Some, None}
 use Rattle.verdicts.specs.Certificate.{TreeNode, Branch}
 use Rattle.search_tree.specs.declared.leaf.Slot.{Slot}
 use Rattle.search_tree.specs.declared.event.Entry.{Entry}
@@ -21,14 +21,3 @@ closed_is (Divided s low high) = ap (λ nodes. Branch s ∷ nodes) (closed_both 
 
 pub closed_nodes : (slots : List Slot) (t : Tree) → slots ≡ slots_of t → closed_slots slots ≡ nodes_of t
 closed_nodes slots t are = ap closed_slots are ∙ closed_is t
-
--- ---- one node more
-
-pub none_closed : (log : List Entry) (done whole : List TreeNode) (refs rest : List NodeRef) (r : NodeRef) → refs ≡ r ∷ rest → closed_in (node_at log r) ≡ None → done ++ closed_slots (nodes_in log refs) ≡ whole → done ++ closed_slots (nodes_in log rest) ≡ whole
-none_closed log done whole refs rest r are none h =
-    ap (λ nodes. done ++ (one_or_none nodes ++ closed_slots (nodes_in log rest))) (sym none) ∙ ap (λ rs. done ++ closed_slots (nodes_in log rs)) (sym are) ∙ h
-
-pub one_closed : (log : List Entry) (done news whole : List TreeNode) (node : TreeNode) (refs rest : List NodeRef) (r : NodeRef) → refs ≡ r ∷ rest → closed_in (node_at log r) ≡ Some node → news ≡ done ++ node ∷ [] → done ++ closed_slots (nodes_in log refs) ≡ whole → news ++ closed_slots (nodes_in log rest) ≡ whole
-one_closed log done news whole node refs rest r are some more h =
-    ap (λ nodes. nodes ++ closed_slots (nodes_in log rest)) more ∙ append_assoc done (node ∷ []) (closed_slots (nodes_in log rest))
-    ∙ ap (λ nodes. done ++ (one_or_none nodes ++ closed_slots (nodes_in log rest))) (sym some) ∙ ap (λ rs. done ++ closed_slots (nodes_in log rs)) (sym are) ∙ h

@@ -1,5 +1,5 @@
 -- What the nodes of a tree are, in preorder.
-use Rattle.std.proofs.Common.{◌≡◌, ◌∙◌, ℕ, zero, suc, ◌+◌, ◌<◌, ◌≤◌, ◌==◌, cond, List, [], ◌∷◌, ◌++◌, Bool, true, false, map, length, drop, refl, sym, ap, subst, Option, Some, None, slice_get, arith, ⊎_elim, inl, inr}
+use Rattle.std.proofs.Common.{◌≡◌, ◌∙◌, ℕ, zero, suc, ◌+◌, ◌<◌, ◌≤◌, ◌==◌, cond, List, [], ◌∷◌, ◌++◌, Bool, true, map, length, drop, refl, sym, ap, subst, Some, slice_get, arith, ⊎_elim, inl, inr}
 use Rattle.std.specs.Prelude.{◌⊎◌}
 use Rattle.std.proofs.lemmas.List.{map-append}
 use Rattle.std.proofs.lemmas.Option.{same_Some}
@@ -12,7 +12,6 @@ use Rattle.search_tree.specs.declared.leaf.Lease.{Lease}
 use Rattle.search_tree.specs.declared.leaf.Leaf.{Leaf}
 use Rattle.search_tree.specs.declared.leaf.Leaf.TheVariants.{Todo, Treated, Leased, Refuted, Bounded, NotFitting, AtLimit}
 use Rattle.search_tree.specs.declared.leaf.Slot.{Slot}
-use Rattle.search_tree.specs.declared.leaf.Slot.TheVariants as slot
 use Rattle.search_tree.specs.declared.event.Entry.{Entry}
 use Rattle.search_tree.specs.Tree.{Tree, Divided, AtLeaf, IsTodo, at_place, AllLeaves, sum_of_leaves, of_lease, lease_of, leased, leased_under}
 use Rattle.search_tree.specs.Slots.{slots_of, place_of}
@@ -130,9 +129,9 @@ leased_at kinds t n place are h =
 none_left : (t : Tree) (sides : List SideOf) → HasNone kind.ToDo (map kind_of (slots_of t)) → AllLeaves (λ sides leaf. ¬ (IsTodo leaf)) sides t
 none_left (AtLeaf leaf) sides h = λ todo. h zero (ap Some (kind_todo leaf todo))
 none_left (Divided s low high) sides h = (
-    none_left low (LowOf s ∷ sides) (λ n e. h (suc n) (ap (λ ks. slice_get ks n) both ∙ left (map kind_of (slots_of low)) (map kind_of (slots_of high)) n kind.ToDo e)),
-    none_left high (HighOf s ∷ sides) (λ n e. h (suc (length (map kind_of (slots_of low)) + n)) (ap (λ ks. slice_get ks (length (map kind_of (slots_of low)) + n)) both ∙ right (map kind_of (slots_of low)) (map kind_of (slots_of high)) n ∙ e)),
-  )
+  none_left low (LowOf s ∷ sides) (λ n e. h (suc n) (ap (λ ks. slice_get ks n) both ∙ left (map kind_of (slots_of low)) (map kind_of (slots_of high)) n kind.ToDo e)),
+  none_left high (HighOf s ∷ sides) (λ n e. h (suc (length (map kind_of (slots_of low)) + n)) (ap (λ ks. slice_get ks (length (map kind_of (slots_of low)) + n)) both ∙ right (map kind_of (slots_of low)) (map kind_of (slots_of high)) n ∙ e)),
+)
   where
     both : map kind_of (slots_of low ++ slots_of high) ≡ map kind_of (slots_of low) ++ map kind_of (slots_of high)
     both = map-append kind_of (slots_of low) (slots_of high)

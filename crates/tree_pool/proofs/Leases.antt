@@ -39,12 +39,6 @@ made_after t place at lease u e = let more = made_replaced t at.way at.leaf (AtL
 pub granted_after : (t : Tree) (place : ℕ) (at : IsTodoAt t place) (lease : Lease) (u : Tree) → u ≡ replaced t at.way (AtLeaf (Leased lease)) → granted t + lease.grant ≡ granted u
 granted_after t place at lease u e = let more = sum_replaced (λ leaf. of_lease (λ l. l.grant) (lease_of leaf)) t at.way at.leaf (AtLeaf (Leased lease)) at.there in let none_held = ap (of_lease (λ l. l.grant)) (todo_not_leased at.leaf at.is_todo) in let same = ap granted e in omega arith
 
-pub grant_is : (made granted limit top total : ℕ) → total ≡ min (made + granted) top → limit < top + 1 → nat_lt total limit ≡ nat_lt (made + granted) limit
-grant_is made granted limit top total e h = go (nat_lt total limit) (nat_lt (made + granted) limit) refl refl
-  where
-    go : (a b : Bool) → nat_lt total limit ≡ a → nat_lt (made + granted) limit ≡ b → nat_lt total limit ≡ nat_lt (made + granted) limit
-    go a b f g = grind (arith, nat_tests)
-
 abbrev pub lease_with : ℕ → ℕ → Option Rational → Lease
 lease_with n g v = record { number = n; grant = g; best = v }
 

@@ -1,12 +1,11 @@
 -- A log with the nodes of the tree that it leads to, after one more entry.
-use Rattle.std.proofs.Common.{◌≡◌, ◌∙◌, ℕ, zero, suc, ◌+◌, ◌-◌, ◌*◌, ◌<◌, ◌≤◌, List, [], ◌∷◌, ◌++◌, Bool, true, false, map, set, length, length-append, take, drop, get_or, reverse, refl, sym, ap, subst, cond, Option, Some, None, IfSome, slice_get, append_assoc, arith}
-use Rattle.std.proofs.lemmas.List.{map-append, take-map, drop-map, reverse-append}
+use Rattle.std.proofs.Common.{◌≡◌, ◌∙◌, ℕ, zero, suc, ◌+◌, ◌-◌, ◌<◌, ◌≤◌, List, [], ◌∷◌, ◌++◌, Bool, true, false, map, set, length, length-append, take, drop, refl, sym, ap, subst, cond, Option, Some, None, IfSome, slice_get, append_assoc, arith}
+use Rattle.std.proofs.lemmas.List.{map-append, take-map, drop-map}
 use Rattle.rational.specs.Rational.{Rational}
 use Rattle.certificate.specs.declared.split.Side.{Side}
-use Rattle.certificate.specs.declared.split.Side.TheVariants.{Low, High}
 use Rattle.search_tree.specs.declared.leaf.Lease.{Lease}
 use Rattle.search_tree.specs.declared.leaf.Leaf.{Leaf}
-use Rattle.search_tree.specs.declared.leaf.Leaf.TheVariants.{Todo, Leased}
+use Rattle.search_tree.specs.declared.leaf.Leaf.TheVariants.{Leased}
 use Rattle.search_tree.specs.declared.leaf.Slot.{Slot}
 use Rattle.search_tree.specs.declared.leaf.Slot.TheVariants as slot
 use Rattle.search_tree.specs.declared.event.Event.TheVariants.{Grafting}
@@ -14,7 +13,7 @@ use Rattle.search_tree.specs.declared.event.Reply.{Reply}
 use Rattle.search_tree.specs.declared.event.Entry.{Entry}
 use Rattle.tree_pool.specs.declared.refs.NodeRef.{NodeRef}
 use Rattle.tree_pool.specs.declared.refs.NodeRef.TheVariants.{Again, Under, Held}
-use Rattle.search_tree.specs.Tree.{Tree, Divided, AtLeaf, at_place, replaced, made}
+use Rattle.search_tree.specs.Tree.{Tree, AtLeaf, at_place, replaced}
 use Rattle.search_tree.specs.Slots.{slots_of, place_of}
 use Rattle.tree_pool.specs.LogNodes.{leased_by, leased_in, node_at, nodes_in, IsInLog, AllInLog, held}
 use Rattle.tree_pool.specs.Ledger.{offered_by, offered_in, best_at}

@@ -1,5 +1,5 @@
 -- A point that is offered: the event, and the best value after it.
-use Rattle.std.proofs.Common.{◌≡◌, ◌∙◌, ℕ, List, Bool, true, false, refl, sym, ap, cond, option_map, Option, Some, None, MatchOption, subst}
+use Rattle.std.proofs.Common.{◌≡◌, ◌∙◌, ℕ, List, Bool, true, false, refl, ap, cond, option_map, Option, Some, None, MatchOption, subst}
 use Rattle.rational.specs.Rational.{Rational, ◌*ℚ◌}
 use Rattle.milp.specs.Problem.{Problem}
 use Rattle.milp.specs.Points.{Feasible, objective_value, sign_of}

@@ -1,5 +1,5 @@
 -- A scan back over the preorder finds the way to a leaf.
-use Rattle.std.proofs.Common.{◌≡◌, ◌≢◌, ◌∙◌, ℕ, zero, suc, ◌+◌, ◌-◌, ◌<◌, List, [], ◌∷◌, ◌++◌, length, map, take, reverse, refl, sym, ap, Option, Some, None, slice_get, append_assoc, append-nil, arith}
+use Rattle.std.proofs.Common.{◌≡◌, ◌≢◌, ◌∙◌, ℕ, zero, suc, ◌-◌, ◌<◌, List, [], ◌∷◌, ◌++◌, length, map, take, reverse, refl, sym, ap, Option, Some, None, slice_get, append_assoc, append-nil, arith}
 use Rattle.std.proofs.lemmas.List.{map-append, reverse-append, take-map}
 use Rattle.verdicts.specs.Certificate.{Split, Side as SideOf, Low as LowOf, High as HighOf}
 use Rattle.certificate.specs.declared.split.Side.{Side}
@@ -8,7 +8,6 @@ use Rattle.search_node.specs.declared.node.SplitTaken.{SplitTaken}
 use Rattle.search_node.specs.Sides.{sides_of}
 use Rattle.search_tree.specs.declared.leaf.Leaf.{Leaf}
 use Rattle.search_tree.specs.declared.leaf.Leaf.TheVariants.{Todo, Treated, Leased, Refuted, Bounded, NotFitting, AtLimit}
-use Rattle.search_tree.specs.declared.leaf.Slot.{Slot}
 use Rattle.search_tree.specs.declared.leaf.Slot.TheVariants as slot
 use Rattle.search_tree.specs.Tree.{Tree, Divided, AtLeaf, at_place, sides_to}
 use Rattle.search_tree.specs.Slots.{slots_of, place_of}
@@ -112,18 +111,3 @@ none_more done = refl
 
 pub one_taken_more : (done news : List SplitTaken) (t : SplitTaken) → news ≡ done ++ t ∷ [] → reverse news ≡ one_taken (Some t) ++ reverse done
 one_taken_more done news t h = ap reverse h ∙ reverse-append done (t ∷ [])
-
--- ---- a split
-
-pub over_low : (s : Split) (skip : ℕ) (before : List Kind) → skip ≡ 0 → taken_back (kind.SplitBy s ∷ before) skip ≡ taken_back before 0 ++ record { split = s; side = Low } ∷ []
-over_low s skip before h = rw h refl
-
-pub over_high : (s : Split) (skip : ℕ) (before : List Kind) → skip ≡ 1 → taken_back (kind.SplitBy s ∷ before) skip ≡ taken_back before 0 ++ record { split = s; side = High } ∷ []
-over_high s skip before h = rw h refl
-
-pub over_tree : (s : Split) (skip : ℕ) (before : List Kind) → skip ≢ 0 → skip ≢ 1 → taken_back (kind.SplitBy s ∷ before) skip ≡ taken_back before (skip - 1) ++ []
-over_tree s zero before z o = absurd (z refl)
-over_tree s (suc zero) before z o = absurd (o refl)
-over_tree s (suc (suc skip)) before z o =
-    let next : suc skip ≡ suc (suc skip) - 1 = omega arith in
-    ap (taken_back before) next ∙ sym (append-nil (taken_back before (suc (suc skip) - 1)))

@@ -1,8 +1,6 @@
 -- The nodes of a board's tree, read from its log, which owns the trees that were put in.
-use Rattle.std.specs.Prelude.{ℕ, zero, suc, ◌<◌, Bool, true, false, cond, List, [], ◌∷◌, map, Option, Some, None, slice_get}
-use Rattle.verdicts.specs.Certificate.{Split}
-use Rattle.search_tree.specs.declared.leaf.Leaf.{Leaf}
-use Rattle.search_tree.specs.declared.leaf.Leaf.TheVariants.{Todo, Treated, Leased, Refuted, Bounded, NotFitting, AtLimit}
+use Rattle.std.specs.Prelude.{ℕ, zero, suc, ◌<◌, List, [], ◌∷◌, map, Option, Some, None, slice_get}
+use Rattle.search_tree.specs.declared.leaf.Leaf.TheVariants.{Todo, Leased}
 use Rattle.search_tree.specs.declared.leaf.Slot.{Slot}
 use Rattle.search_tree.specs.declared.leaf.Slot.TheVariants as slot
 use Rattle.search_tree.specs.declared.event.Event.{Event}

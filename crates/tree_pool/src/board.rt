@@ -16,9 +16,9 @@ ghost use Rattle.tree_pool.specs.Answers.{IsAnswer};
 ghost use Rattle.tree_pool.specs.Places.{IsTodoAt};
 
 use crate::answer::LeaseAnswer;
-use crate::verdict::certificate_with;
 use crate::choice::Order;
 use crate::ledger::Ledger;
+use crate::verdict::certificate_with;
 use certificate::{Certificate, DerivedRows};
 use fraction::Frac;
 use instance::{Instance, Point, signed, value};
@@ -312,11 +312,11 @@ impl Board {
         let rows = self.rows();
         let columns = self.columns();
         let Board {
-            cuts, best_value, ..
+            cuts,
+            best_value,
+            ..
         } = self;
-        Ok(certificate_with(
-            rows, columns, cuts, tree, best, best_value,
-        ))
+        Ok(certificate_with(rows, columns, cuts, tree, best, best_value))
     }
 
     // The number of rows of the problem.

@@ -1,4 +1,4 @@
-use Rattle.std.proofs.Common.{◌≡◌, ◌<◌, ◌-◌, ℕ, length, slice_get, Option, Some, None, IfSome}
+use Rattle.std.proofs.Common.{◌≡◌, ◌<◌, ◌-◌, ℕ, length, slice_get, Some, None, IfSome}
 use Rattle.tree_pool.specs.declared.kind.Kind.TheVariants.{ToDo}
 use Rattle.tree_pool.specs.Ledger.{kinds_in, IsPlaceOf}
 use Rattle.tree_pool.proofs.choice.chosen.Given as goal

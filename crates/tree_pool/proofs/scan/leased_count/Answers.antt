@@ -1,5 +1,5 @@
-use Rattle.std.proofs.Common.{◌≡◌, ◌∙◌, ◌+◌, ap, arith, length, drop}
-use Rattle.tree_pool.specs.Ledger.{kinds_in, lease_count}
+use Rattle.std.proofs.Common.{arith}
+use Rattle.tree_pool.specs.Ledger.{kinds_in}
 use Rattle.tree_pool.proofs.KindLemmas.{count_more}
 use Rattle.tree_pool.proofs.scan.leased_count.Goals as goal
 

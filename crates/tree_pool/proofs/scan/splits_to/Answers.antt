@@ -1,7 +1,6 @@
-use Rattle.std.proofs.Common.{◌≡◌, ◌∙◌, ◌-◌, ◌+◌, ◌++◌, ◌∷◌, [], Some, None, Option, refl, sym, ap, subst, arith, reverse, take}
+use Rattle.std.proofs.Common.{◌≡◌, ◌∙◌, ◌++◌, ◌∷◌, [], Some, None, Option, refl, sym, ap, subst, arith, reverse}
 use Rattle.search_node.specs.declared.node.SplitTaken.{SplitTaken}
-use Rattle.tree_pool.specs.declared.kind.Kind.{Kind}
-use Rattle.tree_pool.specs.Ledger.{kinds_in, taken_back, one_taken}
+use Rattle.tree_pool.specs.Ledger.{kinds_in, one_taken}
 use Rattle.tree_pool.proofs.Ways.{step_back, none_more, one_taken_more}
 use Rattle.tree_pool.proofs.scan.splits_to.Goals as goal
 

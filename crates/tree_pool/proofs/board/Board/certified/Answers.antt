@@ -1,4 +1,4 @@
-use Rattle.std.proofs.Common.{◌≡◌, ◌∙◌, List, length, sym, ap, subst, true, is_some, Option, IfSome}
+use Rattle.std.proofs.Common.{◌≡◌, ◌∙◌, List, length, sym, ap, subst, is_some, Option, IfSome}
 use Rattle.rational.specs.Rational.{Rational}
 use Rattle.certificate.specs.Written.{is_tree}
 use Rattle.search_tree.specs.Board.{Board}

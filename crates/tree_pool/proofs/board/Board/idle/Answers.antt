@@ -1,6 +1,6 @@
-use Rattle.std.proofs.Common.{◌≡◌, ◌∙◌, [], sym, ap, subst, option_map}
+use Rattle.std.proofs.Common.{◌≡◌, [], sym, subst, option_map}
 use Rattle.milp.specs.Points.{objective_value}
-use Rattle.search_tree.specs.Tree.{IsTodo, AllLeaves, made, granted, leased}
+use Rattle.search_tree.specs.Tree.{IsTodo, AllLeaves, made, granted}
 use Rattle.search_tree.specs.Board.{Board}
 use Rattle.search_tree.specs.Steps.{IsReplay}
 use Rattle.tree_pool.specs.Ledger.{Ledger}

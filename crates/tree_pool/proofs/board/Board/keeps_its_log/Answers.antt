@@ -2,7 +2,6 @@ use Rattle.std.proofs.Common.{subst}
 use Rattle.search_tree.specs.Steps.{IsReplay}
 use Rattle.search_tree.specs.Kept.{IsKept, IsCovered}
 use Rattle.search_tree.proofs.Laws.{covered, replay_kept}
-use Rattle.search_tree.specs.Board.{Board}
 use Rattle.tree_pool.proofs.board.Board.keeps_its_log.Goals as goal
 
 pub returns-clause-replay : goal.returns-clause-replay

@@ -1,5 +1,4 @@
-use Rattle.std.proofs.Common.{◌≡◌, ◌∙◌, List, Some, [], sym, ap, subst, append-nil}
-use Rattle.certificate.specs.declared.split.Side.{Side as SideOf}
+use Rattle.std.proofs.Common.{◌≡◌, ◌∙◌, Some, [], sym, ap, subst, append-nil}
 use Rattle.search_node.specs.Sides.{sides_of}
 use Rattle.search_tree.specs.declared.leaf.Leaf.TheVariants.{Leased}
 use Rattle.search_tree.specs.Tree.{AtLeaf, at_place, sides_to}

@@ -1,4 +1,4 @@
-use Rattle.std.proofs.Common.{◌≡◌, ◌∙◌, sym, ap}
+use Rattle.std.proofs.Common.{◌≡◌, ◌∙◌, ap}
 use Rattle.search_tree.specs.Slots.{slots_of}
 use Rattle.search_tree.specs.Finished.{nodes_of}
 use Rattle.tree_pool.specs.LogNodes.{nodes_in}

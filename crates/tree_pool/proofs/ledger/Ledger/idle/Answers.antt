@@ -1,9 +1,9 @@
-use Rattle.std.proofs.Common.{◌≡◌, ◌∙◌, ◌++◌, ◌∷◌, [], refl, sym, ap}
+use Rattle.std.proofs.Common.{◌≡◌, ◌∙◌, ◌++◌, ◌∷◌, [], sym, ap}
 use Rattle.search_tree.specs.declared.event.Entry.{Entry}
 use Rattle.search_tree.specs.declared.event.Event.TheVariants.{Idling}
 use Rattle.search_tree.specs.declared.event.Reply.TheVariants.{StillLeased}
 use Rattle.search_tree.specs.Slots.{slots_of, tree_of}
-use Rattle.tree_pool.proofs.Ledgers.{all_later, best_in_log, same_best, same_nodes_in}
+use Rattle.tree_pool.proofs.Ledgers.{all_later, best_in_log, same_nodes_in}
 use Rattle.tree_pool.proofs.ledger.Ledger.idle.Goals as goal
 
 pub invariant_of-self-2 : goal.invariant_of-self-2

@@ -1,6 +1,5 @@
-use Rattle.std.proofs.Common.{◌≡◌, ◌∙◌, map, sym, ap}
+use Rattle.std.proofs.Common.{◌≡◌, ◌∙◌, map, ap}
 use Rattle.search_tree.specs.Slots.{slots_of}
-use Rattle.tree_pool.specs.declared.kind.Kind.{Kind}
 use Rattle.tree_pool.specs.LogNodes.{nodes_in}
 use Rattle.tree_pool.specs.Kinds.{kind_of}
 use Rattle.tree_pool.specs.Ledger.{kinds_in}

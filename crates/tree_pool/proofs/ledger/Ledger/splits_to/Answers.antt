@@ -1,14 +1,9 @@
-use Rattle.std.proofs.Common.{◌≡◌, ◌∙◌, ◌≤◌, List, length, map, sym, ap, subst, arith, Some, reverse, take}
-use Rattle.certificate.specs.declared.split.Side.{Side as SideOf}
-use Rattle.search_node.specs.declared.node.SplitTaken.{SplitTaken}
-use Rattle.search_tree.specs.declared.leaf.Leaf.{Leaf as LeafOf}
-use Rattle.search_tree.specs.Slots.{slots_of, place_of}
-use Rattle.search_tree.specs.Tree.{AtLeaf, at_place}
+use Rattle.std.proofs.Common.{◌≡◌, ◌∙◌, ◌≤◌, List, length, map, sym, ap, subst, arith}
+use Rattle.search_tree.specs.Slots.{slots_of}
 use Rattle.tree_pool.specs.declared.refs.NodeRef.{NodeRef}
 use Rattle.tree_pool.specs.LogNodes.{nodes_in}
 use Rattle.tree_pool.specs.Kinds.{kind_of}
-use Rattle.tree_pool.specs.Ledger.{kinds_in, taken_back}
-use Rattle.tree_pool.specs.Places.{taken_to}
+use Rattle.tree_pool.specs.Ledger.{kinds_in}
 use Rattle.tree_pool.proofs.Slots.{place_within, if_ok}
 use Rattle.tree_pool.proofs.Ledgers.{size}
 use Rattle.tree_pool.proofs.KindLemmas.{kinds_are}
