@@ -1,0 +1,28 @@
+-- The way to each place of a kept tree is honest.
+use Rattle.std.proofs.Common.{◌+◌, ◌≤◌, List, [], ◌∷◌, length, arith}
+use Rattle.milp.specs.Problem.{Problem}
+use Rattle.verdicts.specs.Certificate.{Side as SideOf, Low as LowOf, High as HighOf, Derived}
+use Rattle.certificate.specs.declared.split.Side.{Side}
+use Rattle.certificate.specs.declared.split.Side.TheVariants.{Low, High}
+use Rattle.search_tree.specs.Tree.{Tree, Divided, AtLeaf, sides_to, AllSplits, made}
+use Rattle.search_tree.specs.Board.{Board}
+use Rattle.search_tree.specs.Nodes.{IsHonestSplit}
+use Rattle.search_tree.specs.Kept.{IsKept}
+use Rattle.search_tree.specs.Honest.{AreHonest, IsHonestWay}
+
+ways_honest : (p : Problem) (ds : List Derived) (t : Tree) (way : List Side) (sides : List SideOf) → AllSplits (IsHonestSplit p ds) sides t → AreHonest p ds sides → AreHonest p ds (sides_to t way sides)
+ways_honest p ds (Divided s low high) [] sides h above = above
+ways_honest p ds (AtLeaf leaf) [] sides h above = above
+ways_honest p ds (AtLeaf leaf) (side ∷ way) sides h above = above
+ways_honest p ds (Divided s low high) (Low ∷ way) sides h above = ways_honest p ds low way (LowOf s ∷ sides) h.1 (h.0, above)
+ways_honest p ds (Divided s low high) (High ∷ way) sides h above = ways_honest p ds high way (HighOf s ∷ sides) h.2 (h.0, above)
+
+way_short : (t : Tree) (way : List Side) (sides : List SideOf) → length (sides_to t way sides) ≤ made t + length sides
+way_short (Divided s low high) [] sides = omega arith
+way_short (AtLeaf leaf) [] sides = omega arith
+way_short (AtLeaf leaf) (side ∷ way) sides = omega arith
+way_short (Divided s low high) (Low ∷ way) sides = let more = way_short low way (LowOf s ∷ sides) in omega arith
+way_short (Divided s low high) (High ∷ way) sides = let more = way_short high way (HighOf s ∷ sides) in omega arith
+
+pub way_is_honest : (b : Board) → IsKept b → (way : List Side) → IsHonestWay b.problem b.cuts b.split_limit (sides_to b.tree way [])
+way_is_honest b k way = record { count = let short = way_short b.tree way [] in let within = k.within in omega arith; splits = ways_honest b.problem b.cuts b.tree way [] k.splits tt }

@@ -1,0 +1,11 @@
+-- The laws of trees and boards that other crates cite.
+
+-- a tree's preorder
+pub use Rattle.search_tree.proofs.Slots.{nodes_count, one_tree}
+-- trees with another one in a place
+pub use Rattle.search_tree.proofs.Trees.{made_reclaimed, made_replaced, none_leased, reclaimed_none_leased, sum_replaced, todo_not_leased}
+-- histories, and the boards that are kept
+pub use Rattle.search_tree.proofs.Histories.{one_more, replay_kept}
+pub use Rattle.search_tree.proofs.Covered.{covered}
+-- the certificate of a finished board
+pub use Rattle.search_tree.proofs.Finished.{finished_accepted, finished_tree}

@@ -1,0 +1,10 @@
+mod Slots
+mod Trees
+mod Passing
+mod Covered
+mod Steps
+mod Histories
+mod Finished
+mod Honest
+mod Treated
+pub mod Laws

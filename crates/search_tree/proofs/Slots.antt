@@ -1,0 +1,12 @@
+-- A tree's preorder.
+use Rattle.std.proofs.Common.{◌≡◌, ◌+◌, ◌*◌, length, length-append, arith, refl, sym, ap}
+use Rattle.search_tree.specs.Tree.{Tree, Divided, AtLeaf, made}
+use Rattle.search_tree.specs.Slots.{slots_of, AreOneTree, tree_again}
+
+pub one_tree : (t : Tree) → AreOneTree (slots_of t)
+one_tree t = ap slots_of (sym (tree_again t))
+
+-- splits are half of the nodes
+pub nodes_count : (t : Tree) → length (slots_of t) ≡ made t * 2 + 1
+nodes_count (AtLeaf leaf) = refl
+nodes_count (Divided s low high) = let l = nodes_count low in let h = nodes_count high in let both = length-append (slots_of low) (slots_of high) in omega arith

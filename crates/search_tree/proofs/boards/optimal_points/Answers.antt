@@ -1,0 +1,6 @@
+use Rattle.search_tree.proofs.Passing.{passing_optimum}
+use Rattle.search_tree.proofs.Treated.{found_optimum}
+use Rattle.search_tree.proofs.boards.optimal_points.Goals as goal
+
+pub returns : goal.returns
+returns c = record { tested = passing_optimum; found = found_optimum }

@@ -1,0 +1,9 @@
+pub mod Tree
+pub mod Slots
+pub mod Nodes
+pub mod Work
+pub mod Board
+pub mod Kept
+pub mod Steps
+pub mod Finished
+pub mod Honest

@@ -1,0 +1,65 @@
+// What holds of boards and their nodes.
+ghost use Rattle.std.specs.Prelude.{List, [], ◌≡◌, Option, Some, None, IfSome};
+ghost use Rattle.rational.specs.Rational.{Rational};
+ghost use Rattle.milp.specs.Problem.{Problem};
+ghost use Rattle.milp.specs.Points.{objective_value};
+ghost use Rattle.verdicts.specs.Certificate.{Side as SideOf, Weights, Derived, Bound};
+ghost use Rattle.verdicts.specs.Proves.{Proves};
+ghost use Rattle.basis.specs.Dictionary.{Dictionary};
+ghost use Rattle.basis.specs.Node.{IsOverColumns, IsNodePoint};
+ghost use Rattle.basis.specs.Relaxation.{IsOptimalRelaxation};
+ghost use Rattle.basis.specs.declared.Place.{Place};
+ghost use Rattle.cert_check.specs.Outcome.{Acceptance, outcome, trials};
+ghost use Rattle.certificate.specs.declared.split.Side.{Side};
+ghost use Rattle.search_tree.specs.Nodes.{IsRelaxedOptimum, IsTreated, IsWorthwhile, NodePasses};
+ghost use Rattle.search_tree.specs.Tree.{sides_to};
+ghost use Rattle.search_tree.specs.Board.{Board};
+ghost use Rattle.search_tree.specs.declared.event.Event.{Event};
+ghost use Rattle.search_tree.specs.declared.event.Reply.{Reply};
+ghost use Rattle.search_tree.specs.Kept.{IsNoBetter, IsKept, IsCovered};
+ghost use Rattle.search_tree.specs.Steps.{Step, IsReplay};
+ghost use Rattle.search_tree.specs.Finished.{IsFinished, certificate_of};
+ghost use Rattle.search_tree.specs.Honest.{IsHonestWay};
+
+/// A kept board covers each better point, and each event keeps it. So a board that is the replay of its log is kept.
+pub fn kept_boards()
+    ensures covered { (b : Board) → IsKept b → IsCovered b }
+    ensures steps { (b c : Board) (event : Event) (reply : Reply) → IsKept b → Step b event reply c → IsKept c }
+    ensures replays { (b : Board) → IsReplay b → IsKept b }
+{}
+
+/// The way to each place of a kept board is honest, and no longer than the limit of splits.
+pub fn ways_of_boards()
+    ensures { (b : Board) → IsKept b → (way : List Side) → IsHonestWay b.problem b.cuts b.split_limit (sides_to b.tree way []) }
+{}
+
+/// The checker accepts the certificate of a kept board whose leaves are all closed: it refuses no part, and all its
+/// operations fit. So the certificate proves its verdict.
+pub fn finished_boards()
+    ensures accepted { (b : Board) → IsKept b → IsFinished b → outcome (trials b.problem (certificate_of b)) ≡ Acceptance }
+    ensures proves { (b : Board) → IsKept b → IsFinished b → Proves b.problem (certificate_of b) }
+{}
+
+/// A point of a node's relaxation is optimal there where weights that pass the checker's test show its own value, and
+/// where the simplex method finds it.
+pub fn optimal_points()
+    ensures tested { (p : Problem) (ds : List Derived) (sides : List SideOf) (x : List Rational) (w : Weights) →
+        IsNodePoint p ds sides x → NodePasses p (Some (objective_value p x)) ds sides (Bound w) → IsRelaxedOptimum p ds sides x }
+    ensures found { (p : Problem) (ds : List Derived) (sides : List SideOf) (x : List Rational) (w : Weights) (b : List Place)
+        (d : Dictionary) → IsOverColumns p ds sides → IsOptimalRelaxation p ds sides x w b d → IsRelaxedOptimum p ds sides x }
+{}
+
+/// A leaf that is bounded stays so where a better best value is found: its sums are the same, and only a comparison
+/// changes.
+pub fn bounded_leaves()
+    ensures { (p : Problem) (ds : List Derived) (sides : List SideOf) (w : Weights) (goal best : Option Rational) →
+        IfSome goal (IsNoBetter p best) → NodePasses p goal ds sides (Bound w) → NodePasses p best ds sides (Bound w) }
+{}
+
+/// A node that was treated against a best value may stay as a leaf, and may be split for that value.
+pub fn treated_nodes()
+    ensures leaf { (p : Problem) (ds : List Derived) (sides : List SideOf) (best : Option Rational) →
+        IsTreated p ds sides best → IsTreated p ds sides None }
+    ensures worthwhile { (p : Problem) (ds : List Derived) (sides : List SideOf) (best : Option Rational) →
+        IsTreated p ds sides best → IsWorthwhile p ds best sides }
+{}

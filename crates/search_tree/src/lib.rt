@@ -1,0 +1,17 @@
+//! The tree of a search over integer columns: its leaves, its board with the events that change it, and the law that each
+//! event keeps the board so that no better point is lost.
+#![tactic(auto)]
+
+mod boards;
+mod event;
+mod leaf;
+mod subtree;
+mod way;
+
+pub use boards::{
+    bounded_leaves, finished_boards, kept_boards, optimal_points, treated_nodes, ways_of_boards,
+};
+pub use event::{Entry, Event, Reply};
+pub use leaf::{Hint, Leaf, Lease, Slot};
+pub use subtree::Subtree;
+pub use way::Way;

@@ -1,0 +1,72 @@
+// Trees of splits.
+ghost use Rattle.std.specs.Prelude.{◌≡◌, length, IfOk};
+ghost use Rattle.search_tree.specs.Tree.{Divided, AtLeaf, made};
+ghost use Rattle.search_tree.specs.Slots.{slots_of};
+ghost use Rattle.search_tree.specs.declared.leaf.Leaf.TheVariants.{Todo};
+
+use crate::{Hint, Leaf, Slot};
+use certificate::Split;
+use std::alloc::{AllocError, Global};
+use std::marker::Model;
+
+/// A tree of splits, kept in preorder.
+#[derive(Drop)]
+pub struct Subtree {
+    slots: Vec<Slot>,
+}
+
+impl Model for Subtree {
+    ghost use Rattle.search_tree.specs.Tree.{Tree};
+    ghost use Rattle.search_tree.specs.Slots.{tree_of, tree_code, AreOneTree};
+
+    ghost Value = { Tree };
+
+    ghost coded = { tree_code };
+
+    ghost view = { λ t. tree_of t.slots.items };
+
+    ghost invariant = { λ t. AreOneTree t.slots.items };
+}
+
+impl Subtree {
+    /// The tree of one leaf.
+    pub fn leaf(alloc: Global, leaf: Leaf) -> Result<Self, AllocError>
+        ensures { IfOk result (λ t. t ≡ AtLeaf leaf) }
+    {
+        let mut slots = Vec::with_capacity(alloc, 1)?;
+        slots.push_reserved(Slot::Leaf(leaf));
+        Ok(Subtree { slots })
+    }
+
+    /// The tree of one split, whose sides no one has worked on, with hints for them.
+    pub fn split(alloc: Global, split: Split, low: Hint, high: Hint) -> Result<Self, AllocError>
+        ensures { IfOk result (λ t. t ≡ Divided split (AtLeaf (Todo low)) (AtLeaf (Todo high))) }
+    {
+        let mut slots = Vec::with_capacity(alloc, 3)?;
+        slots.push_reserved(Slot::Divided(split));
+        slots.push_reserved(Slot::Leaf(Leaf::Todo(low)));
+        slots.push_reserved(Slot::Leaf(Leaf::Todo(high)));
+        Ok(Subtree { slots })
+    }
+
+    /// The nodes in preorder, for reading.
+    pub fn as_slice(&self) -> &[Slot]
+        ensures { result.now ≡ slots_of self.now }
+    {
+        &self.slots
+    }
+
+    /// The number of nodes.
+    pub fn count(&self) -> usize
+        ensures { result ≡ length (slots_of self.now) }
+    {
+        self.slots.len()
+    }
+
+    /// The number of splits.
+    pub fn splits(&self) -> usize
+        ensures { result ≡ made self.now }
+    {
+        self.count() / 2
+    }
+}

@@ -1,0 +1,12 @@
+mod Slots
+mod KindLemmas
+mod Ways
+mod LogNodes
+mod Ledgers
+mod Leases
+mod Grafts
+mod Offers
+mod Reclaims
+mod ClosedNodes
+mod Replays
+mod BestPoints

@@ -1,0 +1,5 @@
+pub mod LogNodes
+pub mod Kinds
+pub mod Ledger
+pub mod Places
+pub mod Answers

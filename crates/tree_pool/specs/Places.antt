@@ -1,0 +1,40 @@
+-- Places of leaves in a tree.
+use Rattle.std.specs.Prelude.{ℕ, ◌≡◌, List, [], ◌∷◌, Some}
+use Rattle.certificate.specs.declared.split.Side.{Side}
+use Rattle.certificate.specs.declared.split.Side.TheVariants.{Low, High}
+use Rattle.search_node.specs.declared.node.SplitTaken.{SplitTaken}
+use Rattle.search_tree.specs.declared.leaf.Lease.{Lease}
+use Rattle.search_tree.specs.declared.leaf.Leaf.{Leaf}
+use Rattle.search_tree.specs.declared.leaf.Leaf.TheVariants.{Leased}
+use Rattle.search_tree.specs.Tree.{Tree, Divided, AtLeaf, IsTodo, at_place}
+use Rattle.search_tree.specs.Slots.{place_of}
+
+-- a leaf stands at this place of the preorder
+pub record IsLeafAt (t : Tree) (place : ℕ) : Type 0 where
+  pub way : List Side
+  pub leaf : Leaf
+  pub there : at_place t way ≡ Some (AtLeaf leaf)
+  pub number : place_of t way ≡ place
+
+-- a leaf that is to be worked on stands at this place of the preorder
+pub record IsTodoAt (t : Tree) (place : ℕ) : Type 0 where
+  pub way : List Side
+  pub leaf : Leaf
+  pub is_todo : IsTodo leaf
+  pub there : at_place t way ≡ Some (AtLeaf leaf)
+  pub number : place_of t way ≡ place
+
+-- a leaf that is leased under this number stands at this place of the preorder
+pub record IsLeasedAt (t : Tree) (under place : ℕ) : Type 0 where
+  pub way : List Side
+  pub lease : Lease
+  pub is_under : lease.number ≡ under
+  pub there : at_place t way ≡ Some (AtLeaf (Leased lease))
+  pub number : place_of t way ≡ place
+
+-- the splits on the way to a place, the first of them first
+abbrev pub taken_to : Tree → List Side → List SplitTaken
+taken_to t [] = []
+taken_to (AtLeaf leaf) (side ∷ way) = []
+taken_to (Divided s low high) (Low ∷ way) = record { split = s; side = Low } ∷ taken_to low way
+taken_to (Divided s low high) (High ∷ way) = record { split = s; side = High } ∷ taken_to high way

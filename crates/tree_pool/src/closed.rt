@@ -1,0 +1,78 @@
+// The tree of a certificate.
+ghost use Rattle.std.specs.Prelude.{◌≡◌, option_map, IfOk, Some};
+ghost use Rattle.certificate.specs.Values.{node_of};
+ghost use Rattle.search_tree.specs.Kept.{closed_node};
+ghost use Rattle.tree_pool.specs.LogNodes.{node_at, nodes_in};
+ghost use Rattle.tree_pool.specs.Ledger.{closed_in, closed_slots};
+
+use crate::kind::held;
+use crate::refs::NodeRef;
+use certificate::{Tree, TreeNode};
+use search_tree::{Entry, Leaf, Slot};
+use std::alloc::{AllocError, Global};
+
+// The nodes of closed leaves, and the branches, in preorder.
+pub(crate) fn closed_tree(
+    alloc: Global,
+    log: &[Entry],
+    nodes: &[NodeRef],
+) -> Result<Tree, AllocError>
+    ensures { IfOk result (λ t. t ≡ closed_slots (nodes_in log.now nodes.now)) }
+{
+    let mut tree = Tree::new(alloc);
+    for node in nodes {
+        match closed_at(alloc, log, *node)? {
+            None => {}
+            Some(closed) => {
+                if tree.push(closed).is_err() {
+                    return Err(AllocError);
+                }
+            }
+        }
+    }
+    Ok(tree)
+}
+
+// The node of a certificate, where one stands here.
+fn closed_at(alloc: Global, log: &[Entry], node: NodeRef) -> Result<Option<TreeNode>, AllocError>
+    ensures { IfOk result (λ o. option_map node_of o ≡ closed_in (node_at log.now node)) }
+{
+    match node {
+        NodeRef::Again => Ok(None),
+        NodeRef::Under(_) => Ok(None),
+        NodeRef::Held(entry, n) => held_closed(alloc, log, entry, n),
+    }
+}
+
+fn held_closed(
+    alloc: Global,
+    log: &[Entry],
+    entry: usize,
+    n: usize,
+) -> Result<Option<TreeNode>, AllocError>
+    ensures { IfOk result (λ o. option_map node_of o ≡ closed_in (node_at log.now (NodeRef.Held entry n))) }
+{
+    match held(log, entry, n) {
+        None => Ok(None),
+        Some(slot) => slot_closed(alloc, slot),
+    }
+}
+
+fn slot_closed(alloc: Global, slot: &Slot) -> Result<Option<TreeNode>, AllocError>
+    ensures { IfOk result (λ o. option_map node_of o ≡ closed_in slot.now) }
+{
+    match slot {
+        Slot::Divided(split) => Ok(Some(TreeNode::Branch(*split))),
+        Slot::Leaf(leaf) => leaf_closed(alloc, leaf),
+    }
+}
+
+fn leaf_closed(alloc: Global, leaf: &Leaf) -> Result<Option<TreeNode>, AllocError>
+    ensures { IfOk result (λ o. option_map node_of o ≡ closed_node leaf.now) }
+{
+    match leaf {
+        Leaf::Refuted(weights) => Ok(Some(TreeNode::Empty(weights.copy(alloc)?))),
+        Leaf::Bounded(weights) => Ok(Some(TreeNode::Bound(weights.copy(alloc)?))),
+        _ => Ok(None),
+    }
+}

@@ -1,0 +1,17 @@
+//! The board of a search over integer columns: a tree of splits, a best point, leases of leaves, and a log of events with
+//! their replies, of which the board is the replay.
+#![tactic(auto)]
+
+mod answer;
+mod board;
+mod choice;
+mod closed;
+mod kind;
+mod ledger;
+mod put;
+mod refs;
+mod scan;
+mod verdict;
+
+pub use answer::LeaseAnswer;
+pub use board::Board;
