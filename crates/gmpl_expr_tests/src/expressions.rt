@@ -11,7 +11,7 @@ set I := 1..3; set A := {'a', 'b', 'c'}; set P := {(1,2), (2,3), (3,1)}; \
 param c{i in I} := i * i; param w{A} symbolic := 'x'; param d{i in I, j in I: i < j} := 10 * i + j; param none{I}; \
 var x{I} >= 0; var y; var z{i in I} >= 1 / (i - 2); ";
 
-// By hand after the language reference. Where glpsol answers otherwise, in floating point, a row says so behind `##`.
+// By hand after the language reference.
 const NUMBERS: &str = "\
 n 7 => 1 + 2 * 3
 n 9 => (1 + 2) * 3

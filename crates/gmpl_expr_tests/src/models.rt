@@ -11,7 +11,7 @@ use gmpl_lexer::read_tokens;
 use gmpl_meaning::Walk;
 use gmpl_members::{Members, Value};
 use gmpl_parse::parse;
-use gmpl_resolved::{Attribute, Expr, Indexing, Numbered, Statement};
+use gmpl_resolved::{Attribute, Declaration, Expr, Indexing, Numbered, Statement};
 use gmpl_syntax::Relation;
 use gmpl_value::{SetValue, Symbol, Tuple};
 use sqlite_items::Items;
@@ -204,8 +204,10 @@ fn number(word: &str) -> Frac {
 fn in_order(alloc: Global, statements: Items<Numbered>) -> Result<Vec<Numbered>, AllocError> {
     let mut left = statements;
     let mut made = Vec::new(alloc);
-    while let Some(statement) = left.pop() {
-        made.push(statement)?;
+    for _step in 0..left.len() {
+        if let Some(statement) = left.pop() {
+            made.push(statement)?;
+        }
     }
     made.reverse();
     Ok(made)
@@ -238,19 +240,39 @@ fn as_param(statement: Statement) -> Statement {
     }
 }
 
+fn declaration_with(
+    declaration: Declaration,
+    attribute: Attribute,
+) -> Result<Declaration, AllocError> {
+    let Declaration {
+        head,
+        mut attributes,
+    } = declaration;
+    attributes.push(attribute)?;
+    Ok(Declaration { head, attributes })
+}
+
+fn statement_with(statement: Statement, attribute: Attribute) -> Result<Statement, AllocError> {
+    match statement {
+        Statement::Set(set) => Ok(Statement::Set(declaration_with(set, attribute)?)),
+        Statement::Param(param) => Ok(Statement::Param(declaration_with(param, attribute)?)),
+        Statement::Var(var) => Ok(Statement::Var(declaration_with(var, attribute)?)),
+        other => Ok(other),
+    }
+}
+
 fn add(
     statements: &mut Vec<Numbered>,
     place: usize,
     attribute: Attribute,
 ) -> Result<(), AllocError> {
-    let Some(found) = statements.get_mut(place) else {
+    if place >= statements.len() {
         return Ok(());
-    };
-    match &mut found.statement {
-        Statement::Set(declaration) | Statement::Param(declaration) | Statement::Var(declaration) =>
-            { declaration.attributes.push(attribute) }
-        _ => Ok(()),
     }
+    let Numbered { line, statement } = statements.remove(place);
+    let statement = statement_with(statement, attribute)?;
+    statements.insert(place, Numbered { line, statement })?;
+    Ok(())
 }
 
 fn attribute_of(name: &str, statements: &mut Vec<Numbered>) -> Option<Attribute> {
