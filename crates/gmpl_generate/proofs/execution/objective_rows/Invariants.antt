@@ -1,0 +1,9 @@
+-- What is left to go over.
+use Rattle.std.proofs.Common.{◌≡◌, drop}
+use Rattle.gmpl_generate.specs.Execution.{over}
+use Rattle.gmpl_generate.specs.Rows.{objective_row}
+use Rattle.gmpl_generate.proofs.execution.objective_rows.Given as goal
+
+abbrev pub invariant-loop-element : goal.invariant-loop-element
+invariant-loop-element l =
+    over (objective_row l.model l.place l.objective) l.walk.elements l.walk.fault l.initial.draft ≡ over (objective_row l.model l.place l.objective) (drop l.element-index l.walk.elements) l.walk.fault l.draft

@@ -1,0 +1,137 @@
+// The row of a constraint or an objective at an element of its domain.
+ghost use Rattle.std.specs.Prelude.{◌≡◌, IfOk};
+ghost use Rattle.gmpl_fault.specs.Outcome.{Gives};
+ghost use Rattle.gmpl_generate.specs.Rows as spec;
+ghost use Rattle.gmpl_rows.specs.Draft.{with_row};
+
+use crate::evaluation::form_of;
+use crate::sides::{RowForm, constraint_form, no_bounds};
+use crate::terms::terms_of;
+use gmpl_data::LoadedModel;
+use gmpl_fault::EvalFault;
+use gmpl_forms::Form;
+use gmpl_meaning::{Bounds, Element};
+use gmpl_resolved::{Constraint, Objective};
+use gmpl_rows::{Draft, DraftFault, RowHead, Term};
+use gmpl_syntax::Direction;
+use gmpl_value::Tuple;
+use milp::Direction as Aim;
+use std::alloc::{AllocError, Global};
+
+fn row_head(
+    alloc: Global,
+    place: u32,
+    subscripts: &Tuple,
+    bounds: Bounds,
+) -> Result<RowHead, AllocError>
+    ensures { IfOk result (λ head. head ≡ spec.row_head place subscripts.now bounds) }
+{
+    Ok(RowHead {
+        statement: place,
+        subscripts: subscripts.copied(alloc)?,
+        lower: bounds.lower,
+        upper: bounds.upper,
+    })
+}
+
+// A row that would pass a limit is `TooMany`.
+fn with_row(
+    alloc: Global,
+    draft: Draft,
+    head: RowHead,
+    terms: Vec<Term>,
+) -> Result<Draft, EvalFault>
+    ensures { Gives result (spec.outcome_of (with_row head terms.items draft)) }
+{
+    match draft.row(alloc, head, terms) {
+        Ok(draft) => Ok(draft),
+        Err(DraftFault::TooMany) => Err(EvalFault::TooMany),
+        Err(DraftFault::NoMemory) => Err(EvalFault::NoMemory),
+    }
+}
+
+fn with_form(
+    alloc: Global,
+    model: &LoadedModel,
+    place: u32,
+    subscripts: &Tuple,
+    draft: Draft,
+    row: RowForm,
+) -> Result<Draft, EvalFault>
+    ensures { Gives result (spec.with_form model.now place subscripts.now draft row) }
+{
+    let RowForm { form, bounds } = row;
+    let terms = terms_of(alloc, model, &form)?;
+    let head = row_head(alloc, place, subscripts, bounds)?;
+    with_row(alloc, draft, head, terms)
+}
+
+/// The rows so far with that of a constraint.
+pub(crate) fn constraint_row(
+    alloc: Global,
+    model: &LoadedModel,
+    place: u32,
+    constraint: &Constraint,
+    element: &Element,
+    draft: Draft,
+) -> Result<Draft, EvalFault>
+    ensures { Gives result (spec.constraint_row model.now place constraint.now element.now draft) }
+{
+    let row = constraint_form(alloc, model, &element.indices, constraint)?;
+    with_form(alloc, model, place, &element.tuple, draft, row)
+}
+
+// ---- objectives
+
+fn aim(direction: Direction) -> Aim
+    ensures { result ≡ spec.aim direction }
+{
+    match direction {
+        Direction::Minimize => Aim::Min,
+        Direction::Maximize => Aim::Max,
+    }
+}
+
+fn with_objective_form(
+    alloc: Global,
+    model: &LoadedModel,
+    place: u32,
+    direction: Direction,
+    subscripts: &Tuple,
+    draft: Draft,
+    form: Form,
+) -> Result<Draft, EvalFault>
+    ensures { Gives result (spec.with_objective_form model.now place direction subscripts.now draft form) }
+{
+    let constant = form.constant();
+    let row = RowForm {
+        form,
+        bounds: no_bounds(),
+    };
+    let draft = with_form(alloc, model, place, subscripts, draft, row)?;
+    Ok(draft.objective(aim(direction), constant))
+}
+
+/// The rows so far with that of an objective, a free one. The first such row of a model is its objective.
+pub(crate) fn objective_row(
+    alloc: Global,
+    model: &LoadedModel,
+    place: u32,
+    objective: &Objective,
+    element: &Element,
+    draft: Draft,
+) -> Result<Draft, EvalFault>
+    ensures { Gives result (spec.objective_row model.now place objective.now element.now draft) }
+{
+    let form = form_of(alloc, model, &element.indices, &objective.form)?;
+    let subscripts = &element.tuple;
+    with_objective_form(
+        alloc,
+        model,
+        place,
+        objective.direction,
+        subscripts,
+        draft,
+        form,
+    )
+}

@@ -1,0 +1,73 @@
+// The terms of a row, with the bounds of their members.
+ghost use Rattle.std.specs.Prelude.{◌≡◌, [], slice_get};
+ghost use Rattle.gmpl_fault.specs.Outcome.{Follows, Gives, GivesAs};
+ghost use Rattle.gmpl_generate.specs.Rows as spec;
+
+use crate::evaluation::bounds_of;
+use fraction::Frac;
+use gmpl_data::LoadedModel;
+use gmpl_fault::EvalFault;
+use gmpl_forms::{Form, Variable};
+use gmpl_meaning::Bounds;
+use gmpl_rows::{Bounds as TermBounds, Term};
+use std::alloc::Global;
+
+fn term_bounds(bounds: Bounds) -> TermBounds
+    ensures { result ≡ spec.term_bounds bounds }
+{
+    TermBounds {
+        lower: bounds.lower,
+        upper: bounds.upper,
+    }
+}
+
+fn term_of(
+    alloc: Global,
+    model: &LoadedModel,
+    variable: &Variable,
+    coefficient: Frac,
+) -> Result<Term, EvalFault>
+    ensures { Gives result (spec.term_of model.now (variable.now, coefficient)) }
+{
+    let place = variable.statement as usize;
+    let bounds = bounds_of(alloc, model, place, &variable.subscripts)?;
+    Ok(Term {
+        variable: variable.copied(alloc)?,
+        bounds: term_bounds(bounds),
+        coefficient,
+    })
+}
+
+// The term of a form at a place, behind those found.
+fn push_term(
+    alloc: Global,
+    model: &LoadedModel,
+    found: &mut Vec<Term>,
+    form: &Form,
+    place: usize,
+) -> Result<(), EvalFault>
+    ensures { Follows result found.new.items (spec.term_at model.now found.old.items (slice_get form.now.terms place)) }
+{
+    match form.term(place) {
+        None => Ok(()),
+        Some((variable, coefficient)) => {
+            found.push(term_of(alloc, model, variable, *coefficient)?)?;
+            Ok(())
+        }
+    }
+}
+
+/// The terms of a form in order.
+pub(crate) fn terms_of(
+    alloc: Global,
+    model: &LoadedModel,
+    form: &Form,
+) -> Result<Vec<Term>, EvalFault>
+    ensures { GivesAs (λ terms. terms.items) result (spec.terms_of model.now [] form.now.terms) }
+{
+    let mut found = Vec::new(alloc);
+    for place in 0..form.len() {
+        push_term(alloc, model, &mut found, form, place)?;
+    }
+    Ok(found)
+}

@@ -1,0 +1,157 @@
+// How the tables write problems and faults.
+use fraction::{Frac, NoFit, Op};
+use gmpl_fault::EvalFault;
+use gmpl_generate::{GenerateError, ModelFault};
+use instance::{Column, Direction, Entry, Instance, Row};
+use std::alloc::{AllocError, Global};
+
+fn column_name(columns: &[Column], place: u32) -> &str {
+    match columns.get(place as usize) {
+        Some(column) => column.name().as_str(),
+        None => "?",
+    }
+}
+
+fn entry_word(alloc: Global, columns: &[Column], entry: &Entry) -> Result<String, AllocError> {
+    let coefficient = entry.coefficient.text(alloc)?;
+    let name = column_name(columns, entry.column);
+    format!(in alloc; "{coefficient}*{name}")
+}
+
+// The entries of a form, each behind a blank.
+fn push_form(
+    alloc: Global,
+    made: &mut String,
+    columns: &[Column],
+    entries: &[Entry],
+) -> Result<(), AllocError> {
+    for entry in entries {
+        made.push(' ')?;
+        made.push_str(entry_word(alloc, columns, entry)?.as_str())?;
+    }
+    Ok(())
+}
+
+fn bound_word(alloc: Global, bound: Option<Frac>) -> Result<String, AllocError> {
+    match bound {
+        Some(number) => number.text(alloc),
+        None => "".to_string(alloc),
+    }
+}
+
+fn bounds_word(
+    alloc: Global,
+    lower: Option<Frac>,
+    upper: Option<Frac>,
+) -> Result<String, AllocError> {
+    let lower = bound_word(alloc, lower)?;
+    let upper = bound_word(alloc, upper)?;
+    format!(in alloc; "{lower}..{upper}")
+}
+
+fn row_word(alloc: Global, columns: &[Column], row: &Row) -> Result<String, AllocError> {
+    let name = row.name().as_str();
+    let bounds = bounds_word(alloc, row.lower(), row.upper())?;
+    let mut made = format!(in alloc; "; {name} {bounds}")?;
+    push_form(alloc, &mut made, columns, row.entries().as_slice())?;
+    Ok(made)
+}
+
+fn column_word(alloc: Global, column: &Column) -> Result<String, AllocError> {
+    let name = column.name().as_str();
+    let bounds = bounds_word(alloc, column.lower(), column.upper())?;
+    let kind = if column.integer() { " whole" } else { "" };
+    format!(in alloc; "; {name} {bounds}{kind}")
+}
+
+fn direction_word(direction: Direction) -> &'static str {
+    match direction {
+        Direction::Min => "min",
+        Direction::Max => "max",
+    }
+}
+
+// The objective with its constant.
+fn objective_word(alloc: Global, problem: &Instance) -> Result<String, AllocError> {
+    let direction = direction_word(problem.direction());
+    let name = problem.objective_name().as_str();
+    let mut made = format!(in alloc; "{direction} {name}")?;
+    push_form(
+        alloc,
+        &mut made,
+        problem.columns(),
+        problem.objective().as_slice(),
+    )?;
+    let constant = problem.constant().text(alloc)?;
+    made.push_str(" + ")?;
+    made.push_str(constant.as_str())?;
+    Ok(made)
+}
+
+/// The objective, then the rows, then the columns.
+fn problem_word(alloc: Global, problem: &Instance) -> Result<String, AllocError> {
+    let mut made = objective_word(alloc, problem)?;
+    for row in problem.rows() {
+        made.push_str(row_word(alloc, problem.columns(), row)?.as_str())?;
+    }
+    made.push_str(" |")?;
+    for column in problem.columns() {
+        made.push_str(column_word(alloc, column)?.as_str())?;
+    }
+    Ok(made)
+}
+
+// ---- faults
+
+fn operation_word(op: Op) -> &'static str {
+    match op {
+        Op::Add => "+",
+        Op::Sub => "-",
+        Op::Mul => "*",
+        Op::Div => "/",
+    }
+}
+
+fn no_fit_word(alloc: Global, no_fit: NoFit) -> Result<String, AllocError> {
+    let op = operation_word(no_fit.op);
+    let first = no_fit.a.text(alloc)?;
+    let second = no_fit.b.text(alloc)?;
+    format!(in alloc; "NoFit {first} {op} {second}")
+}
+
+fn kind_word(alloc: Global, kind: EvalFault) -> Result<String, AllocError> {
+    let word = match kind {
+        EvalFault::NoFit(no_fit) => return no_fit_word(alloc, no_fit),
+        EvalFault::NoValue => "NoValue",
+        EvalFault::OutOfDomain => "OutOfDomain",
+        EvalFault::Restriction => "Restriction",
+        EvalFault::DivZero => "DivZero",
+        EvalFault::NotWhole => "NotWhole",
+        EvalFault::NotANumber => "NotANumber",
+        EvalFault::Nonlinear => "Nonlinear",
+        EvalFault::BadFormat => "BadFormat",
+        EvalFault::Depth => "Depth",
+        EvalFault::TooMany => "TooMany",
+        EvalFault::NoMemory => "NoMemory",
+    };
+    word.to_string(alloc)
+}
+
+fn fault_word(alloc: Global, fault: ModelFault) -> Result<String, AllocError> {
+    let statement = fault.statement;
+    let line = fault.line;
+    let kind = kind_word(alloc, fault.kind)?;
+    format!(in alloc; "statement {statement}, line {line}: {kind}")
+}
+
+/// A problem, or why there is none.
+pub(crate) fn answer_word(
+    alloc: Global,
+    answer: Result<Instance, GenerateError>,
+) -> Result<String, AllocError> {
+    match answer {
+        Ok(problem) => problem_word(alloc, &problem),
+        Err(GenerateError::Fault(fault)) => fault_word(alloc, fault),
+        Err(GenerateError::NoMemory) => "no memory".to_string(alloc),
+    }
+}

@@ -1,0 +1,39 @@
+-- What holds of the names in the heads of statements, as far as statements declare.
+use Rattle.std.proofs.Common.{ℕ, List, [], ◌∷◌, ◌++◌}
+use Rattle.gmpl_syntax.specs.declared.statement.Statement.{Statement}
+use Rattle.gmpl_syntax.specs.declared.statement.Statement.TheVariants as s
+use Rattle.gmpl_syntax.specs.declared.statement.Numbered.{Numbered}
+
+module _ (P : List ℕ → Type 0) where
+  -- the name of its head, and what is said of what stands behind it; nothing, where the statement declares no object
+  abbrev pub HeadThen : Statement → Type 0 → Type 0
+  HeadThen (s.Set declaration) behind = P declaration.head.name × behind
+  HeadThen (s.Param declaration) behind = P declaration.head.name × behind
+  HeadThen (s.Var declaration) behind = P declaration.head.name × behind
+  HeadThen (s.Constraint constraint) behind = P constraint.head.name × behind
+  HeadThen (s.Objective objective) behind = P objective.head.name × behind
+  HeadThen _ behind = Unit {0}
+
+  abbrev pub HeadsThen : List Numbered → Type 0 → Type 0
+  HeadsThen [] behind = behind
+  HeadsThen (x ∷ xs) behind = HeadThen x.statement (HeadsThen xs behind)
+
+  pub head_then : (x : Statement) (A B : Type 0) → (A → B) → HeadThen x A → HeadThen x B
+  head_then (s.Set declaration) A B f h = (h.0, f h.1)
+  head_then (s.Param declaration) A B f h = (h.0, f h.1)
+  head_then (s.Var declaration) A B f h = (h.0, f h.1)
+  head_then (s.Constraint constraint) A B f h = (h.0, f h.1)
+  head_then (s.Objective objective) A B f h = (h.0, f h.1)
+  head_then (s.TableInput table) A B f h = tt
+  head_then s.Solve A B f h = tt
+  head_then (s.Action action) A B f h = tt
+  head_then s.Data A B f h = tt
+
+  pub heads_then : (xs : List Numbered) (A B : Type 0) → (A → B) → HeadsThen xs A → HeadsThen xs B
+  heads_then [] A B f h = f h
+  heads_then (x ∷ xs) A B f h = head_then x.statement (HeadsThen xs A) (HeadsThen xs B) (heads_then xs A B f) h
+
+  -- one more statement
+  pub heads_more : (xs : List Numbered) (x : Numbered) (behind : Type 0) → HeadsThen xs (HeadThen x.statement behind) → HeadsThen (xs ++ x ∷ []) behind
+  heads_more [] x behind h = h
+  heads_more (y ∷ ys) x behind h = head_then y.statement (HeadsThen ys (HeadThen x.statement behind)) (HeadsThen (ys ++ x ∷ []) behind) (heads_more ys x behind) h

@@ -1,0 +1,8 @@
+mod Heads
+mod NamedTokens
+mod LexedNames
+mod KeptTokens
+mod ExpressionTokens
+mod HeadNames
+mod ResolvedNames
+mod ObjectNames

@@ -1,0 +1,5 @@
+pub mod Names
+pub mod Wholes
+pub mod Columns
+pub mod Objects
+pub mod Continuous

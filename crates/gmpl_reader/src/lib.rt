@@ -1,0 +1,10 @@
+//! Reads MathProg texts.
+#![tactic(auto)]
+
+mod fault;
+mod laws;
+mod read;
+
+pub use fault::MathProgFault;
+pub use laws::declared_problems_are_continuous;
+pub use read::read_math_prog;
