@@ -11,7 +11,7 @@ use Rattle.milp.specs.declared.Direction.{Direction}
 use Rattle.milp.specs.declared.Direction.TheVariants.{Min, Max}
 use Rattle.command_line.specs.Options.{given, is_taken}
 use Rattle.command_line.specs.declared.settings.Language.{Language}
-use Rattle.command_line.specs.declared.settings.Language.TheVariants.{FreeMps, CplexLp}
+use Rattle.command_line.specs.declared.settings.Language.TheVariants.{MathProg, FreeMps, CplexLp}
 use Rattle.command_line.specs.declared.settings.Outputs.{Outputs}
 use Rattle.command_line.specs.declared.settings.Settings.{Settings}
 use Rattle.command_line.specs.declared.settings.Task.{Task}
@@ -21,15 +21,18 @@ use Rattle.command_line.specs.declared.settings.Task.TheVariants.{Solve, Transla
 abbrev pub stands : Text → List Row → Bool
 stands flag rows = option_map_or (bytes_eq (codes "true")) (first_of flag rows) false
 
-abbrev pub language_by : Bool → Bool → Option Language
-language_by true true = None
-language_by true false = Some FreeMps
-language_by false true = Some CplexLp
-language_by false false = None
+-- by the flags of the three languages, FILE, and the value of `--model`
+abbrev pub source_by : Bool → Bool → Bool → Option Text → Option Text → Option (Language × Text)
+source_by true false false (Some file) None = Some (MathProg, file)
+source_by false true false (Some file) None = Some (FreeMps, file)
+source_by false false true (Some file) None = Some (CplexLp, file)
+source_by false false false None (Some file) = Some (MathProg, file)
+source_by _ _ _ _ _ = None
 
--- the language whose flag stands, which is one alone
-abbrev pub language_in : List Row → Option Language
-language_in rows = language_by (stands (codes "freemps") rows) (stands (codes "lp") rows)
+-- the model's language and file: one language's flag with FILE, or `--model` alone
+abbrev pub source_in : List Row → Option (Language × Text)
+source_in rows =
+    source_by (stands (codes "math") rows) (stands (codes "freemps") rows) (stands (codes "lp") rows) (first_of (codes "FILE") rows) (first_of (codes "model") rows)
 
 abbrev pub direction_by : Bool → Bool → Option (Option Direction)
 direction_by true true = None
@@ -78,19 +81,19 @@ pivot_limit_by (Some word) = limit_of word
 abbrev pub pivot_limit_in : List Row → Option ℕ
 pivot_limit_in rows = pivot_limit_by (first_of (codes "pivlim") rows)
 
-abbrev pub settings_by : Option Language → Option Text → Option (Option Direction) → Option ℕ → Option Task → Option Settings
-settings_by (Some language) (Some model) (Some direction) (Some pivot_limit) (Some task) = Some (record {
-  language = language;
-  model = model;
+abbrev pub settings_by : Option (Language × Text) → Option (Option Direction) → Option ℕ → Option Task → Option Settings
+settings_by (Some source) (Some direction) (Some pivot_limit) (Some task) = Some (record {
+  language = source.0;
+  model = source.1;
   direction = direction;
   pivot_limit = pivot_limit;
   task = task;
 })
-settings_by _ _ _ _ _ = None
+settings_by _ _ _ _ = None
 
 -- what the options ask for: each part must be there
 abbrev pub settings_in : List Row → Option Settings
-settings_in rows = settings_by (language_in rows) (first_of (codes "FILE") rows) (direction_in rows) (pivot_limit_in rows) (task_in rows)
+settings_in rows = settings_by (source_in rows) (direction_in rows) (pivot_limit_in rows) (task_in rows)
 
 -- what the words ask for, where they are a command
 abbrev pub settings_of : List Text → Option Settings

@@ -22,11 +22,13 @@ option_rule name = record (new_rule name) { long = Some name }
 abbrev pub lettered_rule : Text → ℕ → Rule
 lettered_rule name letter = record (option_rule name) { short = Some letter }
 
--- what may stand among the words; 111 is the letter o
+-- what may stand among the words; 109 is the letter m, 111 the letter o
 abbrev pub rules : List Rule
 rules = file_rule
+    ∷ flag_rule (codes "math")
     ∷ flag_rule (codes "freemps")
     ∷ flag_rule (codes "lp")
+    ∷ lettered_rule (codes "model") 109
     ∷ flag_rule (codes "check")
     ∷ flag_rule (codes "min")
     ∷ flag_rule (codes "max")

@@ -29,8 +29,10 @@ fn command<'a>(alloc: Global) -> Result<Command<'a>, AllocError>
         .no_binary_name(true)
         .disable_help_flag(true)
         .arg(Arg::new(alloc, "FILE"))?
+        .arg(flag(alloc, "math"))?
         .arg(flag(alloc, "freemps"))?
         .arg(flag(alloc, "lp"))?
+        .arg(lettered(alloc, "model", 'm'))?
         .arg(flag(alloc, "check"))?
         .arg(flag(alloc, "min"))?
         .arg(flag(alloc, "max"))?

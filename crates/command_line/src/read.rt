@@ -4,7 +4,7 @@ ghost use Rattle.std.specs.List.{list_all};
 ghost use Rattle.std.specs.Str.Parse.{digits_value};
 ghost use Rattle.std.specs.Prelude.{◌≡◌, true, IfOk, IfErr, Some, None, map, string_bytes, option_map, codes, ℕ, List};
 ghost use Rattle.command_line.specs.Options.{given_in};
-ghost use Rattle.command_line.specs.Meaning.{settings_of, settings_in, language_in, direction_in, pivot_limit_in, limit_of, limit_within, task_in, task_by, alone, outputs_in, stands};
+ghost use Rattle.command_line.specs.Meaning.{settings_of, settings_in, source_in, source_by, direction_in, pivot_limit_in, limit_of, limit_within, task_in, task_by, alone, outputs_in, stands};
 ghost use Rattle.clap.specs.Words.{first_of};
 ghost use Rattle.command_line.specs.declared.settings.WordsFault.TheVariants.{Usage};
 
@@ -33,8 +33,7 @@ fn settings_in(alloc: Global, matches: &ArgMatches<'_>) -> Result<Settings, Word
     ensures some { IfOk result (λ settings. settings_in (given_in matches.now) ≡ Some settings) }
     ensures none { IfErr result (λ fault. fault ≡ Usage → settings_in (given_in matches.now) ≡ None) }
 {
-    let language = language_in(matches).ok_or(WordsFault::Usage)?;
-    let model = name_in(alloc, matches, "FILE")?.ok_or(WordsFault::Usage)?;
+    let (language, model) = source_in(alloc, matches)?;
     let direction = direction_in(matches).ok_or(WordsFault::Usage)?;
     let pivot_limit = pivot_limit_in(matches).ok_or(WordsFault::Usage)?;
     let task = task_in(alloc, matches)?;
@@ -47,14 +46,35 @@ fn settings_in(alloc: Global, matches: &ArgMatches<'_>) -> Result<Settings, Word
     })
 }
 
-fn language_in(matches: &ArgMatches<'_>) -> Option<Language>
-    ensures { result ≡ language_in (given_in matches.now) }
+// The model's language and its file.
+fn source_in(alloc: Global, matches: &ArgMatches<'_>) -> Result<(Language, Name), WordsFault>
+    ensures some { IfOk result (λ source. source_in (given_in matches.now) ≡ Some source) }
+    ensures none { IfErr result (λ fault. fault ≡ Usage → source_in (given_in matches.now) ≡ None) }
 {
-    match (stands(matches, "freemps"), stands(matches, "lp")) {
-        (true, true) => None,
-        (true, false) => Some(Language::FreeMps),
-        (false, true) => Some(Language::CplexLp),
-        (false, false) => None,
+    let file = name_in(alloc, matches, "FILE")?;
+    let model = name_in(alloc, matches, "model")?;
+    let math = stands(matches, "math");
+    let free_mps = stands(matches, "freemps");
+    let cplex_lp = stands(matches, "lp");
+    let source = source_by(math, free_mps, cplex_lp, file, model).ok_or(WordsFault::Usage)?;
+    Ok(source)
+}
+
+fn source_by(
+    math: bool,
+    free_mps: bool,
+    cplex_lp: bool,
+    file: Option<Name>,
+    model: Option<Name>,
+) -> Option<(Language, Name)>
+    ensures { result ≡ source_by math free_mps cplex_lp file model }
+{
+    match (math, free_mps, cplex_lp, file, model) {
+        (true, false, false, Some(file), None) => Some((Language::MathProg, file)),
+        (false, true, false, Some(file), None) => Some((Language::FreeMps, file)),
+        (false, false, true, Some(file), None) => Some((Language::CplexLp, file)),
+        (false, false, false, None, Some(model)) => Some((Language::MathProg, model)),
+        _ => None,
     }
 }
 

@@ -24,6 +24,8 @@ pub struct Settings {
 /// A language in which a model is written.
 #[derive(Clone, Copy, Debug, PartialEq, Eq)]
 pub enum Language {
+    /// GNU MathProg.
+    MathProg,
     /// Free MPS.
     FreeMps,
     /// CPLEX LP.

@@ -25,7 +25,7 @@ use Rattle.glpsol_cli.specs.declared.stop.Stop.{Stop}
 use Rattle.glpsol_cli.specs.declared.stop.Stop.TheVariants.{Words, File, Work}
 use Rattle.glpsol_cli.specs.declared.stop.Unfound.{Unfound}
 use Rattle.glpsol_cli.specs.declared.stop.Unfound.TheVariants.{Text, Solve, Check}
-use Rattle.glpsol_cli.specs.declared.stop.TextFault.TheVariants.{Fault as TextHas, NoMemory as TextNoMemory}
+use Rattle.glpsol_cli.specs.declared.stop.TextStop.TheVariants.{Fault as TextHas, NoMemory as TextNoMemory}
 use Rattle.glpsol_cli.specs.declared.stop.CheckStop.TheVariants.{BadText, Refused as CheckRefused, NoFit as CheckNoFit, NoMemory as CheckNoMemory}
 use Rattle.glpsol_cli.specs.declared.publish.PublishFault.{PublishFault}
 use Rattle.glpsol_cli.specs.declared.publish.PublishFault.TheVariants.{Write, NoMemory as PublishNoMemory}

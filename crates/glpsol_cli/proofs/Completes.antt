@@ -10,7 +10,7 @@ use Rattle.certificate_reader.specs.Reading.{read_of}
 use Rattle.certificate_lines.specs.declared.fault.CertFault.{CertFault}
 use Rattle.cert_check.specs.Outcome.{Acceptance as Accepting, Fault, outcome, trials, part_of}
 use Rattle.cert_check.specs.declared.part.Part.{Part}
-use Rattle.model_text.specs.declared.fault.FileFault.{FileFault}
+use Rattle.glpsol_cli.specs.declared.answer.TextFault.{TextFault}
 use Rattle.outside.specs.Told.{Has}
 use Rattle.command_line.specs.Meaning.{settings_of}
 use Rattle.command_line.specs.declared.settings.Settings.{Settings}
@@ -21,7 +21,7 @@ use Rattle.glpsol_cli.specs.Meaning.{Declared, Faulty, IsAsked, IsRefused}
 use Rattle.glpsol_cli.specs.Cause.{Cause, OfCertificate, IsAccepted, IsNoCertificate, IsRefusedAt, IsCheckOverflow, IsUndecided, IsTranslated, IsProved, IsOverflow, RoseAt}
 use Rattle.glpsol_cli.specs.Complete.{AreTold, IsComplete, IsVerdictOrNoMemory, IsRecheck, IsAcceptedOrFault}
 use Rattle.glpsol_cli.specs.declared.answer.Answer.{Answer}
-use Rattle.glpsol_cli.specs.declared.answer.Answer.TheVariants.{Optimal, Infeasible, Unbounded, Translated, Accepted, Usage, Missing, OpenFault, ReadFault, WriteFault, TooLong, BadFile, BadCertificate, Overflow, Undecided, Refused, NoMemory}
+use Rattle.glpsol_cli.specs.declared.answer.Answer.TheVariants.{Optimal, Infeasible, Unbounded, Translated, Accepted, Usage, Missing, OpenFault, ReadFault, WriteFault, TooLong, BadText, BadCertificate, Overflow, Undecided, Refused, NoMemory}
 use Rattle.glpsol_cli.specs.declared.answer.OverflowSite.TheVariants.{AtNode, InPart}
 use Rattle.glpsol_cli.specs.declared.answer.OverflowSite.{OverflowSite}
 use Rattle.glpsol_cli.specs.declared.answer.Target.{Target}
@@ -87,10 +87,10 @@ module _ (words : List (List ℕ)) (told : ToldNames) (settings : Settings) (tex
   no_usage : settings_of words ≡ None → ⊥
   no_usage e = none_some settings (sym e ∙ asks)
 
-  not_refused : (p : Problem) (fault : FileFault) → IsAsked settings texts p → IsRefused fault settings texts → ⊥
+  not_refused : (p : Problem) (fault : TextFault) → IsAsked settings texts p → IsRefused fault settings texts → ⊥
   not_refused p fault a r = apart p fault (sym a ∙ r)
     where
-      apart : (p : Problem) (fault : FileFault) → Some (Declared p) ≡ Some (Faulty fault) → ⊥
+      apart : (p : Problem) (fault : TextFault) → Some (Declared p) ≡ Some (Faulty fault) → ⊥
       apart p fault e = cc
 
 -- ---- tasks
@@ -137,7 +137,7 @@ module _ (words : List (List ℕ)) (told : ToldNames) (files_rose out_rose : Typ
   complete (ReadFault name) h = k.files_held h.2
   complete (WriteFault target reached) h = not_risen target h.1
   complete (TooLong name) h = not_long words told k.settings k.texts k.asks k.has name h.0 h.2
-  complete (BadFile fault) h = not_refused words told k.settings k.texts k.asks k.has k.problem fault k.asked (said (IsRefused fault) h)
+  complete (BadText fault) h = not_refused words told k.settings k.texts k.asks k.has k.problem fault k.asked (said (IsRefused fault) h)
   complete (BadCertificate fault) h = checks_none (IsNoCertificate fault) h
   complete (Overflow at e) h = overflow_none at e (said (IsOverflow at e) h)
   complete (Undecided bases) h = k.ends bases (said (IsUndecided bases) h)
@@ -220,7 +220,7 @@ module _ (c : Certificate) (again : List (List ℕ)) (told : ToldNames) (files_r
   rechecked (ReadFault name) h = tt
   rechecked (WriteFault target reached) h = tt
   rechecked (TooLong name) h = not_long again told (record k.settings { task = CheckCertificate k.name }) (k.texts ++ certificate_text c ∷ []) k.asks k.has name h.0 h.2
-  rechecked (BadFile fault) h = not_refused again told (record k.settings { task = CheckCertificate k.name }) (k.texts ++ certificate_text c ∷ []) k.asks k.has k.found.problem fault asked (says (IsRefused fault) h)
+  rechecked (BadText fault) h = not_refused again told (record k.settings { task = CheckCertificate k.name }) (k.texts ++ certificate_text c ∷ []) k.asks k.has k.found.problem fault asked (says (IsRefused fault) h)
   rechecked (BadCertificate fault) h = bad_text fault (of_text (IsNoCertificate fault) (says (OfCertificate (IsNoCertificate fault)) h))
   rechecked (Overflow at e) h = overflow_where at e (says (IsOverflow at e) h)
   rechecked (Undecided bases) h = (says (IsUndecided bases) h).solves

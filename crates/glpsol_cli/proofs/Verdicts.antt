@@ -8,7 +8,7 @@ use Rattle.command_line.specs.declared.settings.Settings.{Settings}
 use Rattle.glpsol_cli.specs.Asked.{ToldNames, OfTexts}
 use Rattle.glpsol_cli.specs.Cause.{Cause, IsReached, reached_of, IsProved, IsTrueOf, IsBest, HasNoPoint, HasRay}
 use Rattle.glpsol_cli.specs.declared.answer.Answer.{Answer}
-use Rattle.glpsol_cli.specs.declared.answer.Answer.TheVariants.{Optimal, Infeasible, Unbounded, Translated, Accepted, Usage, Missing, OpenFault, ReadFault, WriteFault, TooLong, BadFile, BadCertificate, Overflow, Undecided, Refused, NoMemory}
+use Rattle.glpsol_cli.specs.declared.answer.Answer.TheVariants.{Optimal, Infeasible, Unbounded, Translated, Accepted, Usage, Missing, OpenFault, ReadFault, WriteFault, TooLong, BadText, BadCertificate, Overflow, Undecided, Refused, NoMemory}
 use Rattle.glpsol_cli.specs.declared.answer.Reached.{Reached}
 use Rattle.glpsol_cli.specs.declared.answer.Reached.TheVariants.{Nothing, Executed, Size, Acceptance, Verdict as VerdictReached}
 use Rattle.glpsol_cli.proofs.Answers.{of_texts}
@@ -50,7 +50,7 @@ module _ (words : List (List ℕ)) (told : ToldNames) (c : Certificate) (right :
   carried files_rose out_rose (ReadFault name) e h = absurd (nothing_carried e)
   carried files_rose out_rose (WriteFault target r) e h = of_reached r e h.0
   carried files_rose out_rose (TooLong name) e h = absurd (nothing_carried e)
-  carried files_rose out_rose (BadFile fault) e h = absurd (executed_carried e)
+  carried files_rose out_rose (BadText fault) e h = absurd (executed_carried e)
   carried files_rose out_rose (BadCertificate fault) e h = absurd (executed_carried e)
   carried files_rose out_rose (Overflow at fault) e h = absurd (executed_carried e)
   carried files_rose out_rose (Undecided bases) e h = absurd (executed_carried e)

@@ -16,7 +16,8 @@ use Rattle.mps_reader.specs.FreeMps.{declared}
 use Rattle.outside.specs.Told.{Has}
 use Rattle.command_line.proofs.Laws.{plain_settings, plain_words}
 use Rattle.glpsol_cli.specs.Asked.{ToldNames}
-use Rattle.glpsol_cli.specs.Meaning.{end_of, IsAsked}
+use Rattle.glpsol_cli.specs.Meaning.{end_of, told_as, IsAsked}
+use Rattle.glpsol_cli.specs.declared.answer.TextFault.TheVariants.{File}
 use Rattle.glpsol_cli.specs.Cause.{IsNodeOverflow, IsUndecided}
 use Rattle.glpsol_cli.specs.Complete.{IsComplete}
 use Rattle.glpsol_cli.specs.WorkedExample.{example_words, example_text}
@@ -28,7 +29,7 @@ unfolding is_utf8 chars encode_utf8
 declares = refl
 
 asked : IsAsked plain_settings (example_text ∷ []) problem
-asked = ap (λ r. Some (end_of None r)) declares
+asked = ap (λ r. Some (end_of None (told_as File r))) declares
 
 -- a problem that is asked about is this one
 same_problem : (p : Problem) → IsAsked plain_settings (example_text ∷ []) p → p ≡ problem

@@ -24,7 +24,7 @@ use Rattle.command_line.specs.declared.settings.Settings.{Settings}
 use Rattle.glpsol_cli.specs.Asked.{ToldNames, OfTexts, IsInTurn, Solves, Translates, Checks}
 use Rattle.glpsol_cli.specs.Meaning.{IsAsked, IsRefused, HasDone}
 use Rattle.glpsol_cli.specs.declared.answer.Answer.{Answer}
-use Rattle.glpsol_cli.specs.declared.answer.Answer.TheVariants.{Optimal, Infeasible, Unbounded, Translated, Accepted, Usage, Missing, OpenFault, ReadFault, WriteFault, TooLong, BadFile, BadCertificate, Overflow, Undecided, Refused, NoMemory}
+use Rattle.glpsol_cli.specs.declared.answer.Answer.TheVariants.{Optimal, Infeasible, Unbounded, Translated, Accepted, Usage, Missing, OpenFault, ReadFault, WriteFault, TooLong, BadText, BadCertificate, Overflow, Undecided, Refused, NoMemory}
 use Rattle.glpsol_cli.specs.declared.answer.OverflowSite.{OverflowSite}
 use Rattle.glpsol_cli.specs.declared.answer.OverflowSite.TheVariants.{AtNode, InPart}
 use Rattle.glpsol_cli.specs.declared.answer.Reached.{Reached}
@@ -169,7 +169,7 @@ reached_of (OpenFault name) = Nothing
 reached_of (ReadFault name) = Nothing
 reached_of (WriteFault target reached) = reached
 reached_of (TooLong name) = Nothing
-reached_of (BadFile fault) = Executed
+reached_of (BadText fault) = Executed
 reached_of (BadCertificate fault) = Executed
 reached_of (Overflow at fault) = Executed
 reached_of (Undecided bases) = Executed
@@ -196,7 +196,7 @@ Cause words told files_rose out_rose (OpenFault name) = IsInTurn words told name
 Cause words told files_rose out_rose (ReadFault name) = IsInTurn words told name × (Lacks (told name) → ⊥) × files_rose
 Cause words told files_rose out_rose (WriteFault target reached) = IsReached words told reached × RoseAt target files_rose out_rose
 Cause words told files_rose out_rose (TooLong name) = IsInTurn words told name × (Lacks (told name) → ⊥) × ((text : List ℕ) → Has (told name) text → 16777216 < length text)
-Cause words told files_rose out_rose (BadFile fault) = OfTexts words told (IsRefused fault)
+Cause words told files_rose out_rose (BadText fault) = OfTexts words told (IsRefused fault)
 Cause words told files_rose out_rose (BadCertificate fault) = OfTexts words told (OfCertificate (IsNoCertificate fault))
 Cause words told files_rose out_rose (Overflow at e) = OfTexts words told (IsOverflow at e)
 Cause words told files_rose out_rose (Undecided bases) = OfTexts words told (IsUndecided bases)

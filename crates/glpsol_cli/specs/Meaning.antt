@@ -6,11 +6,13 @@ use Rattle.milp.specs.Problem.{Problem}
 use Rattle.milp.specs.declared.Direction.{Direction}
 use Rattle.verdicts.specs.Certificate.{Certificate}
 use Rattle.certificate.specs.Text.{certificate_text}
-use Rattle.model_text.specs.declared.fault.FileFault.{FileFault}
+use Rattle.gmpl_reader.specs.MathProg.{declared as declared_by_math_prog}
+use Rattle.gmpl_reader.specs.declared.fault.MathProgFault.{MathProgFault}
+use Rattle.gmpl_reader.specs.declared.fault.MathProgFault.TheVariants as math_prog
 use Rattle.mps_reader.specs.FreeMps.{declared as declared_by_free_mps}
 use Rattle.cplex_lp_reader.specs.CplexLp.{declared as declared_by_cplex_lp}
 use Rattle.command_line.specs.declared.settings.Language.{Language}
-use Rattle.command_line.specs.declared.settings.Language.TheVariants.{FreeMps, CplexLp}
+use Rattle.command_line.specs.declared.settings.Language.TheVariants.{MathProg, FreeMps, CplexLp}
 use Rattle.command_line.specs.declared.settings.Outputs.{Outputs}
 use Rattle.command_line.specs.declared.settings.Settings.{Settings}
 use Rattle.command_line.specs.declared.settings.Task.{Task}
@@ -20,34 +22,46 @@ use Rattle.glpsol_cli.specs.Pieces.{Piece}
 use Rattle.glpsol_cli.specs.declared.answer.Reached.{Reached}
 use Rattle.glpsol_cli.specs.declared.answer.Reached.TheVariants.{Nothing, Executed, Size, Acceptance, Verdict}
 use Rattle.glpsol_cli.specs.declared.answer.Target.TheVariants.{Out, File}
+use Rattle.glpsol_cli.specs.declared.answer.TextFault.{TextFault}
+use Rattle.glpsol_cli.specs.declared.answer.TextFault.TheVariants as text_fault
 
 -- ---- what the texts mean
 
 -- how the execution of the texts ends: they declare a problem, or have this fault and none before it
 pub data End : Type 0 where
   Declared : Problem → End
-  Faulty : FileFault → End
+  Faulty : TextFault → End
 
 -- what is written while the texts are executed, in order, and how that ends
 pub record Meaning : Type 0 where
   pub done : List Piece
   pub end : End
 
+abbrev pub text_fault_of : MathProgFault → TextFault
+text_fault_of (math_prog.Syntax fault) = text_fault.Syntax fault
+text_fault_of (math_prog.Model fault) = text_fault.Model fault
+
+-- a fault as one of a text of any language
+abbrev pub told_as : {F : Type 0} → (F → TextFault) → Result Problem F → Result Problem TextFault
+told_as make (Ok p) = Ok p
+told_as make (Err fault) = Err (make fault)
+
 -- the problem that a text of this language declares, or its first fault
-abbrev pub declared_in : Language → List ℕ → Result Problem FileFault
-declared_in FreeMps text = declared_by_free_mps text
-declared_in CplexLp text = declared_by_cplex_lp text
+abbrev pub declared_in : Language → List ℕ → Result Problem TextFault
+declared_in MathProg text = told_as text_fault_of (declared_by_math_prog text)
+declared_in FreeMps text = told_as text_fault.File (declared_by_free_mps text)
+declared_in CplexLp text = told_as text_fault.File (declared_by_cplex_lp text)
 
 -- `--min` and `--max` set the direction
 abbrev pub directed : Option Direction → Problem → Problem
 directed None p = p
 directed (Some d) p = record p { direction = d }
 
-abbrev pub end_of : Option Direction → Result Problem FileFault → End
+abbrev pub end_of : Option Direction → Result Problem TextFault → End
 end_of direction (Ok p) = Declared (directed direction p)
 end_of direction (Err fault) = Faulty fault
 
--- the model's text stands first; free MPS and CPLEX LP write nothing
+-- the model's text stands first; none of the languages writes anything so far
 abbrev pub meaning_of : Settings → List (List ℕ) → Option Meaning
 meaning_of s [] = None
 meaning_of s (text ∷ others) = Some (record { done = []; end = end_of s.direction (declared_in s.language text) })
@@ -60,7 +74,7 @@ abbrev pub IsAsked : Settings → List (List ℕ) → Problem → Type 0
 IsAsked s texts p = end_in s texts ≡ Some (Declared p)
 
 -- the texts have this fault, and none before it
-abbrev pub IsRefused : FileFault → Settings → List (List ℕ) → Type 0
+abbrev pub IsRefused : TextFault → Settings → List (List ℕ) → Type 0
 IsRefused fault s texts = end_in s texts ≡ Some (Faulty fault)
 
 -- ---- what is written of what was reached

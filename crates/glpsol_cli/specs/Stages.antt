@@ -25,7 +25,7 @@ use Rattle.glpsol_cli.specs.Pieces.{Piece, Outside, AllWritten, WrittenUpTo, Som
 use Rattle.glpsol_cli.specs.Meaning.{IsAsked, IsRefused, found_pieces, declared_in, directed}
 use Rattle.glpsol_cli.specs.Cause.{OfCertificate, IsAccepted, IsRefusedAt, IsCheckOverflow, IsNoCertificate, IsNodeOverflow, IsUndecided, RoseAt}
 use Rattle.glpsol_cli.specs.declared.answer.Answer.{Answer}
-use Rattle.glpsol_cli.specs.declared.answer.Answer.TheVariants.{Optimal, Infeasible, Unbounded, Translated, Accepted, Usage, Missing, OpenFault, ReadFault, WriteFault, TooLong, BadFile, BadCertificate, Overflow, Undecided, Refused, NoMemory}
+use Rattle.glpsol_cli.specs.declared.answer.Answer.TheVariants.{Optimal, Infeasible, Unbounded, Translated, Accepted, Usage, Missing, OpenFault, ReadFault, WriteFault, TooLong, BadText, BadCertificate, Overflow, Undecided, Refused, NoMemory}
 use Rattle.glpsol_cli.specs.declared.answer.OverflowSite.TheVariants.{AtNode, InPart}
 use Rattle.glpsol_cli.specs.declared.answer.Reached.{Reached}
 use Rattle.glpsol_cli.specs.declared.answer.Reached.TheVariants.{Nothing, Executed, Size as SizeReached, Acceptance as AcceptanceReached, Verdict as VerdictReached}
@@ -38,8 +38,8 @@ use Rattle.glpsol_cli.specs.declared.stop.Stop.TheVariants.{Words, File, Work}
 use Rattle.glpsol_cli.specs.declared.stop.Unfound.{Unfound}
 use Rattle.glpsol_cli.specs.declared.stop.Unfound.TheVariants.{Text, Solve, Check}
 use Rattle.glpsol_cli.specs.declared.stop.Unread.{Unread}
-use Rattle.glpsol_cli.specs.declared.stop.TextFault.{TextFault}
-use Rattle.glpsol_cli.specs.declared.stop.TextFault.TheVariants.{Fault as TextHas, NoMemory as TextNoMemory}
+use Rattle.glpsol_cli.specs.declared.stop.TextStop.{TextStop}
+use Rattle.glpsol_cli.specs.declared.stop.TextStop.TheVariants.{Fault as TextHas, NoMemory as TextNoMemory}
 use Rattle.glpsol_cli.specs.declared.stop.CheckStop.{CheckStop}
 use Rattle.glpsol_cli.specs.declared.stop.CheckStop.TheVariants.{BadText, Refused as CheckRefused, NoFit as CheckNoFit, NoMemory as CheckNoMemory}
 use Rattle.glpsol_cli.specs.declared.publish.PublishFault.{PublishFault}
@@ -102,9 +102,9 @@ pub record IsProblem (language : Language) (direction : Option Direction) (text 
   pub is : p ≡ directed direction declared
 
 -- why a text is no problem
-abbrev pub IsTextFault : Language → List ℕ → TextFault → Type 0
-IsTextFault language text (TextHas fault) = declared_in language text ≡ Err fault
-IsTextFault language text TextNoMemory = Unit {0}
+abbrev pub IsTextStop : Language → List ℕ → TextStop → Type 0
+IsTextStop language text (TextHas fault) = declared_in language text ≡ Err fault
+IsTextStop language text TextNoMemory = Unit {0}
 
 -- why a certificate with this text is not accepted
 abbrev pub IsCheckStop : Problem → List ℕ → CheckStop → Type 0
@@ -166,8 +166,8 @@ check_answer (CheckRefused part) = Refused part
 check_answer (CheckNoFit f) = Overflow (InPart f.part) f.fault
 check_answer CheckNoMemory = NoMemory Executed
 
-abbrev pub text_answer : TextFault → Answer
-text_answer (TextHas fault) = BadFile fault
+abbrev pub text_answer : TextStop → Answer
+text_answer (TextHas fault) = BadText fault
 text_answer TextNoMemory = NoMemory Nothing
 
 abbrev pub unfound_answer : Unfound → Answer

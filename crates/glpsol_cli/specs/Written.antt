@@ -1,18 +1,25 @@
 -- What a run writes with each answer: the pieces of what it reached, or the first of them, and then the line of a fault or a part of it.
 use Rattle.std.specs.Prelude.{ℕ, List, [], codes}
-use Rattle.solution_writer.specs.FaultLine.{named_line, overflow_line, usage_line, file_line, certificate_line, undecided_pivots_line, refused_line, no_memory_line}
+use Rattle.solution_writer.specs.FaultLine.{named_line, overflow_line, usage_line, syntax_line, model_line, file_line, certificate_line, undecided_pivots_line, refused_line, no_memory_line}
 use Rattle.glpsol_cli.specs.Pieces.{Piece, Outside, IsWrittenInPart, Extent, Whole, UpTo, Part, WrittenTo}
 use Rattle.glpsol_cli.specs.Meaning.{OfPieces}
 use Rattle.glpsol_cli.specs.Cause.{reached_of}
 use Rattle.glpsol_cli.specs.declared.answer.Answer.{Answer}
-use Rattle.glpsol_cli.specs.declared.answer.Answer.TheVariants.{Optimal, Infeasible, Unbounded, Translated, Accepted, Usage, Missing, OpenFault, ReadFault, WriteFault, TooLong, BadFile, BadCertificate, Overflow, Undecided, Refused, NoMemory}
+use Rattle.glpsol_cli.specs.declared.answer.Answer.TheVariants.{Optimal, Infeasible, Unbounded, Translated, Accepted, Usage, Missing, OpenFault, ReadFault, WriteFault, TooLong, BadText, BadCertificate, Overflow, Undecided, Refused, NoMemory}
 use Rattle.glpsol_cli.specs.declared.answer.Target.{Target}
 use Rattle.glpsol_cli.specs.declared.answer.Target.TheVariants.{Out, File}
+use Rattle.glpsol_cli.specs.declared.answer.TextFault.{TextFault}
+use Rattle.glpsol_cli.specs.declared.answer.TextFault.TheVariants.{Syntax, Model, File as FileText}
 
 -- the line of a target that can't be written; the output has none
 abbrev pub target_line_of : Target → List ℕ
 target_line_of Out = []
 target_line_of (File name) = named_line (codes "write fault") name
+
+abbrev pub text_line : TextFault → List ℕ
+text_line (Syntax fault) = syntax_line fault
+text_line (Model fault) = model_line fault
+text_line (FileText fault) = file_line fault
 
 -- the line of a fault; an answer without a fault has none
 abbrev pub line_of : Answer → List ℕ
@@ -27,7 +34,7 @@ line_of (OpenFault name) = named_line (codes "open fault") name
 line_of (ReadFault name) = named_line (codes "read fault") name
 line_of (WriteFault target reached) = target_line_of target
 line_of (TooLong name) = named_line (codes "too long") name
-line_of (BadFile fault) = file_line fault
+line_of (BadText fault) = text_line fault
 line_of (BadCertificate fault) = certificate_line fault
 line_of (Overflow at fault) = overflow_line fault
 line_of (Undecided bases) = undecided_pivots_line
@@ -47,7 +54,7 @@ extent_of (OpenFault name) = Whole
 extent_of (ReadFault name) = Whole
 extent_of (WriteFault target reached) = UpTo target
 extent_of (TooLong name) = Whole
-extent_of (BadFile fault) = Whole
+extent_of (BadText fault) = Whole
 extent_of (BadCertificate fault) = Whole
 extent_of (Overflow at fault) = Whole
 extent_of (Undecided bases) = Whole

@@ -5,6 +5,8 @@ use cert_check::Part;
 use certificate::Certificate;
 use certificate_reader::CertFault;
 use fraction::NoFit;
+use gmpl_generate::ModelFault;
+use gmpl_syntax::SyntaxFault;
 use instance::Name;
 use model_text::FileFault;
 use search_node::{Bases, Node};
@@ -16,6 +18,17 @@ pub enum Target {
     Out,
     /// The file of this name.
     File(Name),
+}
+
+/// What is wrong with the text of a model.
+#[derive(Clone, Copy, Drop)]
+pub enum TextFault {
+    /// A MathProg text is no model: its first bad statement.
+    Syntax(SyntaxFault),
+    /// A statement of a MathProg model can't be executed.
+    Model(ModelFault),
+    /// A line of a free MPS or CPLEX LP text.
+    File(FileFault),
 }
 
 /// Where an operation's result does not fit.
@@ -68,7 +81,7 @@ pub enum Answer {
     /// The file of this name is longer than 16,777,216 bytes.
     TooLong(Name),
     /// The model's text has this fault, and none before it.
-    BadFile(FileFault),
+    BadText(TextFault),
     /// The text of the certificate that was to be checked has this fault, and none before it.
     BadCertificate(CertFault),
     /// The result of this operation does not fit.
@@ -99,7 +112,7 @@ impl Answer {
             | Answer::OpenFault(_)
             | Answer::ReadFault(_)
             | Answer::WriteFault { .. } => 1,
-            Answer::TooLong(_) | Answer::BadFile(_) | Answer::BadCertificate(_) => 2,
+            Answer::TooLong(_) | Answer::BadText(_) | Answer::BadCertificate(_) => 2,
             Answer::Overflow { .. } => 3,
             Answer::Undecided(_) => 4,
             Answer::NoMemory { .. } => 5,

@@ -2,13 +2,12 @@
 ghost use Rattle.std.specs.Prelude.{◌≡◌};
 ghost use Rattle.glpsol_cli.specs.Stages.{words_answer, unread_answer, text_answer, solve_answer, check_answer, unfound_answer, stop_answer};
 
-use crate::{Answer, OverflowSite, Reached};
+use crate::{Answer, OverflowSite, Reached, TextFault};
 use branch_solve::SolveFault;
 use cert_check::{CheckFault, Part};
 use certificate_reader::CertFault;
 use command_line::WordsFault;
 use instance::Name;
-use model_text::FileFault;
 use outside::LoadFault;
 
 #[derive(Drop)]
@@ -28,15 +27,15 @@ pub struct Unread {
 // Why the texts give nothing.
 #[derive(Drop)]
 pub enum Unfound {
-    Text(TextFault),
+    Text(TextStop),
     Solve(SolveFault),
     Check(CheckStop),
 }
 
 // Why a text is no problem.
 #[derive(Drop)]
-pub enum TextFault {
-    Fault(FileFault),
+pub enum TextStop {
+    Fault(TextFault),
     NoMemory,
 }
 
@@ -85,18 +84,18 @@ fn unfound_answer(unfound: Unfound) -> Answer
     ensures { result ≡ unfound_answer unfound }
 {
     match unfound {
-        Unfound::Text(fault) => text_answer(fault),
+        Unfound::Text(stop) => text_answer(stop),
         Unfound::Solve(fault) => solve_answer(fault),
         Unfound::Check(stop) => check_answer(stop),
     }
 }
 
-fn text_answer(fault: TextFault) -> Answer
-    ensures { result ≡ text_answer fault }
+fn text_answer(stop: TextStop) -> Answer
+    ensures { result ≡ text_answer stop }
 {
-    match fault {
-        TextFault::Fault(fault) => Answer::BadFile(fault),
-        TextFault::NoMemory => no_memory(Reached::Nothing),
+    match stop {
+        TextStop::Fault(fault) => Answer::BadText(fault),
+        TextStop::NoMemory => no_memory(Reached::Nothing),
     }
 }
 

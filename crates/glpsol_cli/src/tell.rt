@@ -4,7 +4,7 @@ ghost use Rattle.outside.specs.Told.{AppendsPrefix};
 ghost use Rattle.solution_writer.specs.FaultLine.{no_memory_line};
 ghost use Rattle.glpsol_cli.specs.Written.{line_of, target_line_of};
 
-use crate::{Answer, Reached, Target};
+use crate::{Answer, Reached, Target, TextFault};
 use outside::{Sink, write_all};
 use solution_writer::{Fault, fault_line};
 use std::alloc::{AllocError, Global};
@@ -51,7 +51,9 @@ fn line(alloc: Global, answer: &Answer) -> Result<String, AllocError>
         Answer::ReadFault(name) => fault_line(alloc, &Fault::ReadFault(name)),
         Answer::WriteFault { target, .. } => target_line(alloc, target),
         Answer::TooLong(name) => fault_line(alloc, &Fault::TooLong(name)),
-        Answer::BadFile(fault) => fault_line(alloc, &Fault::File(*fault)),
+        Answer::BadText(TextFault::Syntax(fault)) => fault_line(alloc, &Fault::Syntax(*fault)),
+        Answer::BadText(TextFault::Model(fault)) => fault_line(alloc, &Fault::Model(*fault)),
+        Answer::BadText(TextFault::File(fault)) => fault_line(alloc, &Fault::File(*fault)),
         Answer::BadCertificate(fault) => fault_line(alloc, &Fault::Certificate(*fault)),
         Answer::Overflow { fault, .. } => fault_line(alloc, &Fault::Overflow(*fault)),
         Answer::Undecided(_) => fault_line(alloc, &Fault::UndecidedPivots),

@@ -9,6 +9,9 @@ use std::test::Fail;
 const COMMANDS: &str = "\
 mps f, own direction, solve, no cert <- --freemps|f
 lp f, own direction, solve, no cert <- --lp|f
+math f, own direction, solve, no cert <- --math|f
+math f, own direction, solve, no cert <- -m|f
+math f, max, solve, cert c <- --model=f|--max|--cert|c
 mps f, own direction, solve, no cert <- f|--freemps
 mps f, min, solve, no cert <- --freemps|f|--min
 mps f, max, solve, no cert <- --max|--freemps|f
@@ -38,6 +41,13 @@ usage <- --freemps
 usage <- f
 usage <- --freemps|f|g
 usage <- --freemps|--lp|f
+usage <- --math|--lp|f
+usage <- --math
+usage <- -m|f|g
+usage <- --math|-m|f
+usage <- --lp|-m|f
+usage <- -m|f|--model|f
+usage <- --math|f|-m
 usage <- --lp=f
 usage <- --freemps=f
 usage <- --free|f
@@ -119,6 +129,7 @@ fn words_of(alloc: Global, row: &str) -> Result<Vec<String>, AllocError> {
 
 fn shown(alloc: Global, settings: &Settings) -> Result<String, AllocError> {
     let language = match settings.language {
+        Language::MathProg => "math",
         Language::FreeMps => "mps",
         Language::CplexLp => "lp",
     };

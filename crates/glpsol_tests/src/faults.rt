@@ -8,9 +8,9 @@ use std::test::Fail;
 use std::thread::Threads;
 
 const WORDS: &str = "\
-1 usage: glpsol (--freemps|--lp) FILE [options]$ <- --freemps --min
-1 usage: glpsol (--freemps|--lp) FILE [options]$ <- --math row1.mod
-1 usage: glpsol (--freemps|--lp) FILE [options]$ <- --lp f --workers 0
+1 usage: glpsol (--math|--freemps|--lp) FILE [options]$ <- --freemps --min
+1 usage: glpsol (--math|--freemps|--lp) FILE [options]$ <- --math
+1 usage: glpsol (--math|--freemps|--lp) FILE [options]$ <- --lp f --workers 0
 ";
 
 #[test]

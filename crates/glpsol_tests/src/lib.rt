@@ -15,6 +15,8 @@ mod free_mps;
 #[cfg(test)]
 mod linear_programs;
 #[cfg(test)]
+mod math_prog;
+#[cfg(test)]
 mod memory_files;
 #[cfg(test)]
 mod runs;

@@ -1,10 +1,9 @@
 -- The line of a fault.
 use Rattle.std.specs.Prelude.{ℕ, List, ◌++◌, codes}
 use Rattle.std.specs.Fmt.{decimal}
-use Rattle.fraction.specs.Text.{text_of}
-use Rattle.fraction.specs.declared.frac.Op.{Op}
-use Rattle.fraction.specs.declared.frac.Op.TheVariants.{Add, Sub, Mul, Div}
 use Rattle.fraction.specs.declared.frac.NoFit.{NoFit}
+use Rattle.gmpl_syntax.specs.declared.fault.SyntaxFault.{SyntaxFault}
+use Rattle.gmpl_generate.specs.declared.fault.ModelFault.{ModelFault}
 use Rattle.model_text.specs.KindText.{kind_text}
 use Rattle.model_text.specs.declared.fault.FileFault.{FileFault}
 use Rattle.certificate_lines.specs.declared.fault.FaultKind.{FaultKind}
@@ -12,17 +11,23 @@ use Rattle.certificate_lines.specs.declared.fault.FaultKind.TheVariants.{BadLine
 use Rattle.certificate_lines.specs.declared.fault.CertFault.{CertFault}
 use Rattle.cert_check.specs.declared.part.Part.{Part}
 use Rattle.cert_check.specs.declared.part.Part.TheVariants.{Size, Point, Value, Ray, DerivedRow, Node}
+use Rattle.solution_writer.specs.KindTexts.{operation_text, syntax_kind_text, model_kind_text}
 use Rattle.solution_writer.specs.declared.fault.Fault.{Fault}
-use Rattle.solution_writer.specs.declared.fault.Fault.TheVariants.{Usage, Missing, OpenFault, ReadFault, WriteFault, TooLong, File, Certificate, Overflow, UndecidedPivots, Refused, NoMemory}
-
-abbrev pub operator_text : Op → List ℕ
-operator_text Add = codes "+"
-operator_text Sub = codes "-"
-operator_text Mul = codes "*"
-operator_text Div = codes "/"
+use Rattle.solution_writer.specs.declared.fault.Fault.TheVariants.{Usage, Missing, OpenFault, ReadFault, WriteFault, TooLong, Syntax, Model, File, Certificate, Overflow, UndecidedPivots, Refused, NoMemory}
 
 abbrev pub named_line : List ℕ → List ℕ → List ℕ
 named_line what name = what ++ (codes ": " ++ (name ++ codes "\n"))
+
+-- statements and lines count from 1
+abbrev pub statement_line : List ℕ → ℕ → ℕ → List ℕ → List ℕ
+statement_line what statement line kind =
+    what ++ (codes ": statement " ++ (decimal statement ++ (codes ", line " ++ (decimal line ++ (codes ": " ++ (kind ++ codes "\n"))))))
+
+abbrev pub syntax_line : SyntaxFault → List ℕ
+syntax_line f = statement_line (codes "syntax fault") f.statement f.line (syntax_kind_text f.kind)
+
+abbrev pub model_line : ModelFault → List ℕ
+model_line f = statement_line (codes "model fault") f.statement f.line (model_kind_text f.kind)
 
 abbrev pub file_line : FileFault → List ℕ
 file_line f = codes "file fault: line " ++ (decimal f.line ++ (codes ": " ++ (kind_text f.kind ++ codes "\n")))
@@ -51,12 +56,12 @@ refused_line part = codes "refused: " ++ (part_text part ++ codes "\n")
 abbrev pub undecided_pivots_line : List ℕ
 undecided_pivots_line = codes "UNDECIDED pivots\n"
 
--- `A OP B` whose result does not fit
+-- the operation whose result does not fit
 abbrev pub overflow_line : NoFit → List ℕ
-overflow_line f = codes "overflow: " ++ (text_of f.a ++ (codes " " ++ (operator_text f.op ++ (codes " " ++ (text_of f.b ++ codes "\n")))))
+overflow_line f = codes "overflow: " ++ (operation_text f ++ codes "\n")
 
 abbrev pub usage_line : List ℕ
-usage_line = codes "usage: glpsol (--freemps|--lp) FILE [options]\n"
+usage_line = codes "usage: glpsol (--math|--freemps|--lp) FILE [options]\n"
 
 abbrev pub no_memory_line : List ℕ
 no_memory_line = codes "no memory\n"
@@ -68,6 +73,8 @@ fault_line (OpenFault name) = named_line (codes "open fault") name.now
 fault_line (ReadFault name) = named_line (codes "read fault") name.now
 fault_line (WriteFault name) = named_line (codes "write fault") name.now
 fault_line (TooLong name) = named_line (codes "too long") name.now
+fault_line (Syntax f) = syntax_line f
+fault_line (Model f) = model_line f
 fault_line (File f) = file_line f
 fault_line (Certificate f) = certificate_line f
 fault_line (Overflow f) = overflow_line f

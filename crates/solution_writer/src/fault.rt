@@ -1,10 +1,13 @@
 // The lines of faults.
 ghost use Rattle.std.specs.Prelude.{◌≡◌, IfOk, string_bytes};
-ghost use Rattle.solution_writer.specs.FaultLine.{operator_text, named_line, file_line, overflow_line, fault_line, certificate_kind_text, certificate_line, part_text, refused_line};
+ghost use Rattle.solution_writer.specs.FaultLine.{named_line, statement_line, file_line, overflow_line, fault_line, certificate_kind_text, certificate_line, part_text, refused_line, syntax_line, model_line};
 
+use crate::kind_texts::{model_kind_text, operation_text, syntax_kind_text};
 use cert_check::Part;
 use certificate_lines::{CertFault, FaultKind};
-use fraction::{NoFit, Op};
+use fraction::NoFit;
+use gmpl_generate::ModelFault;
+use gmpl_syntax::SyntaxFault;
 use instance::Name;
 use model_text::FileFault;
 use std::alloc::{AllocError, Global};
@@ -24,7 +27,11 @@ pub enum Fault<'a> {
     WriteFault(&'a Name),
     /// The file of this name is longer than 16,777,216 bytes.
     TooLong(&'a Name),
-    /// The text of the model has this fault.
+    /// The MathProg text of the model has this fault.
+    Syntax(SyntaxFault),
+    /// A statement of the MathProg model has this fault.
+    Model(ModelFault),
+    /// The text of the model, in free MPS or CPLEX LP, has this fault.
     File(FileFault),
     /// The text of the certificate has this fault.
     Certificate(CertFault),
@@ -43,12 +50,14 @@ pub fn fault_line(alloc: Global, fault: &Fault<'_>) -> Result<String, AllocError
     ensures { IfOk result (λ text. string_bytes text ≡ fault_line fault.now) }
 {
     match fault {
-        Fault::Usage => "usage: glpsol (--freemps|--lp) FILE [options]\n".to_string(alloc),
+        Fault::Usage => "usage: glpsol (--math|--freemps|--lp) FILE [options]\n".to_string(alloc),
         Fault::Missing(name) => named_line(alloc, "missing", name),
         Fault::OpenFault(name) => named_line(alloc, "open fault", name),
         Fault::ReadFault(name) => named_line(alloc, "read fault", name),
         Fault::WriteFault(name) => named_line(alloc, "write fault", name),
         Fault::TooLong(name) => named_line(alloc, "too long", name),
+        Fault::Syntax(fault) => syntax_line(alloc, *fault),
+        Fault::Model(fault) => model_line(alloc, *fault),
         Fault::File(fault) => file_line(alloc, *fault),
         Fault::Certificate(fault) => certificate_line(alloc, *fault),
         Fault::Overflow(fault) => overflow_line(alloc, *fault),
@@ -63,6 +72,32 @@ fn named_line(alloc: Global, what: &str, name: &Name) -> Result<String, AllocErr
 {
     let name = name.as_str();
     format!(in alloc; "{what}: {name}\n")
+}
+
+fn syntax_line(alloc: Global, fault: SyntaxFault) -> Result<String, AllocError>
+    ensures { IfOk result (λ text. string_bytes text ≡ syntax_line fault) }
+{
+    let kind = syntax_kind_text(fault.kind);
+    statement_line(alloc, "syntax fault", fault.statement, fault.line, kind)
+}
+
+fn model_line(alloc: Global, fault: ModelFault) -> Result<String, AllocError>
+    ensures { IfOk result (λ text. string_bytes text ≡ model_line fault) }
+{
+    let kind = model_kind_text(alloc, fault.kind)?;
+    statement_line(alloc, "model fault", fault.statement, fault.line, &kind)
+}
+
+fn statement_line(
+    alloc: Global,
+    what: &str,
+    statement: usize,
+    line: usize,
+    kind: &str,
+) -> Result<String, AllocError>
+    ensures { IfOk result (λ text. string_bytes text ≡ statement_line what.now statement line kind.now) }
+{
+    format!(in alloc; "{what}: statement {statement}, line {line}: {kind}\n")
 }
 
 fn file_line(alloc: Global, fault: FileFault) -> Result<String, AllocError>
@@ -115,19 +150,6 @@ fn part_text(alloc: Global, part: Part) -> Result<String, AllocError>
 fn overflow_line(alloc: Global, fault: NoFit) -> Result<String, AllocError>
     ensures { IfOk result (λ text. string_bytes text ≡ overflow_line fault) }
 {
-    let a = fault.a.text(alloc)?;
-    let op = operator_text(fault.op);
-    let b = fault.b.text(alloc)?;
-    format!(in alloc; "overflow: {a} {op} {b}\n")
-}
-
-fn operator_text(op: Op) -> &'static str
-    ensures { result.now ≡ operator_text op }
-{
-    match op {
-        Op::Add => "+",
-        Op::Sub => "-",
-        Op::Mul => "*",
-        Op::Div => "/",
-    }
+    let operation = operation_text(alloc, fault)?;
+    format!(in alloc; "overflow: {operation}\n")
 }

@@ -2,6 +2,7 @@
 #![tactic(auto)]
 
 mod fault;
+mod kind_texts;
 mod lines;
 mod report;
 
