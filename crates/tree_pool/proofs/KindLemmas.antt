@@ -1,5 +1,5 @@
 -- What the nodes of a tree are, in preorder.
-use Rattle.std.proofs.Common.{◌≡◌, ◌∙◌, ℕ, zero, suc, ◌+◌, ◌<◌, ◌≤◌, ◌==◌, cond, List, [], ◌∷◌, ◌++◌, Bool, true, map, length, drop, refl, sym, ap, subst, Some, slice_get, arith, ⊎_elim, inl, inr}
+use Rattle.std.proofs.Common.{◌≡◌, ◌∙◌, ℕ, zero, suc, ◌+◌, ◌<◌, ◌≤◌, ◌==◌, cond, List, [], ◌∷◌, ◌++◌, Bool, true, false, map, length, drop, refl, sym, ap, subst, Some, slice_get, arith, ⊎_elim, inl, inr}
 use Rattle.std.specs.Prelude.{◌⊎◌}
 use Rattle.std.proofs.lemmas.List.{map-append}
 use Rattle.std.proofs.lemmas.Option.{same_Some}
@@ -165,6 +165,28 @@ sum_is f (Divided s low high) =
 
 pub leased_is : (kinds : List Kind) (t : Tree) → kinds ≡ map kind_of (slots_of t) → lease_count kinds ≡ leased t
 leased_is kinds t are = ap lease_count are ∙ sum_is (λ n. 1) t
+
+zero_of : (k : Kind) (n : ℕ) → ¬ (k ≡ kind.LeasedUnder n) → of_kind (λ m. cond (m == n) 1 0) k ≡ 0
+zero_of kind.ToDo n h = refl
+zero_of (kind.LeasedUnder m) n h = none_of m n (λ e. h (ap kind.LeasedUnder e))
+  where
+    one_or_none : Bool → ℕ
+    one_or_none t = cond t 1 0
+
+    none_of : (m n : ℕ) → ¬ (m ≡ n) → one_or_none (m == n) ≡ one_or_none false
+    none_of m n e = ap one_or_none (other m n e)
+      where
+        other : (m n : ℕ) → ¬ (m ≡ n) → (m == n) ≡ false
+        other m n e = grind (arith, nat_tests)
+zero_of kind.Ended n h = refl
+zero_of (kind.SplitBy s) n h = refl
+
+zero_sum : (kinds : List Kind) (n : ℕ) → HasNone (kind.LeasedUnder n) kinds → sum_of_kinds (λ m. cond (m == n) 1 0) kinds ≡ 0
+zero_sum [] n h = refl
+zero_sum (k ∷ kinds) n h = let first = zero_of k n (λ e. h zero (ap Some e)) in let rest = zero_sum kinds n (λ i e. h (suc i) e) in omega arith
+
+pub none_under : (kinds : List Kind) (t : Tree) (n : ℕ) → kinds ≡ map kind_of (slots_of t) → HasNone (kind.LeasedUnder n) kinds → leased_under n t ≡ 0
+none_under kinds t n are h = let f : ℕ → ℕ = λ m. cond (m == n) 1 0 in sym (sum_is f t) ∙ ap (sum_of_kinds f) (sym are) ∙ zero_sum kinds n h
 
 one_in : (f : ℕ → ℕ) (xs : List Kind) (i : ℕ) (k : Kind) → slice_get xs i ≡ Some k → of_kind f k ≤ sum_of_kinds f xs
 one_in f [] i k h = cc

@@ -4,9 +4,12 @@ mod Ways
 mod LogNodes
 mod Ledgers
 mod Leases
+mod OpenLeases
 mod Grafts
 mod Offers
 mod Reclaims
 mod ClosedNodes
+mod ClosedTrees
 mod Replays
 mod BestPoints
+mod ToldValues

@@ -1,5 +1,5 @@
 -- A log with the tree and the best point that it leads to, and what is found among the tree's nodes in preorder.
-use Rattle.std.specs.Prelude.{ℕ, zero, suc, Bool, true, false, cond, ◌+◌, ◌≡◌, List, [], ◌∷◌, ◌++◌, map, slice_get, Option, Some, None}
+use Rattle.std.specs.Prelude.{ℕ, zero, suc, Bool, true, false, cond, ◌+◌, ◌≡◌, List, [], ◌∷◌, ◌++◌, map, slice_get, Option, Some, None, is_some}
 use Rattle.rational.specs.Rational.{Rational}
 use Rattle.certificate.specs.declared.split.Side.TheVariants.{Low, High}
 use Rattle.search_node.specs.declared.node.SplitTaken.{SplitTaken}
@@ -7,6 +7,7 @@ use Rattle.search_tree.specs.declared.event.Event.{Event}
 use Rattle.search_tree.specs.declared.event.Event.TheVariants.{Leasing, Idling, Grafting, Offering, Reclaiming}
 use Rattle.search_tree.specs.declared.event.Entry.{Entry}
 use Rattle.verdicts.specs.Certificate.{TreeNode, Branch}
+use Rattle.search_tree.specs.declared.leaf.Lease.{Lease}
 use Rattle.search_tree.specs.declared.leaf.Slot.{Slot}
 use Rattle.search_tree.specs.declared.leaf.Slot.TheVariants as slot
 use Rattle.search_tree.specs.Tree.{Tree}
@@ -17,7 +18,7 @@ use Rattle.tree_pool.specs.declared.refs.NodeRef.TheVariants.{Again}
 use Rattle.tree_pool.specs.declared.kind.Kind.{Kind}
 use Rattle.tree_pool.specs.declared.kind.Kind.TheVariants as kind
 use Rattle.tree_pool.specs.LogNodes.{node_at}
-use Rattle.tree_pool.specs.Kinds.{kind_of}
+use Rattle.tree_pool.specs.Kinds.{kind_of, lease_in}
 
 pub record Ledger : Type 0 where
   pub log : List Entry
@@ -82,6 +83,11 @@ sum_of_kinds f (k ∷ kinds) = of_kind f k + sum_of_kinds f kinds
 abbrev pub lease_count : List Kind → ℕ
 lease_count kinds = sum_of_kinds (λ n. 1) kinds
 
+-- the lease of the node that a list holds at a place, where it is a leaf that is leased
+abbrev pub lease_found : List Entry → Option NodeRef → Option Lease
+lease_found log None = None
+lease_found log (Some r) = lease_in (node_at log r)
+
 -- ---- nodes that are given back
 
 abbrev pub is_leased : Kind → Bool
@@ -104,3 +110,8 @@ closed_in (slot.Leaf leaf) = closed_node leaf
 abbrev pub closed_slots : List Slot → List TreeNode
 closed_slots [] = []
 closed_slots (s ∷ slots) = one_or_none (closed_in s) ++ closed_slots slots
+
+-- each leaf is closed
+abbrev pub are_closed : List Slot → Bool
+are_closed [] = true
+are_closed (s ∷ slots) = cond (is_some (closed_in s)) (are_closed slots) false

@@ -6,7 +6,9 @@ use Rattle.search_node.specs.declared.node.SplitTaken.{SplitTaken}
 use Rattle.search_tree.specs.declared.leaf.Lease.{Lease}
 use Rattle.search_tree.specs.declared.leaf.Leaf.{Leaf}
 use Rattle.search_tree.specs.declared.leaf.Leaf.TheVariants.{Leased}
-use Rattle.search_tree.specs.Tree.{Tree, Divided, AtLeaf, IsTodo, at_place}
+use Rattle.search_tree.specs.Tree.{Tree, Divided, AtLeaf, IsTodo, AllLeaves, at_place}
+use Rattle.search_tree.specs.Kept.{closed_node}
+use Rattle.search_tree.specs.Finished.{IsThere}
 use Rattle.search_tree.specs.Slots.{place_of}
 
 -- a leaf stands at this place of the preorder
@@ -31,6 +33,15 @@ pub record IsLeasedAt (t : Tree) (under place : ℕ) : Type 0 where
   pub is_under : lease.number ≡ under
   pub there : at_place t way ≡ Some (AtLeaf (Leased lease))
   pub number : place_of t way ≡ place
+
+-- a leaf is leased with this lease
+pub record IsOpen (t : Tree) (lease : Lease) : Type 0 where
+  pub way : List Side
+  pub there : at_place t way ≡ Some (AtLeaf (Leased lease))
+
+-- each leaf is closed
+abbrev pub AreClosed : Tree → Type 0
+AreClosed t = AllLeaves (λ sides leaf. IsThere (closed_node leaf)) [] t
 
 -- the splits on the way to a place, the first of them first
 abbrev pub taken_to : Tree → List Side → List SplitTaken

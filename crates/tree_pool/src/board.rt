@@ -1,19 +1,19 @@
 // Boards.
-ghost use Rattle.std.specs.Prelude.{◌≡◌, [], length, option_map, cond, nat_lt, ◌+◌, ◌-◌, ◌^◌, ◌≤◌, true, None, Some, List, IfOk, OnOk, OnErr, IfErr, MatchOption};
+ghost use Rattle.std.specs.Prelude.{◌≡◌, [], length, option_map, cond, nat_lt, ◌+◌, ◌-◌, ◌^◌, ◌≤◌, true, false, None, Some, List, IfOk, IfSome, OnOk, OnErr, IfErr, MatchOption};
 ghost use Rattle.rational.specs.Rational.{◌*ℚ◌};
 ghost use Rattle.rational.specs.Compare.{is_less};
 ghost use Rattle.milp.specs.Points.{Feasible, sign_of};
 ghost use Rattle.certificate.specs.declared.split.Side.{Side as SideOf};
 ghost use Rattle.search_node.specs.Sides.{sides_of};
 ghost use Rattle.search_tree.specs.declared.leaf.Leaf.TheVariants.{Todo, Leased};
-ghost use Rattle.search_tree.specs.Tree.{AtLeaf, AllLeaves, IsTodo, at_place, sides_to, made};
-ghost use Rattle.search_tree.specs.Board.{value_of};
+ghost use Rattle.search_tree.specs.Tree.{AtLeaf, AllLeaves, IsTodo, at_place, sides_to, made, leased_under};
+ghost use Rattle.search_tree.specs.Board.{value_of, IsTold};
 ghost use Rattle.search_tree.specs.Kept.{AllPass, HasSums, IsKept, IsCovered};
 ghost use Rattle.search_tree.specs.Steps.{MayGraft, IsGraft, IsOffer, IsReclaim, IsReplay};
 ghost use Rattle.cert_check.specs.Outcome.{Acceptance, outcome, trials};
 ghost use Rattle.search_tree.specs.Finished.{IsFinished, certificate_of};
 ghost use Rattle.tree_pool.specs.Answers.{IsAnswer};
-ghost use Rattle.tree_pool.specs.Places.{IsTodoAt};
+ghost use Rattle.tree_pool.specs.Places.{IsTodoAt, IsOpen};
 
 use crate::answer::LeaseAnswer;
 use crate::choice::Order;
@@ -226,6 +226,18 @@ impl Board {
         Ok(())
     }
 
+    /// The open lease of this number, if there is one.
+    pub fn open_lease(&self, number: usize) -> Option<Lease>
+        ensures number { IfSome result (λ lease. lease.number ≡ number) }
+        ensures open { IfSome result (IsOpen self.now.tree) }
+        ensures none { result ≡ None → leased_under number self.now.tree ≡ 0 }
+    {
+        match self.ledger.place_under(number) {
+            None => None,
+            Some(place) => self.ledger.lease_at(place),
+        }
+    }
+
     /// The node of the leaf that is leased, with the splits on its way, the first of them first.
     pub fn node(&self, alloc: Global, lease: Lease) -> Result<Node, AllocError>
         ensures { IfOk result (λ node. (way : List SideOf) → at_place self.now.tree way ≡ Some (AtLeaf (Leased lease)) → sides_of node.splits ≡ sides_to self.now.tree way []) }
@@ -261,9 +273,10 @@ impl Board {
         self.ledger.best()
     }
 
-    /// The value of the best point, if there is one.
+    /// The value of the best point, if there is one. A reply told it.
     pub fn best_value(&self) -> Option<Frac>
-        ensures { result ≡ value_of self.now }
+        ensures value { result ≡ value_of self.now }
+        ensures told { IfSome result (λ v. IsTold v self.now.log) }
     {
         self.best_value
     }
@@ -283,6 +296,14 @@ impl Board {
         ensures covered { IsCovered self.now }
     {
         let _ledger = &self.ledger;
+    }
+
+    /// Whether all leaves are closed.
+    pub fn is_finished(&self) -> bool
+        ensures yes { result ≡ true → IsFinished self.now }
+        ensures no { result ≡ false → ¬ (IsFinished self.now) }
+    {
+        self.ledger.is_finished()
     }
 
     /// The certificate of a board whose leaves are all closed: the checker accepts it. Where memory is wanting the board

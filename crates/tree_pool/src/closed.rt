@@ -1,9 +1,9 @@
 // The tree of a certificate.
-ghost use Rattle.std.specs.Prelude.{◌≡◌, option_map, IfOk, Some};
+ghost use Rattle.std.specs.Prelude.{◌≡◌, option_map, is_some, IfOk, Some};
 ghost use Rattle.certificate.specs.Values.{node_of};
 ghost use Rattle.search_tree.specs.Kept.{closed_node};
 ghost use Rattle.tree_pool.specs.LogNodes.{node_at, nodes_in};
-ghost use Rattle.tree_pool.specs.Ledger.{closed_in, closed_slots};
+ghost use Rattle.tree_pool.specs.Ledger.{closed_in, closed_slots, are_closed};
 
 use crate::kind::held;
 use crate::refs::NodeRef;
@@ -74,5 +74,55 @@ fn leaf_closed(alloc: Global, leaf: &Leaf) -> Result<Option<TreeNode>, AllocErro
         Leaf::Refuted(weights) => Ok(Some(TreeNode::Empty(weights.copy(alloc)?))),
         Leaf::Bounded(weights) => Ok(Some(TreeNode::Bound(weights.copy(alloc)?))),
         _ => Ok(None),
+    }
+}
+
+// Each leaf is closed.
+pub(crate) fn are_closed(log: &[Entry], nodes: &[NodeRef]) -> bool
+    ensures { result ≡ are_closed (nodes_in log.now nodes.now) }
+{
+    for node in nodes {
+        if !is_closed(log, *node) {
+            return false;
+        }
+    }
+    true
+}
+
+fn is_closed(log: &[Entry], node: NodeRef) -> bool
+    ensures { result ≡ is_some (closed_in (node_at log.now node)) }
+{
+    match node {
+        NodeRef::Again => false,
+        NodeRef::Under(_) => false,
+        NodeRef::Held(entry, n) => is_held_closed(log, entry, n),
+    }
+}
+
+fn is_held_closed(log: &[Entry], entry: usize, n: usize) -> bool
+    ensures { result ≡ is_some (closed_in (node_at log.now (NodeRef.Held entry n))) }
+{
+    match held(log, entry, n) {
+        None => false,
+        Some(slot) => is_slot_closed(slot),
+    }
+}
+
+fn is_slot_closed(slot: &Slot) -> bool
+    ensures { result ≡ is_some (closed_in slot.now) }
+{
+    match slot {
+        Slot::Divided(_) => true,
+        Slot::Leaf(leaf) => is_leaf_closed(leaf),
+    }
+}
+
+fn is_leaf_closed(leaf: &Leaf) -> bool
+    ensures { result ≡ is_some (closed_node leaf.now) }
+{
+    match leaf {
+        Leaf::Refuted(_) => true,
+        Leaf::Bounded(_) => true,
+        _ => false,
     }
 }

@@ -1,19 +1,20 @@
 // The log of a board, and the tree and best point that it leads to.
-ghost use Rattle.std.specs.Prelude.{◌≡◌, ◌++◌, [], ◌∷◌, ◌<◌, length, cond, Some, None, Option, option_map, OnOk, OnErr, IfOk, IfErr, IfSome, List, slice_get};
+ghost use Rattle.std.specs.Prelude.{◌≡◌, ◌++◌, [], ◌∷◌, ◌<◌, length, cond, Some, None, Option, option_map, true, false, OnOk, OnErr, IfOk, IfErr, IfSome, List, slice_get};
 ghost use Rattle.certificate.specs.declared.split.Side.{Side as SideOf};
 ghost use Rattle.search_tree.specs.declared.leaf.Leaf.{Leaf as LeafOf};
 ghost use Rattle.search_tree.specs.declared.leaf.Leaf.TheVariants.{Todo, Leased};
 ghost use Rattle.search_tree.specs.declared.event.Event.TheVariants.{Leasing, Idling, Grafting, Offering, Reclaiming};
 ghost use Rattle.search_tree.specs.declared.event.Reply.TheVariants.{Given, StillLeased, Best, Done};
-ghost use Rattle.search_tree.specs.Tree.{AtLeaf, IsTodo, at_place, replaced, leased, reclaimed, AllLeaves};
+ghost use Rattle.search_tree.specs.Tree.{AtLeaf, IsTodo, at_place, replaced, leased, leased_under, lease_of, reclaimed, AllLeaves};
 ghost use Rattle.search_tree.specs.Slots.{place_of};
 ghost use Rattle.search_tree.specs.Finished.{nodes_of};
-ghost use Rattle.tree_pool.specs.Places.{IsLeafAt, IsTodoAt, IsLeasedAt, taken_to};
+ghost use Rattle.tree_pool.specs.Places.{IsLeafAt, IsTodoAt, IsLeasedAt, AreClosed, taken_to};
 ghost use Rattle.tree_pool.specs.LogNodes.{held};
 ghost use Rattle.tree_pool.specs.Ledger.{offered_by, offered_in};
 
 use crate::choice::{Order, chosen, hint_of};
-use crate::closed::closed_tree;
+use crate::closed::{are_closed, closed_tree};
+use crate::lease::lease_at;
 use crate::put::put_in;
 use crate::refs::NodeRef;
 use crate::scan::{given_back, leased_count, place_under, sides_of, splits_to};
@@ -86,11 +87,19 @@ impl Ledger {
         chosen(&self.log, &self.nodes, order)
     }
 
-    /// The place of a leaf that is leased under this number.
+    /// The place of a leaf that is leased under this number, if there is one.
     pub(crate) fn place_under(&self, number: usize) -> Option<usize>
-        ensures { IfSome result (IsLeasedAt self.now.tree number) }
+        ensures under { IfSome result (IsLeasedAt self.now.tree number) }
+        ensures none { result ≡ None → leased_under number self.now.tree ≡ 0 }
     {
         place_under(&self.log, &self.nodes, number)
+    }
+
+    /// The lease of the leaf at a place of the preorder, where it is leased.
+    pub(crate) fn lease_at(&self, place: usize) -> Option<Lease>
+        ensures { (way : List SideOf) (leaf : LeafOf) → at_place self.now.tree way ≡ Some (AtLeaf leaf) → place_of self.now.tree way ≡ place → result ≡ lease_of leaf }
+    {
+        lease_at(&self.log, &self.nodes, place)
     }
 
     /// A copy of the hint of the leaf at a place, or an empty one.
@@ -264,6 +273,14 @@ impl Ledger {
             None => Ok(None),
             Some(point) => Ok(Some(point.copy(alloc)?)),
         }
+    }
+
+    /// Whether each leaf is closed.
+    pub(crate) fn is_finished(&self) -> bool
+        ensures yes { result ≡ true → AreClosed self.now.tree }
+        ensures no { result ≡ false → ¬ (AreClosed self.now.tree) }
+    {
+        are_closed(&self.log, &self.nodes)
     }
 
     /// The tree as a certificate has it, without the leaves that are not closed.

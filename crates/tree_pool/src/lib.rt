@@ -7,6 +7,7 @@ mod board;
 mod choice;
 mod closed;
 mod kind;
+mod lease;
 mod ledger;
 mod put;
 mod refs;

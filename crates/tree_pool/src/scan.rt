@@ -1,8 +1,8 @@
 // Searches among the nodes of the board's tree, which stand in preorder.
-ghost use Rattle.std.specs.Prelude.{◌≡◌, ◌≤◌, ◌<◌, ◌+◌, ◌++◌, ◌∷◌, true, length, map, reverse, take, List, None, IfOk, IfSome};
+ghost use Rattle.std.specs.Prelude.{◌≡◌, ◌≤◌, ◌<◌, ◌+◌, ◌++◌, ◌∷◌, true, false, length, map, reverse, take, List, None, IfOk, IfSome};
 ghost use Rattle.tree_pool.specs.declared.kind.Kind.TheVariants.{LeasedUnder, SplitBy};
 ghost use Rattle.tree_pool.specs.declared.kind.Kind.{Kind as KindOf};
-ghost use Rattle.tree_pool.specs.Ledger.{taken_back, one_taken, given_back, kinds_in, of_kind, lease_count, IsPlaceOf};
+ghost use Rattle.tree_pool.specs.Ledger.{taken_back, one_taken, given_back, kinds_in, of_kind, lease_count, IsPlaceOf, HasNone};
 
 use crate::kind::{Kind, kind_at, kind_in};
 use crate::refs::NodeRef;
@@ -107,9 +107,10 @@ pub(crate) fn sides_of(alloc: Global, taken: &[SplitTaken]) -> Result<Vec<Side>,
     Ok(sides)
 }
 
-// The place of a leaf that is leased under this number.
+// The place of a leaf that is leased under this number, if there is one.
 pub(crate) fn place_under(log: &[Entry], nodes: &[NodeRef], number: usize) -> Option<usize>
-    ensures { IfSome result (IsPlaceOf (LeasedUnder number) (kinds_in log.now nodes.now)) }
+    ensures under { IfSome result (IsPlaceOf (LeasedUnder number) (kinds_in log.now nodes.now)) }
+    ensures none { result ≡ None → HasNone (LeasedUnder number) (kinds_in log.now nodes.now) }
 {
     let mut at = 0;
     while at < nodes.len() {
@@ -122,7 +123,8 @@ pub(crate) fn place_under(log: &[Entry], nodes: &[NodeRef], number: usize) -> Op
 }
 
 fn is_under(kind: Kind, number: usize) -> bool
-    ensures { result ≡ true → kind ≡ LeasedUnder number }
+    ensures yes { result ≡ true → kind ≡ LeasedUnder number }
+    ensures no { result ≡ false → ¬ (kind ≡ LeasedUnder number) }
 {
     match kind {
         Kind::LeasedUnder(other) => other == number,

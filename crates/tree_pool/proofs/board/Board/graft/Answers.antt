@@ -18,7 +18,7 @@ graft-requires c =
     let b : Board = record { problem = inside.problem; cuts = inside.cuts; split_limit = inside.split_limit; pivot_limit = inside.pivot_limit; tree = inside.ledger.tree; best = inside.ledger.best; log = inside.ledger.log } in
     let P : Board → Type 0 = λ d. (way : List SideOf) × MayGraft d way c.args.lease c.args.tree in
     let may = subst P (sym c.self.view_is) c.requires in
-    let number = same_place inside.ledger.tree c.in-Some.place may.0 c.args.lease ((replay_kept b c.self.invariant.3).one_lease c.args.lease.number) c.in-Some.ensures may.1.is_leased in
+    let number = same_place inside.ledger.tree c.in-Some.place may.0 c.args.lease ((replay_kept b c.self.invariant.3).one_lease c.args.lease.number) c.in-Some.ensures.under may.1.is_leased in
     record { place = record { way = may.0; leaf = Leased c.args.lease; there = may.1.is_leased; number = number } }
 
 pub invariant_of-self-2 : goal.invariant_of-self-2
@@ -27,7 +27,7 @@ invariant_of-self-2 c =
     let b : Board = record { problem = inside.problem; cuts = inside.cuts; split_limit = inside.split_limit; pivot_limit = inside.pivot_limit; tree = inside.ledger.tree; best = inside.ledger.best; log = inside.ledger.log } in
     let P : Board → Type 0 = λ d. (way : List SideOf) × MayGraft d way c.args.lease c.args.tree in
     let may = subst P (sym c.self.view_is) c.requires in
-    let number = same_place inside.ledger.tree c.in-Some.place may.0 c.args.lease ((replay_kept b c.self.invariant.3).one_lease c.args.lease.number) c.in-Some.ensures may.1.is_leased in
+    let number = same_place inside.ledger.tree c.in-Some.place may.0 c.args.lease ((replay_kept b c.self.invariant.3).one_lease c.args.lease.number) c.in-Some.ensures.under may.1.is_leased in
     let new = c.graft.new.self in
     let e : new.tree ≡ replaced inside.ledger.tree may.0 c.args.tree = c.in_ok-graft.ensures.tree may.0 (Leased c.args.lease) may.1.is_leased number in
     let replays = graft_replays b may.0 c.args.seat c.args.lease c.args.tree new.tree inside.best_value may.1 c.self.invariant.3 c.self.invariant.2 e in
@@ -46,7 +46,7 @@ returns-clause-ok c =
     let b : Board = record { problem = inside.problem; cuts = inside.cuts; split_limit = inside.split_limit; pivot_limit = inside.pivot_limit; tree = inside.ledger.tree; best = inside.ledger.best; log = inside.ledger.log } in
     let P : Board → Type 0 = λ d. (way : List SideOf) × MayGraft d way c.args.lease c.args.tree in
     let may = subst P (sym c.self.view_is) c.requires in
-    let number = same_place inside.ledger.tree c.in-Some.place may.0 c.args.lease ((replay_kept b c.self.invariant.3).one_lease c.args.lease.number) c.in-Some.ensures may.1.is_leased in
+    let number = same_place inside.ledger.tree c.in-Some.place may.0 c.args.lease ((replay_kept b c.self.invariant.3).one_lease c.args.lease.number) c.in-Some.ensures.under may.1.is_leased in
     let new = c.graft.new.self in
     let e : new.tree ≡ replaced inside.ledger.tree may.0 c.args.tree = c.in_ok-graft.ensures.tree may.0 (Leased c.args.lease) may.1.is_leased number in
     let is = graft_is b may.0 c.args.seat c.args.lease c.args.tree new.tree inside.best_value may.1 c.self.invariant.2 e in

@@ -15,5 +15,5 @@ returns c = λ way there.
     let b : Board = record { problem = inside.problem; cuts = inside.cuts; split_limit = inside.split_limit; pivot_limit = inside.pivot_limit; tree = inside.ledger.tree; best = inside.ledger.best; log = inside.ledger.log } in
     let P : Board → Type 0 = λ d. at_place d.tree way ≡ Some (AtLeaf (Leased c.args.lease)) in
     let here = subst P (sym c.self.view_is) there in
-    let number = same_place inside.ledger.tree c.in-Some.place way c.args.lease ((replay_kept b c.self.invariant.3).one_lease c.args.lease.number) c.in-Some.ensures here in
+    let number = same_place inside.ledger.tree c.in-Some.place way c.args.lease ((replay_kept b c.self.invariant.3).one_lease c.args.lease.number) c.in-Some.ensures.under here in
     ap sides_of (c.from_vec.ensures ∙ c.in_ok-taken.ensures way (Leased c.args.lease) here number) ∙ sym (append-nil (sides_of (taken_to inside.ledger.tree way))) ∙ sides_are inside.ledger.tree way [] ∙ ap (λ d. sides_to d.tree way []) c.self.view_is

@@ -1,0 +1,3 @@
+mod NodePoints
+mod Paths
+mod OwnValues

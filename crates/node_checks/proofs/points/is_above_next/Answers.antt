@@ -1,0 +1,9 @@
+use Rattle.std.proofs.Common.{subst}
+use Rattle.rational.specs.Rational.{Rational, ◌≤ℚ◌}
+use Rattle.node_checks.proofs.NodePoints.{next_is}
+use Rattle.node_checks.proofs.points.is_above_next.Goals as goal
+
+pub returns : goal.returns
+returns c = λ t.
+    let P : Rational → Type 0 = λ b. b ≤ℚ c.args.value in
+    subst P (next_is c.args.at c.to_frac.result c.one.result c.add.result c.in_ok-next.next c.to_frac.ensures c.one.ensures c.add.ensures c.in_ok-next.was) (c.is_at_most.ensures t)

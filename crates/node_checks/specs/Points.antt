@@ -1,0 +1,21 @@
+-- The parts of the test of a point of a node's relaxation.
+use Rattle.std.specs.Prelude.{ℕ, pos, ◌+ℤ◌, ◌≡◌, List, length, IfSome, slice_get}
+use Rattle.rational.specs.Rational.{Rational, whole, ◌≤ℚ◌}
+use Rattle.milp.specs.Form.{number_at, sum_at}
+use Rattle.milp.specs.Problem.{Column, Row}
+use Rattle.milp.specs.Points.{IsWithin}
+use Rattle.verdicts.specs.Certificate.{Side, Low, High}
+
+-- a number for each column, inside its bounds
+pub record AreInColumns (columns : List Column) (x : List Rational) : Type 0 where
+  pub size : length x ≡ length columns
+  pub within : (j : ℕ) → IfSome (slice_get columns j) (λ c. IsWithin c.lower c.upper (number_at x j))
+
+-- each row is met
+abbrev pub AreInRows : List Row → List Rational → Type 0
+AreInRows rows x = (i : ℕ) → IfSome (slice_get rows i) (λ r. IsWithin r.lower r.upper (sum_at x r.entries))
+
+-- the point is on this side of a split
+abbrev pub IsOnSide : List Rational → Side → Type 0
+IsOnSide x (Low s) = number_at x s.column ≤ℚ whole s.at
+IsOnSide x (High s) = whole (s.at +ℤ pos 1) ≤ℚ number_at x s.column
