@@ -67,18 +67,27 @@ pub(crate) fn reply(alloc: Global, board: &mut Board, event: &str) -> Result<Str
 
 // `idle N`, or number, grant and best value of the lease, and the leaf's name.
 fn leased(alloc: Global, board: &mut Board, seat: usize) -> Result<String, AllocError> {
-    match board.lease(alloc, seat)? {
-        LeaseAnswer::Idle(count) => format!(in alloc; "idle {count}"),
-        LeaseAnswer::Leased(lease, _) => lease_words(alloc, board, &lease),
+    let answer = board.lease(alloc, seat)?;
+    answer_words(alloc, board, answer)
+}
+
+fn answer_words(alloc: Global, board: &Board, answer: LeaseAnswer) -> Result<String, AllocError> {
+    match answer {
+        LeaseAnswer::Idle(count) => idle_words(alloc, count),
+        LeaseAnswer::Leased(lease, _hint) => lease_words(alloc, board, lease),
     }
 }
 
-fn lease_words(alloc: Global, board: &Board, lease: &Lease) -> Result<String, AllocError> {
-    let node = board.node(alloc, lease.copy())?;
-    let name = leaf_name(alloc, node.splits.as_slice())?;
+fn idle_words(alloc: Global, count: usize) -> Result<String, AllocError> {
+    format!(in alloc; "idle {count}")
+}
+
+fn lease_words(alloc: Global, board: &Board, lease: Lease) -> Result<String, AllocError> {
     let best = value_word(alloc, &lease.best)?;
     let number = lease.number;
     let grant = lease.grant;
+    let node = board.node(alloc, lease)?;
+    let name = leaf_name(alloc, node.splits.as_slice())?;
     format!(in alloc; "{number} {grant} {best} {name}")
 }
 
