@@ -15,8 +15,8 @@ use Rattle.cert_check.proofs.Laws.{next_ok}
 use Rattle.rational.specs.Compare.{is_at_most}
 use Rattle.rational.proofs.Laws.{at_most_true}
 use Rattle.verdicts.specs.Certificate.{Split, Side, Low, High, Derived}
-use Rattle.verdicts.specs.Proves.{lesser, greater, lower_under, upper_under, InsideBounds, AllDerived}
-use Rattle.verdicts.proofs.Laws.{inside_own}
+use Rattle.verdicts.specs.Proves.{InsideBounds, AllDerived}
+use Rattle.verdicts.proofs.Laws.{inside_own, inside_low, inside_high}
 use Rattle.basis.specs.Node.{IsNodePoint}
 use Rattle.certificate.specs.Ways.{side_of}
 use Rattle.search_node.specs.Sides.{sides_of}
@@ -25,42 +25,6 @@ use Rattle.node_checks.specs.Points.{AreInColumns, AreInRows, IsOnSide}
 
 pub at_most_is : (a b : Rational) → is_at_most a b ≡ true → a ≤ℚ b
 at_most_is a b h = at_most_true a b h
-
--- ---- bounds under one more split
-
-lesser_above : (o : Option Rational) (b v : Rational) → IfSome o (λ a. v ≤ℚ a) → v ≤ℚ b → v ≤ℚ lesser o b
-lesser_above None b v h k = k
-lesser_above (Some a) b v h k = go (is_at_most a b)
-  where
-    go : (t : Bool) → v ≤ℚ (if t then a else b)
-    go true = h
-    go false = k
-
-greater_below : (o : Option Rational) (b v : Rational) → IfSome o (λ a. a ≤ℚ v) → b ≤ℚ v → greater o b ≤ℚ v
-greater_below None b v h k = k
-greater_below (Some a) b v h k = go (is_at_most a b)
-  where
-    go : (t : Bool) → (if t then b else a) ≤ℚ v
-    go true = k
-    go false = h
-
-inside_low : (p : Problem) (s : Split) (at : List Side) (x : List Rational) → InsideBounds p at x → number_at x s.column ≤ℚ whole s.at → InsideBounds p (Low s ∷ at) x
-inside_low p s at x h k = record { within = λ j. record { low = (h.within j).low; high = go j (s.column == j) refl } }
-  where
-    go : (j : ℕ) (t : Bool) → (s.column == j) ≡ t → IfSome (if t then Some (lesser (upper_under p at j) (whole s.at)) else upper_under p at j) (λ b. number_at x j ≤ℚ b)
-    go j true e =
-        let P : ℕ → Type 0 = λ i. number_at x i ≤ℚ whole s.at in
-        lesser_above (upper_under p at j) (whole s.at) (number_at x j) (h.within j).high (subst P (eqb-true s.column j e) k)
-    go j false e = (h.within j).high
-
-inside_high : (p : Problem) (s : Split) (at : List Side) (x : List Rational) → InsideBounds p at x → whole (s.at +ℤ pos 1) ≤ℚ number_at x s.column → InsideBounds p (High s ∷ at) x
-inside_high p s at x h k = record { within = λ j. record { low = go j (s.column == j) refl; high = (h.within j).high } }
-  where
-    go : (j : ℕ) (t : Bool) → (s.column == j) ≡ t → IfSome (if t then Some (greater (lower_under p at j) (whole (s.at +ℤ pos 1))) else lower_under p at j) (λ b. b ≤ℚ number_at x j)
-    go j true e =
-        let P : ℕ → Type 0 = λ i. whole (s.at +ℤ pos 1) ≤ℚ number_at x i in
-        greater_below (lower_under p at j) (whole (s.at +ℤ pos 1)) (number_at x j) (h.within j).low (subst P (eqb-true s.column j e) k)
-    go j false e = (h.within j).low
 
 -- on each of the sides
 abbrev AllOnSides : List Rational → List Side → Type 0

@@ -36,7 +36,7 @@ greater_below (Some a) b v h k = go (is_at_most a b)
     go true = k
     go false = h
 
-inside_low : (p : Problem) (s : Split) (at : List Side) (x : List Rational) → InsideBounds p at x → number_at x s.column ≤ℚ whole s.at → InsideBounds p (Low s ∷ at) x
+pub inside_low : (p : Problem) (s : Split) (at : List Side) (x : List Rational) → InsideBounds p at x → number_at x s.column ≤ℚ whole s.at → InsideBounds p (Low s ∷ at) x
 inside_low p s at x h k = record { within = λ j. record { low = (h.within j).low; high = go j (s.column == j) refl } }
   where
     go : (j : ℕ) (t : Bool) → (s.column == j) ≡ t → IfSome (if t then Some (lesser (upper_under p at j) (whole s.at)) else upper_under p at j) (λ b. number_at x j ≤ℚ b)
@@ -45,7 +45,7 @@ inside_low p s at x h k = record { within = λ j. record { low = (h.within j).lo
         lesser_above (upper_under p at j) (whole s.at) (number_at x j) (h.within j).high (subst P (eqb-true s.column j e) k)
     go j false e = (h.within j).high
 
-inside_high : (p : Problem) (s : Split) (at : List Side) (x : List Rational) → InsideBounds p at x → whole (s.at +ℤ pos 1) ≤ℚ number_at x s.column → InsideBounds p (High s ∷ at) x
+pub inside_high : (p : Problem) (s : Split) (at : List Side) (x : List Rational) → InsideBounds p at x → whole (s.at +ℤ pos 1) ≤ℚ number_at x s.column → InsideBounds p (High s ∷ at) x
 inside_high p s at x h k = record { within = λ j. record { low = go j (s.column == j) refl; high = (h.within j).high } }
   where
     go : (j : ℕ) (t : Bool) → (s.column == j) ≡ t → IfSome (if t then Some (greater (lower_under p at j) (whole (s.at +ℤ pos 1))) else lower_under p at j) (λ b. b ≤ℚ number_at x j)
