@@ -1,3 +1,4 @@
 mod NodePoints
 mod Paths
 mod OwnValues
+pub mod Laws

@@ -1,2 +1,4 @@
 pub mod Points
+pub mod Faults
 pub mod Paths
+pub mod Optimum

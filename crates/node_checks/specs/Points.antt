@@ -5,6 +5,8 @@ use Rattle.milp.specs.Form.{number_at, sum_at}
 use Rattle.milp.specs.Problem.{Column, Row}
 use Rattle.milp.specs.Points.{IsWithin}
 use Rattle.verdicts.specs.Certificate.{Side, Low, High}
+use Rattle.certificate.specs.Ways.{side_of}
+use Rattle.search_node.specs.declared.node.SplitTaken.{SplitTaken}
 
 -- a number for each column, inside its bounds
 pub record AreInColumns (columns : List Column) (x : List Rational) : Type 0 where
@@ -19,3 +21,7 @@ AreInRows rows x = (i : ℕ) → IfSome (slice_get rows i) (λ r. IsWithin r.low
 abbrev pub IsOnSide : List Rational → Side → Type 0
 IsOnSide x (Low s) = number_at x s.column ≤ℚ whole s.at
 IsOnSide x (High s) = whole (s.at +ℤ pos 1) ≤ℚ number_at x s.column
+
+-- the point is on the side of each split that was taken
+abbrev pub AreOnSides : List Rational → List SplitTaken → Type 0
+AreOnSides x taken = (k : ℕ) → IfSome (slice_get taken k) (λ t. IsOnSide x (side_of t.split t.side))

@@ -8,4 +8,4 @@ mod points;
 
 pub use optimum::is_optimal;
 pub use path::Path;
-pub use points::is_node_point;
+pub use points::{form_value, is_node_point};

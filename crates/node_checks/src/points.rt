@@ -1,5 +1,5 @@
 // The test of a point of a node's relaxation.
-ghost use Rattle.std.specs.Prelude.{ℕ, pos, ◌+ℤ◌, ◌≡◌, true, IfOk, IfSome, slice_get};
+ghost use Rattle.std.specs.Prelude.{pos, ◌+ℤ◌, ◌≡◌, true, false, Err, IfOk, IfErr, IfSome};
 ghost use Rattle.rational.specs.Rational.{whole, ◌≤ℚ◌};
 ghost use Rattle.milp.specs.Form.{number_at, sum_at};
 ghost use Rattle.milp.specs.Points.{IsWithin};
@@ -7,23 +7,29 @@ ghost use Rattle.verdicts.specs.Proves.{AllDerived};
 ghost use Rattle.basis.specs.Node.{IsNodePoint};
 ghost use Rattle.certificate.specs.Ways.{side_of};
 ghost use Rattle.search_node.specs.Sides.{sides_of};
-ghost use Rattle.node_checks.specs.Points.{AreInColumns, AreInRows, IsOnSide};
+ghost use Rattle.rational.specs.Rational.{zero_ℚ};
+ghost use Rattle.instance.specs.Sums.{sum_answer};
+ghost use Rattle.cert_check.specs.Sums.{next_answer};
+ghost use Rattle.node_checks.specs.Points.{AreInColumns, AreInRows, IsOnSide, AreOnSides};
+ghost use Rattle.node_checks.specs.Faults.{IsRowFault, IsCutFault, IsSideFault, AreSideFaults, IsPointFault};
 
 use certificate::{Derived, DerivedRows, Side, WholeNumber};
 use fraction::{Frac, NoFit};
 use instance::{Column, Entry, Instance, Point, Row, sum};
 use search_node::{SplitTaken, SplitsTaken};
 
-/// Where this is true, the point is one of the relaxation of the node below these splits: it has a number for each column
-/// inside the node's bounds, and meets each row and each cut. A fault is the first operation on the way that does not fit.
-/// It takes no memory.
+/// Whether the point is one of the relaxation of the node below these splits: it has a number for each column inside the
+/// node's bounds, and meets each row and each cut. A fault is the first operation on the way that does not fit: of the sum
+/// of a row or of a cut at the point, or the whole number next to a split. It takes no memory.
 pub fn is_node_point(
     problem: &Instance,
     cuts: &DerivedRows,
     splits: &SplitsTaken,
     point: &Point,
 ) -> Result<bool, NoFit>
-    ensures { IfOk result (λ b. b ≡ true → IsNodePoint problem.now cuts.now (sides_of splits.now) point.now) }
+    ensures yes { IfOk result (λ b. b ≡ true → IsNodePoint problem.now cuts.now (sides_of splits.now) point.now) }
+    ensures no { IfOk result (λ b. b ≡ false → ¬ (IsNodePoint problem.now cuts.now (sides_of splits.now) point.now)) }
+    ensures fault { IfErr result (IsPointFault problem.now cuts.now splits.now point.now) }
 {
     let x = point.as_slice();
     let taken = splits.as_slice();
@@ -41,7 +47,8 @@ pub fn is_node_point(
 
 // A number for each column, inside its bounds.
 fn are_in_columns(columns: &[Column], x: &[Frac]) -> bool
-    ensures { result ≡ true → AreInColumns columns.now x.now }
+    ensures yes { result ≡ true → AreInColumns columns.now x.now }
+    ensures no { result ≡ false → ¬ (AreInColumns columns.now x.now) }
 {
     if x.len() != columns.len() {
         return false;
@@ -59,12 +66,14 @@ fn are_in_columns(columns: &[Column], x: &[Frac]) -> bool
 
 // Each row is met.
 fn are_in_rows(rows: &[Row], x: &[Frac]) -> Result<bool, NoFit>
-    ensures { IfOk result (λ b. b ≡ true → AreInRows rows.now x.now) }
+    ensures yes { IfOk result (λ b. b ≡ true → AreInRows rows.now x.now) }
+    ensures no { IfOk result (λ b. b ≡ false → ¬ (AreInRows rows.now x.now)) }
+    ensures fault { IfErr result (IsRowFault rows.now x.now) }
 {
     let mut i = 0;
     while i < rows.len() {
         let row = &rows[i];
-        let value = value_of(row.entries().as_slice(), x)?;
+        let value = form_value(row.entries().as_slice(), x)?;
         if !is_within(row.lower(), row.upper(), value) {
             return Ok(false);
         }
@@ -75,12 +84,15 @@ fn are_in_rows(rows: &[Row], x: &[Frac]) -> Result<bool, NoFit>
 
 // Each cut is met.
 fn meets_cuts(cuts: &[Derived], x: &[Frac]) -> Result<bool, NoFit>
-    ensures { IfOk result (λ b. b ≡ true → AllDerived x.now cuts.now) }
+    ensures yes { IfOk result (λ b. b ≡ true → AllDerived x.now cuts.now) }
+    ensures no { IfOk result (λ b. b ≡ false → ¬ (AllDerived x.now cuts.now)) }
+    ensures fault { IfErr result (IsCutFault cuts.now x.now) }
 {
     let mut k = 0;
     while k < cuts.len() {
-        let value = value_of(cuts[k].form().as_slice(), x)?;
-        if !is_at_most(cuts[k].bound(), value) {
+        let cut = &cuts[k];
+        let value = form_value(cut.form().as_slice(), x)?;
+        if !is_at_most(cut.bound(), value) {
             return Ok(false);
         }
         k += 1;
@@ -90,7 +102,9 @@ fn meets_cuts(cuts: &[Derived], x: &[Frac]) -> Result<bool, NoFit>
 
 // The point is on the side of each split.
 fn is_on_sides(splits: &[SplitTaken], x: &[Frac]) -> Result<bool, NoFit>
-    ensures { IfOk result (λ b. b ≡ true → (k : ℕ) → IfSome (slice_get splits.now k) (λ t. IsOnSide x.now (side_of t.split t.side))) }
+    ensures yes { IfOk result (λ b. b ≡ true → AreOnSides x.now splits.now) }
+    ensures no { IfOk result (λ b. b ≡ false → ¬ (AreOnSides x.now splits.now)) }
+    ensures fault { IfErr result (AreSideFaults splits.now) }
 {
     let mut k = 0;
     while k < splits.len() {
@@ -104,7 +118,9 @@ fn is_on_sides(splits: &[SplitTaken], x: &[Frac]) -> Result<bool, NoFit>
 
 // The point is on the side of a split.
 fn is_on_side(taken: &SplitTaken, x: &[Frac]) -> Result<bool, NoFit>
-    ensures { IfOk result (λ b. b ≡ true → IsOnSide x.now (side_of taken.now.split taken.now.side)) }
+    ensures yes { IfOk result (λ b. b ≡ true → IsOnSide x.now (side_of taken.now.split taken.now.side)) }
+    ensures no { IfOk result (λ b. b ≡ false → ¬ (IsOnSide x.now (side_of taken.now.split taken.now.side))) }
+    ensures fault { IfErr result (IsSideFault (side_of taken.now.split taken.now.side)) }
 {
     let value = number(x, taken.split.column());
     let at = taken.split.at();
@@ -116,7 +132,9 @@ fn is_on_side(taken: &SplitTaken, x: &[Frac]) -> Result<bool, NoFit>
 
 // At least the next whole number.
 fn is_above_next(at: WholeNumber, value: Frac) -> Result<bool, NoFit>
-    ensures { IfOk result (λ b. b ≡ true → whole (at +ℤ pos 1) ≤ℚ value) }
+    ensures yes { IfOk result (λ b. b ≡ true → whole (at +ℤ pos 1) ≤ℚ value) }
+    ensures no { IfOk result (λ b. b ≡ false → ¬ (whole (at +ℤ pos 1) ≤ℚ value)) }
+    ensures fault { IfErr result (λ e. next_answer at ≡ Err e) }
 {
     let next = at.to_frac().add(Frac::one())?;
     Ok(is_at_most(next, value))
@@ -132,22 +150,25 @@ fn number(x: &[Frac], column: u32) -> Frac
     }
 }
 
-// The value of a form at a point.
-pub(crate) fn value_of(form: &[Entry], x: &[Frac]) -> Result<Frac, NoFit>
-    ensures { IfOk result (λ v. v ≡ sum_at x.now form.now) }
+/// The value of a form at a point, or the first operation on the way that does not fit.
+pub fn form_value(form: &[Entry], x: &[Frac]) -> Result<Frac, NoFit>
+    ensures exact { result ≡ sum_answer x.now zero_ℚ form.now }
+    ensures is_sum { IfOk result (λ v. v ≡ sum_at x.now form.now) }
 {
     sum(form, x)
 }
 
 // A number is inside its bounds.
 fn is_within(lower: Option<Frac>, upper: Option<Frac>, value: Frac) -> bool
-    ensures { result ≡ true → IsWithin lower upper value }
+    ensures yes { result ≡ true → IsWithin lower upper value }
+    ensures no { result ≡ false → ¬ (IsWithin lower upper value) }
 {
     is_above(lower, value) && is_below(upper, value)
 }
 
 fn is_above(bound: Option<Frac>, value: Frac) -> bool
-    ensures { result ≡ true → IfSome bound (λ b. b ≤ℚ value) }
+    ensures yes { result ≡ true → IfSome bound (λ b. b ≤ℚ value) }
+    ensures no { result ≡ false → ¬ (IfSome bound (λ b. b ≤ℚ value)) }
 {
     match bound {
         None => true,
@@ -156,7 +177,8 @@ fn is_above(bound: Option<Frac>, value: Frac) -> bool
 }
 
 fn is_below(bound: Option<Frac>, value: Frac) -> bool
-    ensures { result ≡ true → IfSome bound (λ b. value ≤ℚ b) }
+    ensures yes { result ≡ true → IfSome bound (λ b. value ≤ℚ b) }
+    ensures no { result ≡ false → ¬ (IfSome bound (λ b. value ≤ℚ b)) }
 {
     match bound {
         None => true,
@@ -164,9 +186,10 @@ fn is_below(bound: Option<Frac>, value: Frac) -> bool
     }
 }
 
-#[tactic(auto, using(crate::proofs::NodePoints::at_most_is))]
+#[tactic(auto, using(crate::proofs::NodePoints::at_most_is, crate::proofs::NodePoints::not_at_most))]
 fn is_at_most(a: Frac, b: Frac) -> bool
-    ensures { result ≡ true → a ≤ℚ b }
+    ensures yes { result ≡ true → a ≤ℚ b }
+    ensures no { result ≡ false → ¬ (a ≤ℚ b) }
 {
     a <= b
 }

@@ -11,4 +11,4 @@ returns c = λ t.
     let x = c.args.point.now in
     let P : Problem → Type 0 = λ p. IsRelaxedOptimum p c.cuts-cuts.result.now sides x in
     let Q : List Derived → Type 0 = λ ds. IsRelaxedOptimum c.args.board.now.problem ds sides x in
-    subst Q c.cuts-cuts.ensures (subst P c.problem-problem.ensures (where_passed c.is_optimal.result _ c.is_optimal.ensures (c.passes.ensures t)))
+    subst Q c.cuts-cuts.ensures (subst P c.problem-problem.ensures (where_passed c.is_optimal.result _ c.is_optimal.ensures.optimum (c.passes.ensures t)))

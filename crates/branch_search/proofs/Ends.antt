@@ -1,0 +1,115 @@
+-- Honest ways are over the problem's columns; how a search begins and ends.
+use Rattle.std.proofs.Common.{◌≡◌, ◌∙◌, ℕ, zero, suc, ◌<◌, ◌⊎◌, inl, inr, List, [], ◌∷◌, length, Bool, true, false, refl, sym, subst, Some, IfSome, slice_get, Result, Ok, Err, IfOk, arith}
+use Rattle.milp.specs.Problem.{Column, Problem}
+use Rattle.verdicts.specs.Certificate.{Side as SideOf, Low as LowOf, High as HighOf, Derived}
+use Rattle.verdicts.specs.Proves.{is_integer}
+use Rattle.certificate.specs.declared.split.Side.{Side}
+use Rattle.basis.specs.Node.{IsOverColumns, column_of}
+use Rattle.search_tree.specs.declared.leaf.Lease.{Lease}
+use Rattle.search_tree.specs.declared.leaf.Leaf.{Leaf}
+use Rattle.search_tree.specs.declared.leaf.Leaf.TheVariants.{Leased}
+use Rattle.search_tree.specs.Tree.{Tree, Divided, AtLeaf, IsTodo, at_place, replaced}
+use Rattle.search_tree.specs.Steps.{IsLease}
+use Rattle.tree_pool.specs.Answers.{IsAnswer}
+use Rattle.tree_pool.specs.declared.answer.LeaseAnswer.{LeaseAnswer}
+use Rattle.tree_pool.specs.declared.answer.LeaseAnswer.TheVariants as answers
+use Rattle.branch_search.specs.declared.settling.Round.{Round}
+use Rattle.branch_search.specs.declared.settling.Round.TheVariants as rounds
+use Rattle.branch_search.specs.declared.fault.SearchFault.{SearchFault}
+use Rattle.branch_search.specs.Settled.{seat, IsSettled, IsRound}
+use Rattle.certificate.specs.declared.split.Side.TheVariants.{Low, High}
+use Rattle.search_tree.specs.Nodes.{IsTreated}
+use Rattle.search_tree.specs.Board.{Board, value_of}
+use Rattle.search_tree.specs.Honest.{AreHonest, IsHonestWay}
+use Rattle.search_tree.specs.Kept.{IsKept, closed_node}
+use Rattle.search_tree.specs.Finished.{IsFinished, IsThere}
+use Rattle.tree_pool.specs.Places.{IsOpen}
+use Rattle.branch_search.specs.Underway.{IsStanding, IsUnderway, IsAtEnd}
+use Rattle.branch_search.specs.Faults.{IsOutOfSplits}
+use Rattle.branch_search.proofs.Leased.{all_of_both}
+
+-- ---- honest ways
+
+known : (columns : List Column) (j : ℕ) → is_integer (slice_get columns j) ≡ true → j < length columns
+known [] j h = cc
+known (c ∷ columns) zero h = omega arith
+known (c ∷ columns) (suc j) h = let k = known columns j h in omega (arith, k)
+
+on_columns : (p : Problem) (ds : List Derived) (sides : List SideOf) → AreHonest p ds sides → (k : ℕ) → IfSome (slice_get sides k) (λ side. column_of side < length p.columns)
+on_columns p ds [] h k = tt
+on_columns p ds (LowOf s ∷ sides) h zero = known p.columns s.column h.0.integer
+on_columns p ds (HighOf s ∷ sides) h zero = known p.columns s.column h.0.integer
+on_columns p ds (LowOf s ∷ sides) h (suc k) = on_columns p ds sides h.1 k
+on_columns p ds (HighOf s ∷ sides) h (suc k) = on_columns p ds sides h.1 k
+
+pub over_columns : (p : Problem) (ds : List Derived) (limit : ℕ) (sides : List SideOf) (q : Problem) (qs : List Derived) → q ≡ p → qs ≡ ds → ds ≡ [] → IsOverColumns q [] [] → IsHonestWay p ds limit sides → IsOverColumns q qs sides
+over_columns p ds limit sides q qs e f none root way =
+    let P : List Derived → Type 0 = λ cuts. IsOverColumns q cuts sides in
+    let H : Problem → Type 0 = λ r. AreHonest r ds sides in
+    subst P (sym (f ∙ none)) (record { objective = root.objective; rows = root.rows; derived = λ k. tt; splits = on_columns q ds sides (subst H (sym e) way.splits) })
+
+-- ---- the end
+
+-- where no leaf is to be worked on, it is closed, or of a treated node
+abbrev IsEnd : Board → List SideOf → Leaf → Type 0
+IsEnd b sides leaf = IsThere (closed_node leaf) ⊎ IsTreated b.problem b.cuts sides (value_of b)
+
+end : (b : Board) (sides : List SideOf) (leaf : Leaf) → IsStanding b.problem b.cuts (value_of b) true sides leaf → ¬ (IsTodo leaf) → IsEnd b sides leaf
+end b sides leaf (inl k) none = absurd (none k)
+end b sides leaf (inr (inl k)) none = inl k
+end b sides leaf (inr (inr k)) none = inr k.treated
+
+closed : (b : Board) (sides : List SideOf) (leaf : Leaf) → IsStanding b.problem b.cuts (value_of b) false sides leaf → ¬ (IsTodo leaf) → IsThere (closed_node leaf)
+closed b sides leaf (inl k) none = absurd (none k)
+closed b sides leaf (inr (inl k)) none = k
+closed b sides leaf (inr (inr k)) none = let never : false ≡ true = k.is_out in cc
+
+pub out_of_splits : (b : Board) → IsKept b → IsAtEnd b → ¬ (IsFinished b) → IsOutOfSplits b.problem b.cuts b.split_limit
+out_of_splits b kept h unfinished = go h.going.0 h.going.1
+  where
+    go : (out : Bool) → IsUnderway b (value_of b) out → IsOutOfSplits b.problem b.cuts b.split_limit
+    go false u = absurd (unfinished (all_of_both (IsStanding b.problem b.cuts (value_of b) false) (λ sides leaf. ¬ (IsTodo leaf)) (λ sides leaf. IsThere (closed_node leaf)) (closed b) b.tree [] u.leaves h.none_todo))
+    go true u = record {
+      board = b;
+      kept = kept;
+      problem = refl;
+      cuts = refl;
+      limit = refl;
+      all_made = u.all_made refl;
+      leaves = all_of_both (IsStanding b.problem b.cuts (value_of b) true) (λ sides leaf. ¬ (IsTodo leaf)) (IsEnd b) (end b) b.tree [] u.leaves h.none_todo;
+      unfinished = unfinished;
+    }
+
+-- ---- a lease
+
+replaced_there : (t : Tree) (way : List Side) (leaf other : Tree) → at_place t way ≡ Some leaf → at_place (replaced t way other) way ≡ Some other
+replaced_there t [] leaf other h = refl
+replaced_there (AtLeaf l) (side ∷ way) leaf other h = cc
+replaced_there (Divided s low high) (Low ∷ way) leaf other h = replaced_there low way leaf other h
+replaced_there (Divided s low high) (High ∷ way) leaf other h = replaced_there high way leaf other h
+
+open_by : (b : Board) (way : List Side) (lease : Lease) (c : Board) → IsLease b seat way lease c → IsOpen c.tree lease
+open_by b way lease c h =
+    let P : Board → Type 0 = λ d. IsOpen d.tree lease in
+    subst P (sym h.new) (record { way = way; there = replaced_there b.tree way (AtLeaf h.leaf) (AtLeaf (Leased lease)) h.there })
+
+pub leased_open : (b c : Board) (answer : LeaseAnswer) (lease : Lease) (hint : Unit {0}) → answer ≡ answers.Leased lease hint → IsAnswer b seat answer c → IsOpen c.tree lease
+leased_open b c answer lease hint e h =
+    let P : LeaseAnswer → Type 0 = λ a. IsAnswer b seat a c in
+    let k = subst P e h in
+    open_by b k.0 lease c k.1
+
+settled : (b : Board) (way : List Side) (lease : Lease) (m c : Board) (round : Round) → IsLease b seat way lease m → IsSettled m lease round c → IsRound b round c
+settled b way lease m c rounds.Worked l h = record { way = way; lease = lease; board = m; is_lease = l; settled = h }
+settled b way lease m c rounds.Left l h = record { way = way; lease = lease; board = m; is_lease = l; settled = h }
+settled b way lease m c rounds.Idle l h = absurd h
+
+pub after_lease : (b m c : Board) (answer : LeaseAnswer) (lease : Lease) (hint : Unit {0}) (r : Result Round SearchFault) → answer ≡ answers.Leased lease hint → IsAnswer b seat answer m → IfOk r (λ round. IsSettled m lease round c) → IfOk r (λ round. IsRound b round c)
+after_lease b m c answer lease hint r e h k =
+    let P : LeaseAnswer → Type 0 = λ a. IsAnswer b seat a m in
+    let l = subst P e h in
+    go r k l
+  where
+    go : (r : Result Round SearchFault) → IfOk r (λ round. IsSettled m lease round c) → (way : List Side) × IsLease b seat way lease m → IfOk r (λ round. IsRound b round c)
+    go (Ok round) k l = settled b l.0 lease m c round l.1 k
+    go (Err fault) k l = tt

@@ -1,0 +1,4 @@
+mod Leased
+mod Standing
+mod Further
+mod Ends

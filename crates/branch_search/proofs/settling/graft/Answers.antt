@@ -1,0 +1,11 @@
+use Rattle.std.proofs.Common.{◌∙◌, sym}
+use Rattle.branch_search.proofs.Standing.{value_of_ok}
+use Rattle.branch_search.proofs.settling.graft.Goals as goal
+
+pub returns-in-Some : goal.returns-in-Some
+returns-in-Some c = record {
+  tree = c.args.tree;
+  outcome = c.requires.outcome;
+  best = c.in-Some.field-0;
+  graft = value_of_ok c.graft.result c.in-Some.field-0 _ (sym c.ok.ensures.value ∙ c.in-Some.is) c.graft.ensures.ok;
+}

@@ -1,0 +1,49 @@
+-- What it says where a search finds no verdict.
+use Rattle.std.specs.Prelude.{ℕ, ◌≤◌, ◌≡◌, ◌⊎◌, List, []}
+use Rattle.milp.specs.Problem.{Problem}
+use Rattle.milp.specs.Points.{IsImprovingRay}
+use Rattle.verdicts.specs.Certificate.{Side, Derived}
+use Rattle.basis.specs.Node.{system_of}
+use Rattle.simplex.specs.Run.{IsLimited}
+use Rattle.search_node.specs.Sides.{sides_of}
+use Rattle.search_node.specs.declared.fault.Site.{Site}
+use Rattle.basis.specs.declared.Place.{Place}
+use Rattle.search_tree.specs.Tree.{AllLeaves, made}
+use Rattle.search_tree.specs.Nodes.{IsTreated}
+use Rattle.search_tree.specs.Work.{IsWorkFault}
+use Rattle.search_tree.specs.Board.{Board, value_of}
+use Rattle.search_tree.specs.Honest.{IsHonestWay}
+use Rattle.search_tree.specs.Finished.{IsFinished, IsThere}
+use Rattle.search_tree.specs.Kept.{IsKept, closed_node}
+use Rattle.branch_search.specs.declared.fault.SearchFault.{SearchFault}
+use Rattle.branch_search.specs.declared.fault.SearchFault.TheVariants.{NoFit, PivotLimit, SplitLimit, Unbounded, NoMemory}
+
+-- an operation of the work at a node on an honest way does not fit
+pub record IsStuckAt (p : Problem) (ds : List Derived) (splits : ℕ) (site : Site) : Type 0 where
+  pub way : IsHonestWay p ds splits (sides_of site.node.splits)
+  pub fault : IsWorkFault p ds (sides_of site.node.splits) site.fault
+
+-- Bland's run at a node on an honest way goes through these bases, and further
+pub record IsRunTooLong (p : Problem) (ds : List Derived) (splits pivots : ℕ) (bases : List (List Place)) : Type 0 where
+  pub sides : List Side
+  pub way : IsHonestWay p ds splits sides
+  pub limited : IsLimited (system_of p ds sides) pivots bases
+
+-- a kept board of the problem has made all splits that are allowed, and is not finished: each leaf that isn't closed is of
+-- a node that is treated against the best value, and would have to be split
+pub record IsOutOfSplits (p : Problem) (ds : List Derived) (splits : ℕ) : Type 0 where
+  pub board : Board
+  pub kept : IsKept board
+  pub problem : board.problem ≡ p
+  pub cuts : board.cuts ≡ ds
+  pub limit : board.split_limit ≡ splits
+  pub all_made : splits ≤ made board.tree
+  pub leaves : AllLeaves (λ sides leaf. IsThere (closed_node leaf) ⊎ IsTreated p ds sides (value_of board)) [] board.tree
+  pub unfinished : ¬ (IsFinished board)
+
+abbrev pub IsFault : Problem → List Derived → ℕ → ℕ → SearchFault → Type 0
+IsFault p ds splits pivots (NoFit site) = IsStuckAt p ds splits site
+IsFault p ds splits pivots (PivotLimit bases) = IsRunTooLong p ds splits pivots bases
+IsFault p ds splits pivots SplitLimit = IsOutOfSplits p ds splits
+IsFault p ds splits pivots (Unbounded endless) = IsImprovingRay p endless.ray
+IsFault p ds splits pivots NoMemory = Unit {0}

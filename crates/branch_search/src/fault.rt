@@ -1,0 +1,30 @@
+// Why a search finds no verdict.
+ghost use Rattle.std.specs.Prelude.{◌≡◌};
+ghost use Rattle.branch_search.specs.declared.fault.SearchFault.TheVariants.{NoMemory};
+
+use search_node::{Bases, Site};
+use simplex::Endless;
+use std::alloc::AllocError;
+
+/// Why a search finds no verdict.
+#[derive(Drop)]
+pub enum SearchFault {
+    /// An operation of the work at a node does not fit.
+    NoFit(Site),
+    /// Bland's run at a node is longer than the limit of steps: the bases of the first steps.
+    PivotLimit(Bases),
+    /// All splits that are allowed were made, and nodes are left that are to be split.
+    SplitLimit,
+    /// A ray improves the problem without end, where it has a feasible point.
+    Unbounded(Endless),
+    /// The memory is not there.
+    NoMemory,
+}
+
+impl From<AllocError> for SearchFault {
+    ghost from_gives = { λ _ fault. fault ≡ NoMemory };
+
+    fn from(_error: AllocError) -> SearchFault {
+        SearchFault::NoMemory
+    }
+}

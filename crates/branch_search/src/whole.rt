@@ -1,0 +1,96 @@
+// The whole search.
+ghost use Rattle.std.specs.Prelude.{◌≡◌, [], IfOk, IfErr};
+ghost use Rattle.verdicts.specs.Proves.{Proves};
+ghost use Rattle.cert_check.specs.Outcome.{Acceptance, outcome, trials};
+ghost use Rattle.search_tree.specs.Tree.{AllLeaves, IsTodo};
+ghost use Rattle.branch_search.specs.Underway.{IsGoing, IsAtEnd, IsNext, AreSame};
+ghost use Rattle.branch_search.specs.Faults.{IsFault};
+
+use crate::fault::SearchFault;
+use crate::rounds::round;
+use crate::settling::Round;
+use certificate::{Certificate, DerivedRows};
+use instance::Instance;
+use search_tree::{finished_boards, kept_boards};
+use std::alloc::Global;
+use tree_pool::Board;
+
+/// The verdict of a problem by a search over its integer columns, with its certificate, which proves it and which the
+/// checker accepts. It makes at most `split_limit` splits, and at each node Bland's run, where nothing else decides, takes
+/// at most `pivot_limit` steps.
+///
+/// A fault tells an operation of the work at a node that does not fit, or a run that is too long, each on an honest way;
+/// that all splits are made, and nodes are left that are to be split; or a ray that improves the problem.
+pub fn search(
+    alloc: Global,
+    problem: &Instance,
+    split_limit: usize,
+    pivot_limit: u32,
+) -> Result<Certificate, SearchFault>
+    ensures proves { IfOk result (λ c. Proves problem.now c) }
+    ensures accepted { IfOk result (λ c. outcome (trials problem.now c) ≡ Acceptance) }
+    ensures fault { IfErr result (IsFault problem.now [] split_limit pivot_limit) }
+{
+    let copy = problem.copy(alloc)?;
+    let mut board = Board::start(
+        alloc,
+        copy,
+        DerivedRows::new(alloc),
+        split_limit,
+        pivot_limit,
+    )?;
+    run(alloc, &mut board, pivot_limit)?;
+    ended(alloc, board)
+}
+
+// Round after round, until no leaf is to be worked on.
+fn run(alloc: Global, board: &mut Board, pivot_limit: u32) -> Result<(), SearchFault>
+    requires cuts { board.old.cuts ≡ [] }
+    requires pivots { board.old.pivot_limit ≡ pivot_limit }
+    requires going { IsGoing board.old }
+    ensures same { IfOk result (λ done. AreSame board.old board.new) }
+    ensures at_end { IfOk result (λ done. IsAtEnd board.new) }
+    ensures fault { IfErr result (IsFault board.old.problem board.old.cuts board.old.split_limit board.old.pivot_limit) }
+{
+    let mut more = true;
+    while more {
+        more = goes_on(alloc, board, pivot_limit)?;
+    }
+    Ok(())
+}
+
+// One more round; whether it found a leaf to work on.
+fn goes_on(alloc: Global, board: &mut Board, pivot_limit: u32) -> Result<bool, SearchFault>
+    requires cuts { board.old.cuts ≡ [] }
+    requires pivots { board.old.pivot_limit ≡ pivot_limit }
+    requires going { IsGoing board.old }
+    ensures same { IfOk result (λ more. AreSame board.old board.new) }
+    ensures next { IfOk result (λ more. IsNext board.old more board.new) }
+    ensures fault { IfErr result (IsFault board.old.problem board.old.cuts board.old.split_limit board.old.pivot_limit) }
+{
+    board.keeps_its_log();
+    kept_boards();
+    match round(alloc, board, pivot_limit)? {
+        Round::Worked => Ok(true),
+        Round::Left => Ok(true),
+        Round::Idle => Ok(false),
+    }
+}
+
+// The certificate of a board on which no leaf is to be worked on, where all leaves are closed.
+fn ended(alloc: Global, board: Board) -> Result<Certificate, SearchFault>
+    requires at_end { IsAtEnd board }
+    ensures proves { IfOk result (λ c. Proves board.problem c) }
+    ensures accepted { IfOk result (λ c. outcome (trials board.problem c) ≡ Acceptance) }
+    ensures fault { IfErr result (IsFault board.problem board.cuts board.split_limit board.pivot_limit) }
+{
+    board.keeps_its_log();
+    finished_boards();
+    if !board.is_finished() {
+        return Err(SearchFault::SplitLimit);
+    }
+    match board.into_certificate(alloc).ok() {
+        Some(certificate) => Ok(certificate),
+        None => Err(SearchFault::NoMemory),
+    }
+}

@@ -1,0 +1,2 @@
+mod Floors
+mod Treating

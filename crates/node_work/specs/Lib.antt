@@ -1,0 +1,3 @@
+pub mod Treatment
+pub mod Fractions
+pub mod Tests
