@@ -1,0 +1,3 @@
+pub mod Without
+pub mod Causes
+pub mod Ends

@@ -1,0 +1,116 @@
+// Problems that a ray improves: unbounded with a feasible point, and infeasible without one.
+ghost use Rattle.std.specs.Prelude.{◌≡◌, length, IfOk, IfErr};
+ghost use Rattle.milp.specs.Points.{IsImprovingRay};
+ghost use Rattle.verdicts.specs.Proves.{Proves};
+ghost use Rattle.basis.specs.Relaxation.{point_certificate};
+ghost use Rattle.cert_check.specs.Outcome.{Acceptance, outcome, trials};
+ghost use Rattle.mixed_solve.specs.Points.{IsTestedPoint, HasPoint};
+ghost use Rattle.mixed_solve.specs.Faults.{without_objective, IsFault, IsAfterSearch};
+
+use crate::fault::{VerdictFault, Wanted};
+use crate::told::ray_or_fault;
+use branch_search::search;
+use cert_check::{Checked, check};
+use certificate::{Certificate, Verdict};
+use instance::{Instance, Point};
+use simplex::Endless;
+use std::alloc::Global;
+
+/// The verdict of a problem that a ray improves, by a search for any feasible point.
+pub(crate) fn beyond(
+    alloc: Global,
+    problem: &Instance,
+    endless: Endless,
+    split_limit: usize,
+    pivot_limit: u32,
+) -> Result<Certificate, VerdictFault>
+    requires { IsImprovingRay problem.now endless.ray }
+    ensures proves { IfOk result (λ c. Proves problem.now c) }
+    ensures accepted { IfOk result (λ c. outcome (trials problem.now c) ≡ Acceptance) }
+    ensures fault { IfErr result (IsFault problem.now split_limit pivot_limit) }
+{
+    let feasibility = problem.copy(alloc)?.without_objective(alloc);
+    match search(alloc, &feasibility, split_limit, pivot_limit) {
+        Ok(certificate) => decided(alloc, problem, certificate, endless),
+        Err(fault) => match ray_or_fault(Wanted::Any, fault) {
+            Ok(_) => unreachable!(),
+            Err(fault) => Err(fault),
+        },
+    }
+}
+
+// The certificate of the problem, from that of the problem without its objective.
+fn decided(
+    alloc: Global,
+    problem: &Instance,
+    certificate: Certificate,
+    endless: Endless,
+) -> Result<Certificate, VerdictFault>
+    requires proves { Proves (without_objective problem.now) certificate }
+    requires accepted { outcome (trials (without_objective problem.now) certificate) ≡ Acceptance }
+    requires ray { IsImprovingRay problem.now endless.ray }
+    ensures proves { IfOk result (λ c. Proves problem.now c) }
+    ensures accepted { IfOk result (λ c. outcome (trials problem.now c) ≡ Acceptance) }
+    ensures fault { IfErr result (IsAfterSearch problem.now) }
+{
+    match certificate.verdict() {
+        Verdict::Optimal => improved(alloc, problem, &certificate, endless.ray),
+        Verdict::Infeasible => Ok(certificate),
+        Verdict::Unbounded => unreachable!(),
+    }
+}
+
+// The point of a certificate, with the ray.
+fn improved(
+    alloc: Global,
+    problem: &Instance,
+    certificate: &Certificate,
+    ray: Point,
+) -> Result<Certificate, VerdictFault>
+    requires point { HasPoint problem.now certificate.now }
+    requires ray { IsImprovingRay problem.now ray }
+    ensures proves { IfOk result (λ c. Proves problem.now c) }
+    ensures accepted { IfOk result (λ c. outcome (trials problem.now c) ≡ Acceptance) }
+    ensures fault { IfErr result (IsAfterSearch problem.now) }
+{
+    match certificate.point() {
+        Some(point) => {
+            let point = point.copy(alloc)?;
+            checked(alloc, problem, point, ray)
+        }
+        None => unreachable!(),
+    }
+}
+
+// The certificate of a feasible point and a ray, where all operations in the test of the ray fit.
+fn checked(
+    alloc: Global,
+    problem: &Instance,
+    point: Point,
+    ray: Point,
+) -> Result<Certificate, VerdictFault>
+    requires point { IsTestedPoint problem.now point }
+    requires ray { IsImprovingRay problem.now ray }
+    ensures proves { IfOk result (λ c. Proves problem.now c) }
+    ensures accepted { IfOk result (λ c. outcome (trials problem.now c) ≡ Acceptance) }
+    ensures fault { IfErr result (IsAfterSearch problem.now) }
+{
+    let certificate = of_ray(alloc, problem, point, ray);
+    match check(problem, &certificate) {
+        Ok(Checked::Accepted) => Ok(certificate),
+        Ok(Checked::Refused(_)) => unreachable!(),
+        Err(fault) => Err(VerdictFault::RayNoFit(fault.fault)),
+    }
+}
+
+// A point and a ray. It takes no memory.
+fn of_ray(alloc: Global, problem: &Instance, point: Point, ray: Point) -> Certificate
+    requires point { length point ≡ length problem.now.columns }
+    requires ray { length ray ≡ length problem.now.columns }
+    ensures { result ≡ point_certificate problem.now point ray }
+{
+    problem.keeps_its_limits();
+    let columns = problem.columns().len() as u32;
+    let rows = problem.rows().len() as u32;
+    Certificate::unbounded(alloc, rows, columns, point, ray)
+}
