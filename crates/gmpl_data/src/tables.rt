@@ -4,7 +4,7 @@ ghost use Rattle.gmpl_data.specs.Given as spec;
 ghost use Rattle.std.specs.Option.{option_copied};
 
 use gmpl_members::{Members, Value};
-use gmpl_resolved::Numbered;
+use gmpl_resolved::{Check, Numbered};
 use gmpl_value::{SetValue, Symbol, Tuple};
 use sqlite_items::Items;
 use std::alloc::Global;
@@ -37,10 +37,13 @@ impl DataTables {
     }
 }
 
-/// The statements of a model, whose names are resolved, with what data give to its objects.
+/// A model whose names are resolved, with what data give to its objects.
 #[derive(Drop)]
 pub struct LoadedModel {
+    /// The statements that declare in order, each behind its checks.
     pub statements: Items<Numbered>,
+    /// The checks behind the last of them.
+    pub checks: Items<Check>,
     pub tables: DataTables,
 }
 

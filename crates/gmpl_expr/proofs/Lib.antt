@@ -1,2 +1,4 @@
 pub mod Demands
+pub mod Membership
+pub mod Ranges
 pub mod Rolled

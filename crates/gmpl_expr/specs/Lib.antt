@@ -1,2 +1,4 @@
 pub mod At
+pub mod Membership
+pub mod Shared
 pub mod Stops

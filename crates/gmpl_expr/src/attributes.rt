@@ -179,8 +179,8 @@ pub(crate) fn is_in(relation: Relation) -> bool
     }
 }
 
-/// The bounds with one more.
-pub(crate) fn with_bound(so_far: Bounds, relation: Relation, number: Frac) -> Bounds
+/// The bounds with one more: a relation other than `>=`, `<=` and `=` leaves them.
+pub fn with_bound(so_far: Bounds, relation: Relation, number: Frac) -> Bounds
     ensures { result ≡ spec.with_bound so_far relation number }
 {
     match relation {

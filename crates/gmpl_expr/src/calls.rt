@@ -2,15 +2,20 @@
 ghost use Rattle.std.specs.Prelude.{◌≡◌, Ok};
 ghost use Rattle.gmpl_fault.specs.Outcome.{Gives, then_do};
 ghost use Rattle.gmpl_forms.specs.Amounts.{form_in};
+ghost use Rattle.gmpl_kept.specs.Right.{AreRight};
 ghost use Rattle.gmpl_meaning.specs.Members.{evaluated, elements_of, bounds_at};
 ghost use Rattle.gmpl_operations.specs.Values.{number_in, symbol_in, set_in, truth_in, amount_in};
 
 use crate::context::Context;
-use crate::evaluate::{bounds_by, eval, walked};
+use crate::evaluate::eval;
+use crate::indexing::walked;
 use crate::places::start;
+use crate::variables::bounds_by;
 use fraction::Frac;
+use gmpl_data::LoadedModel;
 use gmpl_fault::EvalFault;
 use gmpl_forms::{Amount, Form};
+use gmpl_kept::Kept;
 use gmpl_meaning::{Bounds, Walk};
 use gmpl_operations::Value;
 use gmpl_resolved::{Expr, Indexing};
@@ -29,10 +34,18 @@ fn evaluated(
     whole: &Expr,
     bindings: &Tuple,
 ) -> Result<Value, EvalFault>
-    ensures value { Gives result (evaluated context.old.model.now whole.now bindings.now) }
-    ensures same { context.new.model ≡ context.old.model }
+    ensures value { Gives result (evaluated context.old whole.now bindings.now) }
+    ensures same { context.new ≡ context.old }
 {
-    eval(alloc, context.model, MOST_HEIGHT, ROOM, whole, bindings)
+    eval(
+        alloc,
+        context.model,
+        &mut context.kept,
+        MOST_HEIGHT,
+        ROOM,
+        whole,
+        bindings,
+    )
 }
 
 /// The number that an expression comes to. `Nonlinear` where a variable stands in it.
@@ -42,8 +55,8 @@ pub fn eval_num(
     whole: &Expr,
     bindings: &Tuple,
 ) -> Result<Frac, EvalFault>
-    ensures value { Gives result (then_do number_in (evaluated context.old.model.now whole.now bindings.now)) }
-    ensures same { context.new.model ≡ context.old.model }
+    ensures value { Gives result (then_do number_in (evaluated context.old whole.now bindings.now)) }
+    ensures same { context.new ≡ context.old }
 {
     let value = evaluated(alloc, context, whole, bindings)?;
     value.as_number()
@@ -56,8 +69,8 @@ pub fn eval_sym(
     whole: &Expr,
     bindings: &Tuple,
 ) -> Result<Symbol, EvalFault>
-    ensures value { Gives result (then_do symbol_in (evaluated context.old.model.now whole.now bindings.now)) }
-    ensures same { context.new.model ≡ context.old.model }
+    ensures value { Gives result (then_do symbol_in (evaluated context.old whole.now bindings.now)) }
+    ensures same { context.new ≡ context.old }
 {
     let value = evaluated(alloc, context, whole, bindings)?;
     value.into_symbol()
@@ -70,8 +83,8 @@ pub fn eval_set(
     whole: &Expr,
     bindings: &Tuple,
 ) -> Result<SetValue, EvalFault>
-    ensures value { Gives result (then_do set_in (evaluated context.old.model.now whole.now bindings.now)) }
-    ensures same { context.new.model ≡ context.old.model }
+    ensures value { Gives result (then_do set_in (evaluated context.old whole.now bindings.now)) }
+    ensures same { context.new ≡ context.old }
 {
     let value = evaluated(alloc, context, whole, bindings)?;
     value.into_set()
@@ -84,8 +97,8 @@ pub fn eval_bool(
     whole: &Expr,
     bindings: &Tuple,
 ) -> Result<bool, EvalFault>
-    ensures value { Gives result (then_do truth_in (evaluated context.old.model.now whole.now bindings.now)) }
-    ensures same { context.new.model ≡ context.old.model }
+    ensures value { Gives result (then_do truth_in (evaluated context.old whole.now bindings.now)) }
+    ensures same { context.new ≡ context.old }
 {
     let value = evaluated(alloc, context, whole, bindings)?;
     value.as_truth()
@@ -98,8 +111,8 @@ pub fn eval_form(
     whole: &Expr,
     bindings: &Tuple,
 ) -> Result<Form, EvalFault>
-    ensures value { Gives result (then_do (λ a. Ok (form_in a)) (then_do amount_in (evaluated context.old.model.now whole.now bindings.now))) }
-    ensures same { context.new.model ≡ context.old.model }
+    ensures value { Gives result (then_do (λ a. Ok (form_in a)) (then_do amount_in (evaluated context.old whole.now bindings.now))) }
+    ensures same { context.new ≡ context.old }
 {
     let value = evaluated(alloc, context, whole, bindings)?;
     let amount = value.into_amount()?;
@@ -115,6 +128,23 @@ fn form(alloc: Global, amount: Amount) -> Form
     }
 }
 
+fn elements_by(
+    alloc: Global,
+    model: &LoadedModel,
+    kept: &mut Kept,
+    domain: &Option<Indexing>,
+    bindings: &Tuple,
+) -> Result<Walk, EvalFault>
+    requires right { AreRight model.now kept.old }
+    ensures right { AreRight model.now kept.new }
+    ensures value { Gives result (Ok (elements_of model.now domain.now bindings.now)) }
+{
+    match domain {
+        None => Ok(start(alloc)?),
+        Some(indexing) => { walked(alloc, model, kept, MOST_HEIGHT, ROOM, indexing, bindings) }
+    }
+}
+
 /// What a domain goes over: its elements in order, up to the first fault; without a domain, one element without components. The
 /// only error is want of memory.
 pub fn elements_of(
@@ -123,13 +153,10 @@ pub fn elements_of(
     domain: &Option<Indexing>,
     bindings: &Tuple,
 ) -> Result<Walk, EvalFault>
-    ensures value { Gives result (Ok (elements_of context.old.model.now domain.now bindings.now)) }
-    ensures same { context.new.model ≡ context.old.model }
+    ensures value { Gives result (Ok (elements_of context.old domain.now bindings.now)) }
+    ensures same { context.new ≡ context.old }
 {
-    match domain {
-        None => Ok(start(alloc)?),
-        Some(indexing) => { walked(alloc, context.model, MOST_HEIGHT, ROOM, indexing, bindings) }
-    }
+    elements_by(alloc, context.model, &mut context.kept, domain, bindings)
 }
 
 /// The bounds of a variable's member.
@@ -139,12 +166,13 @@ pub fn bounds_of(
     place: usize,
     subscripts: &Tuple,
 ) -> Result<Bounds, EvalFault>
-    ensures value { Gives result (bounds_at context.old.model.now place subscripts.now) }
-    ensures same { context.new.model ≡ context.old.model }
+    ensures value { Gives result (bounds_at context.old place subscripts.now) }
+    ensures same { context.new ≡ context.old }
 {
     bounds_by(
         alloc,
         context.model,
+        &mut context.kept,
         MOST_HEIGHT - 1,
         ROOM,
         place,

@@ -4,11 +4,19 @@
 mod attributes;
 mod calls;
 mod context;
+mod entered;
 mod evaluate;
+mod indexing;
 mod listing;
+mod members;
 mod parts;
 mod places;
+mod restrictions;
 mod set_kinds;
+mod sets;
+mod values;
+mod variables;
 
+pub use attributes::with_bound;
 pub use calls::{bounds_of, elements_of, eval_bool, eval_form, eval_num, eval_set, eval_sym};
 pub use context::Context;

@@ -1,23 +1,28 @@
 // Steps of the evaluation that evaluate nothing themselves.
 ghost use Rattle.std.specs.Prelude.{◌≡◌, slice_get, IfOk, [], ◌∷◌, IfSome};
 ghost use Rattle.rational.specs.Rational.{one_ℚ, zero_ℚ};
-ghost use Rattle.gmpl_fault.specs.Outcome.{Gives, then_do};
-ghost use Rattle.gmpl_operations.specs.Values.{set_in};
+ghost use Rattle.gmpl_fault.specs.Outcome.{Gives, GivesAs, Outcome, then_do};
+ghost use Rattle.gmpl_operations.specs.Relations.{negated};
+ghost use Rattle.gmpl_operations.specs.Values.{as_truth, set_in};
 ghost use Rattle.gmpl_forms.specs.Linear.{linear};
 ghost use Rattle.gmpl_meaning.specs.Expressions as spec;
 ghost use Rattle.gmpl_meaning.specs.Members as members;
 ghost use Rattle.gmpl_operations.specs.declared.value.Value.TheVariants as values;
-ghost use Rattle.std.specs.Prelude.{Ok};
+ghost use Rattle.std.specs.Prelude.{Bool, Ok};
+ghost use Rattle.gmpl_data.specs.declared.tables.LoadedModel.{LoadedModel};
+ghost use Rattle.gmpl_kept.specs.Right.{AreRight};
 
 use fraction::Frac;
 use gmpl_fault::EvalFault;
 use gmpl_forms::{Form, Variable};
 use gmpl_functions::card;
-use gmpl_members::Value as Kept;
+use gmpl_kept::{Asked, Kept};
+use gmpl_members::Value as Given;
 use gmpl_operations::{Value, ended, is_decided};
 use gmpl_syntax::Iteration;
 use gmpl_value::{SetValue, Tuple, range};
 use std::alloc::{AllocError, Global};
+use std::rc::Rc;
 
 /// The value of the index at this place.
 pub(crate) fn bound_to(alloc: Global, bindings: &Tuple, place: usize) -> Result<Value, EvalFault>
@@ -39,12 +44,64 @@ pub(crate) fn ranged(alloc: Global, from: Frac, to: Frac, by: Frac) -> Result<Va
     Ok(Value::Elements(range(alloc, from, to, by)?))
 }
 
-/// How many elements a set has.
-pub(crate) fn size_of(value: Value) -> Result<Value, EvalFault>
-    ensures { Gives result (then_do spec.counted (set_in value)) }
+/// The same set, kept.
+pub(crate) fn kept_range(
+    alloc: Global,
+    kept: &mut Kept,
+    from: Frac,
+    to: Frac,
+    by: Frac,
+) -> Result<Rc<SetValue>, EvalFault>
+    ensures right { (model : LoadedModel) → AreRight model kept.old → AreRight model kept.new }
+    ensures value { (model : LoadedModel) → AreRight model kept.old → GivesAs (λ set. set.value) result (then_do set_in (spec.range_by from to by)) }
 {
-    let set = value.into_set()?;
-    Ok(Value::number(card(&set)))
+    let asked = Asked::Range(from, to, by);
+    match kept.found(alloc, &asked) {
+        Some(set) => set.into_set(alloc),
+        None => {
+            let set = ranged(alloc, from, to, by)?;
+            kept.remember(alloc, asked, set)?.into_set(alloc)
+        }
+    }
+}
+
+/// The value of an index in a place of a set.
+pub(crate) fn index_set(
+    alloc: Global,
+    bindings: &Tuple,
+    place: usize,
+) -> Result<Rc<SetValue>, EvalFault>
+    ensures { GivesAs (λ set. set.value) result (then_do set_in (spec.bound_to (slice_get bindings.now place))) }
+{
+    let set = bound_to(alloc, bindings, place)?.into_set()?;
+    Ok(Rc::new(alloc, set)?)
+}
+
+/// How many elements a set has.
+pub(crate) fn size_of(set: &SetValue) -> Value
+    ensures { Ok result ≡ spec.counted set.now }
+{
+    Value::number(card(set))
+}
+
+/// Whether something holds, as a value.
+pub(crate) fn truth_value(found: Result<bool, EvalFault>) -> Result<Value, EvalFault>
+    ensures { (answer : Outcome Bool) → Gives found answer → Gives result (as_truth answer) }
+{
+    match found {
+        Ok(truth) => Ok(Value::Truth(truth)),
+        Err(fault) => Err(fault),
+    }
+}
+
+/// Whether something does not hold, as a value.
+pub(crate) fn negated_value(found: Result<bool, EvalFault>) -> Result<Value, EvalFault>
+    ensures { (answer : Outcome Bool) → Gives found answer → Gives result (as_truth (negated answer)) }
+{
+    match found {
+        Ok(truth) => Ok(Value::Truth(!truth)),
+        Err(fault) => Err(fault),
+    }
 }
 
 /// What an `if` without `else` is where its condition does not hold.
@@ -77,12 +134,12 @@ pub(crate) fn closed(
 }
 
 /// A kept value again.
-pub(crate) fn kept_value(alloc: Global, kept: &Kept) -> Result<Value, AllocError>
+pub(crate) fn kept_value(alloc: Global, kept: &Given) -> Result<Value, AllocError>
     ensures { IfOk result (λ made. made ≡ members.as_value kept.now) }
 {
     match kept {
-        Kept::Scalar(symbol) => Ok(Value::Scalar(symbol.copied(alloc)?)),
-        Kept::Elements(set) => Ok(Value::Elements(set.copied(alloc)?)),
+        Given::Scalar(symbol) => Ok(Value::Scalar(symbol.copied(alloc)?)),
+        Given::Elements(set) => Ok(Value::Elements(set.copied(alloc)?)),
     }
 }
 

@@ -2,12 +2,14 @@
 ghost use Rattle.std.specs.Prelude.{◌≡◌, OnOk, IfOk, take, drop, Ok};
 ghost use Rattle.gmpl_fault.specs.Outcome.{Gives};
 ghost use Rattle.gmpl_expr.specs.Stops as stops;
+ghost use Rattle.gmpl_expr.specs.Shared.{entered};
 ghost use Rattle.gmpl_meaning.specs.Walks as walks;
 ghost use Rattle.gmpl_meaning.specs.Domains as domains;
 ghost use Rattle.gmpl_operations.specs.Patterns.{matched};
 
+use crate::entered::Entered;
 use gmpl_fault::EvalFault;
-use gmpl_meaning::{Element, EntryValue, Walk};
+use gmpl_meaning::{Element, Walk};
 use gmpl_operations::matched;
 use gmpl_value::{Symbol, Tuple};
 use sqlite_items::Items;
@@ -76,11 +78,11 @@ pub(crate) fn add_matches(
     alloc: Global,
     found: &mut Items<Element>,
     element: &Element,
-    value: &EntryValue,
+    value: &Entered,
 ) -> Result<(), AllocError>
-    ensures { OnOk result (found.new ≡ walks.with_matches found.old element.now value.now.pattern value.now.set) }
+    ensures { OnOk result (found.new ≡ walks.with_matches found.old element.now value.now.pattern value.now.set.value) }
 {
-    for tuple in value.set.elements() {
+    for tuple in value.set.as_ref().elements() {
         let new = matched(alloc, &value.pattern, tuple)?;
         add_match(alloc, found, element, tuple, new)?;
     }
@@ -89,12 +91,12 @@ pub(crate) fn add_matches(
 
 // ---- subscripts
 
-fn width(value: &EntryValue) -> usize
-    ensures { result ≡ domains.width value.now.pattern value.now.set }
+fn width(value: &Entered) -> usize
+    ensures { result ≡ domains.width value.now.pattern value.now.set.value }
 {
     match &value.pattern {
         Some(parts) => parts.len(),
-        None => match value.set.elements() {
+        None => match value.set.as_ref().elements() {
             [] => 1,
             [first, ..] => first.len(),
         },
@@ -133,12 +135,12 @@ fn other_symbols(symbols: &[Symbol], count: usize) -> &[Symbol]
 
 fn indices_of(
     alloc: Global,
-    value: &EntryValue,
+    value: &Entered,
     subscripts: &Tuple,
 ) -> Result<Option<Tuple>, AllocError>
-    ensures { IfOk result (λ made. made ≡ domains.indices_of value.now.pattern value.now.set subscripts.now) }
+    ensures { IfOk result (λ made. made ≡ domains.indices_of value.now.pattern value.now.set.value subscripts.now) }
 {
-    if value.set.contains(subscripts) {
+    if value.set.as_ref().contains(subscripts) {
         matched(alloc, &value.pattern, subscripts)
     } else {
         Ok(None)
@@ -151,9 +153,9 @@ pub(crate) fn within_value(
     alloc: Global,
     bindings: &Tuple,
     subscripts: &Tuple,
-    value: &EntryValue,
+    value: &Entered,
 ) -> Result<(Tuple, Tuple), EvalFault>
-    ensures { Gives result (domains.within_value bindings.now subscripts.now value.now) }
+    ensures { Gives result (domains.within_value bindings.now subscripts.now (entered value.now)) }
 {
     let count = width(value);
     let own = tuple_of(alloc, first_symbols(subscripts.symbols(), count))?;

@@ -1,5 +1,4 @@
-// Small models, evaluated. What the parser does not take so far is put into the tree by changes: a row has its answer, the changes,
-// and the model's text, whose last statement is the one that is asked.
+// Small models, evaluated. A row has its answer, what data give, and the model's text, whose last statement is the one that is asked.
 use crate::texts::{fault_word, form_word, set_word, symbol_word, tuple_word};
 use fraction::Frac;
 use gmpl_data::{DataTables, Given, LoadedModel};
@@ -12,7 +11,6 @@ use gmpl_meaning::Walk;
 use gmpl_members::{Members, Value};
 use gmpl_parse::parse;
 use gmpl_resolved::{Attribute, Declaration, Expr, Indexing, Numbered, Statement};
-use gmpl_syntax::Relation;
 use gmpl_value::{SetValue, Symbol, Tuple};
 use sqlite_items::Items;
 use std::alloc::{AllocError, Global};
@@ -91,7 +89,7 @@ fn asked_word(alloc: Global, model: &LoadedModel, kind: &str) -> Result<String, 
     let Some(whole) = asked(model.statements.as_slice()) else {
         return "no expression".to_string(alloc);
     };
-    let mut context = Context::new(model);
+    let mut context = Context::new(alloc, model);
     match value_word(alloc, &mut context, kind, whole) {
         Ok(word) => Ok(word),
         Err(fault) => fault_word(alloc, fault),
@@ -112,55 +110,58 @@ pub(crate) fn answer(
     };
     let model = LoadedModel {
         statements,
+        checks: Items::new(alloc),
         tables: DataTables::empty(alloc),
     };
     asked_word(alloc, &model, kind)
 }
 
-// ---- members: the changes, and the text
+// ---- members: what data give, and the text
 
-// `drop` takes the first statement out, so that its name means the statement behind it: a member that demands its own kind.
-// `param 0` makes a parameter of a variable's statement, whose bounds become restrictions, at this place. `default 0`, `in 0` and
-// `within 0` take the last statement's expression as an attribute of the statement at this place. `integer 0`, `binary 0` and
-// `symbolic 0` add the attribute. `give 0 1.2 5` gives a member a number, `give 0 1 {5}` a set of one number, `give 0 * 5` a default,
-// and `crowd 0 1` a set's member too many elements.
+// `give 1.2 5` gives the member of the first object with these subscripts a number, `give 1 {5}` a set of one number, `give * 5` a
+// default, and `crowd 1` a set's member too many elements. `binary`, which the parser does not take of a variable so far, adds the
+// attribute to the first statement.
 const MEMBERS: &str = "\
-n !Depth => drop | param own := 1; param f := own; param answer := own;
-n 10 => drop | param own{n in 0..7, k in 0..n} := 1; param comb{n in 0..7, k in 0..n} := if k = 0 or k = n then 1 else own[n-1,k-1] + own[n-1,k]; param answer := own[5,2];
-n !OutOfDomain => drop | param own{n in 0..7, k in 0..n} := 1; param comb{n in 0..7, k in 0..n} := own[n-1,k]; param answer := own[5,5];
-n 3 => default 0 | param p{1..2}; param answer := p[1]; param d := 3;
-n !OutOfDomain => default 0 | param p{1..2}; param answer := p[3]; param d := 3;
-n 4 => default 0, give 0 1 4 | param p{1..2}; param answer := p[1]; param d := 3;
-n 3 => default 0, give 0 1 4 | param p{1..2}; param answer := p[2]; param d := 3;
-n 8 => default 0, give 0 * 8 | param p{1..2}; param answer := p[2]; param d := 3;
-n !NoValue => give 0 1 4 | param p{1..2}; param answer := p[2];
-n 11 => give 0 1 9, give 0 2 2 | param p{1..2}; param answer := p[1] + p[2];
-n !OutOfDomain => give 0 3 9 | param p{1..2}; param answer := p[3];
-n !Restriction => param 0, default 0 | var p{i in 1..2} >= i; minimize answer: p[2]; param d := 1;
-n 1 => param 0, default 0 | var p{i in 1..2} >= i; minimize answer: p[1]; param d := 1;
-n !Restriction => integer 0, give 0 1 1/2 | param p{1..2}; param answer := p[1];
-n 5 => integer 0, give 0 1 5 | param p{1..2}; param answer := p[1];
-n !Restriction => binary 0, give 0 1 2 | param p{1..2}; param answer := p[1];
-n !Restriction => binary 0, give 0 1 1/2 | param p{1..2}; param answer := p[1];
-n 0 => binary 0, give 0 1 0 | param p{1..2}; param answer := p[1];
-n 1 => binary 0, give 0 1 1 | param p{1..2}; param answer := p[1];
-n !Restriction => in 0, give 0 1 4 | param p{1..2}; param answer := p[1]; set s := 1..3;
-n 3 => in 0, give 0 1 3 | param p{1..2}; param answer := p[1]; set s := 1..3;
-n !Restriction => param 0, in 0, give 0 1 0 | var p{i in 1..2} >= i; minimize answer: p[1]; set s := 1..1/0;
-n !DivZero => param 0, in 0, give 0 1 1 | var p{i in 1..2} >= i; minimize answer: p[1]; set s := 1..1/0;
-n !Restriction => integer 0, param 0, give 0 1 1/2 | var p{i in 1..2} >= 1/0; minimize answer: p[1];
-n 2 => within 0, give 0 1 {2} | set s{1..2}; param answer := card(s[1]) + 1; set t := 1..3;
-n !Restriction => within 0, give 0 1 {4} | set s{1..2}; param answer := card(s[1]); set t := 1..3;
-n !NoValue => within 0 | set s{1..2}; param answer := card(s[1]); set t := 1..3;
-n 3 => default 0 | set s; param answer := card(s); set t := 1..3;
-n !TooMany => crowd 0 1 | set s{1..2} := 1..2; param answer := card(s[1]);
-n 2 => crowd 0 1 | set s{1..2} := 1..2; param answer := card(s[2]);
-n !OutOfDomain => crowd 0 3 | set s{1..2} := 1..2; param answer := card(s[3]);
-n !OutOfDomain => drop | param own{1..3, 1..3}; param p{i in 1..3, j in 1..3: i < j and j < 3} := 1; param answer := own[1,3];
+n !Depth => - | param f := f; param answer := f;
+n 10 => - | param comb{n in 0..7, k in 0..n} := if k = 0 or k = n then 1 else comb[n-1,k-1] + comb[n-1,k]; param answer := comb[5,2];
+n !OutOfDomain => - | param comb{n in 0..7, k in 0..n} := comb[n-1,k]; param answer := comb[5,5];
+n 3 => - | param p{1..2} default 3; param answer := p[1];
+n !OutOfDomain => - | param p{1..2} default 3; param answer := p[3];
+n 4 => give 1 4 | param p{1..2} default 3; param answer := p[1];
+n 3 => give 1 4 | param p{1..2} default 3; param answer := p[2];
+n 8 => give * 8 | param p{1..2} default 3; param answer := p[2];
+n !NoValue => give 1 4 | param p{1..2}; param answer := p[2];
+n 11 => give 1 9, give 2 2 | param p{1..2}; param answer := p[1] + p[2];
+n !OutOfDomain => give 3 9 | param p{1..2}; param answer := p[3];
+n !Restriction => - | param p{i in 1..2}, >= i, default 1; param answer := p[2];
+n 1 => - | param p{i in 1..2}, >= i, default 1; param answer := p[1];
+n !Restriction => give 1 1/2 | param p{1..2} integer; param answer := p[1];
+n 5 => give 1 5 | param p{1..2} integer; param answer := p[1];
+n !Restriction => give 1 2 | param p{1..2} binary; param answer := p[1];
+n !Restriction => give 1 1/2 | param p{1..2} binary; param answer := p[1];
+n 0 => give 1 0 | param p{1..2} binary; param answer := p[1];
+n 1 => give 1 1 | param p{1..2} binary; param answer := p[1];
+n !Restriction => give 1 4 | param p{1..2} in 1..3; param answer := p[1];
+n 3 => give 1 3 | param p{1..2} in 1..3; param answer := p[1];
+n !Restriction => give 1 0 | param p{i in 1..2} in 1..1/0, >= i; param answer := p[1];
+n !DivZero => give 1 1 | param p{i in 1..2} in 1..1/0, >= i; param answer := p[1];
+n !Restriction => give 1 1/2 | param p{i in 1..2}, >= 1/0, integer; param answer := p[1];
+n !Restriction => give 1 3 | param p{1..2}, <= 4, <> 3; param answer := p[1];
+n !Restriction => give 1 3 | param p{1..2}, < 3; param answer := p[1];
+n 3 => give 1 3 | param p{1..2}, > 2, = 3; param answer := p[1];
+n 2 => give 1 {2} | set s{1..2} within 1..3; param answer := card(s[1]) + 1;
+n !Restriction => give 1 {4} | set s{1..2} within 1..3; param answer := card(s[1]);
+n !NoValue => - | set s{1..2} within 1..3; param answer := card(s[1]);
+n 3 => - | set s default 1..3; param answer := card(s);
+n 4 => - | set s{k in 0..3} := if k = 0 then {1} else s[k-1] union {k+1}; param answer := card(s[3]);
+n !TooMany => crowd 1 | set s{1..2} := 1..2; param answer := card(s[1]);
+n 2 => crowd 1 | set s{1..2} := 1..2; param answer := card(s[2]);
+n !OutOfDomain => crowd 3 | set s{1..2} := 1..2; param answer := card(s[3]);
+n !OutOfDomain => - | param p{i in 1..3, j in 1..3: i < j and j < 3} := 1; param answer := p[1,3];
 n !NotANumber => - | param p := 'x'; param answer := p;
 n 5 => - | param p := '5'; param answer := p;
-s 'x => symbolic 0 | param p := 'x'; param answer symbolic := p;
-s '5 => symbolic 0 | param p := '5'; param answer symbolic := p;
+s 'x => - | param p symbolic := 'x'; param answer symbolic := p;
+s '5 => - | param p symbolic := '5'; param answer symbolic := p;
 n 0 => - | set s{i in 1..3} := 1..i; param p{i in 1..3, j in s[i]} := i - j; param answer := p[3,3];
 n !OutOfDomain => - | set s{i in 1..3} := 1..i; param p{i in 1..3, j in s[i]} := i - j; param answer := p[1,2];
 n 7 => - | set s := {(1,2), (3,4)}; param p{(i,j) in s} := i + j; param answer := p[3,4];
@@ -173,9 +174,9 @@ n !OutOfDomain => - | param p{1..2, 1..1/0} := 1; param answer := p[3,1];
 v 1..10 => - | var y{i in 1..2} >= i, <= 10;
 v -..- => - | var y{1..2};
 v 3..3 => - | var y{1..2} = 3;
-v 0..1 => binary 0 | var y{1..2} >= -3;
-v 1/2..1 => binary 0 | var y{1..2} >= 1/2, <= 7;
-v 0..-2 => binary 0 | var y{1..2} <= -2;
+v 0..1 => binary | var y{1..2} >= -3;
+v 1/2..1 => binary | var y{1..2} >= 1/2, <= 7;
+v 0..-2 => binary | var y{1..2} <= -2;
 v !OutOfDomain => - | var y{2..3};
 v !DivZero => - | var y{1..2} >= 1/0;
 v !NoValue => - | param y{1..2};
@@ -187,13 +188,6 @@ e 1/1 2/2 !DivZero => - | param p{i in 1..4: 1 / (i - 3) < 0};
 e 1.1/1.1 !DivZero => - | param p{i in 2..0 by -1, j in i..2/i: i = j};
 ";
 
-fn place_of(word: &str) -> usize {
-    match word.parse::<usize>() {
-        Ok(place) => place,
-        Err(_) => 0,
-    }
-}
-
 fn number(word: &str) -> Frac {
     match Frac::read_canonical(word) {
         Ok(number) => number,
@@ -201,104 +195,42 @@ fn number(word: &str) -> Frac {
     }
 }
 
-fn in_order(alloc: Global, statements: Items<Numbered>) -> Result<Vec<Numbered>, AllocError> {
-    let mut left = statements;
-    let mut made = Vec::new(alloc);
-    for _step in 0..left.len() {
-        if let Some(statement) = left.pop() {
-            made.push(statement)?;
-        }
-    }
-    made.reverse();
-    Ok(made)
-}
-
-fn taken(attributes: Items<Attribute>) -> Option<Expr> {
-    let mut left = attributes;
-    match left.pop() {
-        Some(Attribute::Assigned(value)) => Some(value),
-        _ => None,
-    }
-}
-
-// The last statement's expression.
-fn last_expression(statements: &mut Vec<Numbered>) -> Option<Expr> {
-    let Some(last) = statements.pop() else {
-        return None;
-    };
-    match last.statement {
-        Statement::Set(set) => taken(set.attributes),
-        Statement::Param(param) => taken(param.attributes),
-        _ => None,
-    }
-}
-
-fn as_param(statement: Statement) -> Statement {
-    match statement {
-        Statement::Var(variable) => Statement::Param(variable),
-        other => other,
-    }
-}
-
-fn declaration_with(
-    declaration: Declaration,
-    attribute: Attribute,
-) -> Result<Declaration, AllocError> {
+fn with_binary(declaration: Declaration) -> Result<Declaration, AllocError> {
     let Declaration {
         head,
         mut attributes,
     } = declaration;
-    attributes.push(attribute)?;
+    attributes.push(Attribute::Binary)?;
     Ok(Declaration { head, attributes })
 }
 
-fn statement_with(statement: Statement, attribute: Attribute) -> Result<Statement, AllocError> {
+fn statement_with_binary(statement: Statement) -> Result<Statement, AllocError> {
     match statement {
-        Statement::Set(set) => Ok(Statement::Set(declaration_with(set, attribute)?)),
-        Statement::Param(param) => Ok(Statement::Param(declaration_with(param, attribute)?)),
-        Statement::Var(var) => Ok(Statement::Var(declaration_with(var, attribute)?)),
+        Statement::Var(var) => Ok(Statement::Var(with_binary(var)?)),
         other => Ok(other),
     }
 }
 
-fn add(
-    statements: &mut Vec<Numbered>,
-    place: usize,
-    attribute: Attribute,
-) -> Result<(), AllocError> {
-    if place >= statements.len() {
-        return Ok(());
-    }
-    let Numbered { line, statement } = statements.remove(place);
-    let statement = statement_with(statement, attribute)?;
-    statements.insert(place, Numbered { line, statement })?;
-    Ok(())
-}
-
-fn attribute_of(name: &str, statements: &mut Vec<Numbered>) -> Option<Attribute> {
-    match name {
-        "integer" => Some(Attribute::Integer),
-        "binary" => Some(Attribute::Binary),
-        "symbolic" => Some(Attribute::Symbolic),
-        "default" => Some(Attribute::Default(last_expression(statements)?)),
-        "in" => Some(Attribute::Restriction(Relation::In, last_expression(statements)?)),
-        _ => Some(Attribute::Restriction(Relation::Within, last_expression(statements)?)),
-    }
-}
-
-fn make_param(statements: &mut Vec<Numbered>, place: usize) -> Result<(), AllocError> {
-    if place >= statements.len() {
-        return Ok(());
-    }
-    let Numbered { line, statement } = statements.remove(place);
-    statements.insert(
-        place,
-        Numbered {
-            line,
-            statement: as_param(statement),
-        },
-    )?;
-    Ok(())
+// A model of one variable, which is binary.
+fn binary(statements: Items<Numbered>) -> Result<Items<Numbered>, AllocError> {
+    let mut left = statements;
+    let Some(only) = left.pop() else {
+        return Ok(left);
+    };
+    let Numbered {
+        checks,
+        number,
+        line,
+        statement,
+    } = only;
+    let statement = statement_with_binary(statement)?;
+    left.push(Numbered {
+        checks,
+        number,
+        line,
+        statement,
+    })?;
+    Ok(left)
 }
 
 fn tuple_of(alloc: Global, text: &str) -> Result<Tuple, AllocError> {
@@ -329,9 +261,9 @@ fn nothing_given(alloc: Global) -> Given {
     }
 }
 
-// What one change gives the object at place 0.
+// What one change gives the first object.
 fn give(alloc: Global, given: &mut Given, change: &str) -> Result<(), AllocError> {
-    let mut words = change.split_whitespace().skip(2);
+    let mut words = change.split_whitespace().skip(1);
     let Some(member) = words.next() else {
         return Ok(());
     };
@@ -354,43 +286,25 @@ fn give(alloc: Global, given: &mut Given, change: &str) -> Result<(), AllocError
     }
 }
 
-fn change_statements(statements: &mut Vec<Numbered>, change: &str) -> Result<(), AllocError> {
-    let (name, place) = change.split_once(' ').unwrap_or((change, "0"));
-    let place = place_of(place);
-    match name {
-        "-" => Ok(()),
-        "drop" => {
-            if statements.len() > 0 {
-                statements.remove(0);
-            }
-            Ok(())
-        }
-        "param" => make_param(statements, place),
-        _ => match attribute_of(name, statements) {
-            Some(attribute) => add(statements, place, attribute),
-            None => Ok(()),
-        },
-    }
-}
-
 fn changed(
     alloc: Global,
     statements: Items<Numbered>,
     changes: &str,
 ) -> Result<LoadedModel, AllocError> {
-    let mut statements = in_order(alloc, statements)?;
+    let mut statements = statements;
     let mut given = nothing_given(alloc);
     for change in changes.split(", ") {
-        if change.starts_with("give ") || change.starts_with("crowd ") {
-            give(alloc, &mut given, change)?;
-        } else {
-            change_statements(&mut statements, change)?;
+        match change {
+            "-" => {}
+            "binary" => statements = binary(statements)?,
+            _ => give(alloc, &mut given, change)?,
         }
     }
     let mut objects = Items::new(alloc);
     objects.push(given)?;
     Ok(LoadedModel {
-        statements: Items::from_vec(statements),
+        statements,
+        checks: Items::new(alloc),
         tables: DataTables { objects },
     })
 }
@@ -404,7 +318,7 @@ fn bound_word(alloc: Global, bound: Option<Frac>) -> Result<String, AllocError> 
 
 // The bounds of the member with the subscript 1 of the first statement.
 fn bounds_word(alloc: Global, model: &LoadedModel) -> Result<String, AllocError> {
-    let mut context = Context::new(model);
+    let mut context = Context::new(alloc, model);
     let subscripts = tuple_of(alloc, "1")?;
     match bounds_of(alloc, &mut context, 0, &subscripts) {
         Ok(bounds) => {
@@ -447,7 +361,7 @@ fn elements_word(alloc: Global, model: &LoadedModel) -> Result<String, AllocErro
     let Some(last) = model.statements.as_slice().last() else {
         return "no statement".to_string(alloc);
     };
-    let mut context = Context::new(model);
+    let mut context = Context::new(alloc, model);
     let bindings = Tuple::new(alloc);
     match elements_of(alloc, &mut context, domain(&last.statement), &bindings) {
         Ok(walk) => walk_word(alloc, &walk),
@@ -467,13 +381,13 @@ fn member_word(alloc: Global, kind: &str, changes: &str, text: &str) -> Result<S
     }
 }
 
-// A row is a kind, an answer, changes and a text.
+// A row is a kind, an answer, what data give and a text.
 fn parts<'a>(rt: &impl Abort, row: &'a str) -> (&'a str, &'a str, &'a str, &'a str) {
     let Some((head, text)) = row.split_once(" | ") else {
-        panic!(rt; "changes and a text: {row}");
+        panic!(rt; "data and a text: {row}");
     };
     let Some((answer, changes)) = head.split_once(" => ") else {
-        panic!(rt; "an answer and changes: {row}");
+        panic!(rt; "an answer and data: {row}");
     };
     let Some((kind, want)) = answer.split_once(' ') else {
         panic!(rt; "a kind and an answer: {row}");

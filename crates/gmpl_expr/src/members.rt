@@ -1,0 +1,270 @@
+// What members come to: those of parameters and sets.
+ghost use Rattle.std.specs.Prelude.{◌≡◌};
+ghost use Rattle.gmpl_fault.specs.Outcome.{Gives, GivesAs};
+ghost use Rattle.gmpl_meaning.specs.Restrictions as restrictions;
+ghost use Rattle.gmpl_meaning.specs.Members as members;
+ghost use Rattle.gmpl_data.specs.Given as given;
+ghost use Rattle.gmpl_meaning.specs.Members.{member};
+ghost use Rattle.gmpl_kept.specs.Right.{AreRight, value_seen};
+
+use crate::attributes::{assigned, default_of, held, is_symbolic};
+use crate::evaluate::eval;
+use crate::indexing::within_domain;
+use crate::parts::kept_value;
+use crate::places::copied;
+use crate::restrictions::{inclusions_hold, restricted};
+use crate::variables::variable_member;
+use gmpl_data::LoadedModel;
+use gmpl_fault::EvalFault;
+use gmpl_kept::{Kept, KeptValue};
+use gmpl_operations::Value;
+use gmpl_resolved::{Attribute, Declaration, Statement};
+use gmpl_value::Tuple;
+use std::alloc::Global;
+
+// ---- demands
+
+/// A member: what is kept of it, or else its value anew.
+#[cycle(evaluation)]
+pub(crate) fn demanded(
+    alloc: Global,
+    model: &LoadedModel,
+    kept: &mut Kept,
+    height: u32,
+    room: u32,
+    place: usize,
+    subscripts: &Tuple,
+) -> Result<KeptValue, EvalFault>
+    requires right { AreRight model.now kept.old }
+    ensures right { AreRight model.now kept.new }
+    ensures value { GivesAs value_seen result (member model.now height place subscripts.now) }
+{
+    match kept.member(alloc, place, height, subscripts) {
+        Some(value) => Ok(value),
+        None => {
+            let value = anew(alloc, model, kept, height, room, place, subscripts)?;
+            Ok(kept.remember_member(alloc, place, height, subscripts, value)?)
+        }
+    }
+}
+
+#[cycle(evaluation)]
+fn anew(
+    alloc: Global,
+    model: &LoadedModel,
+    kept: &mut Kept,
+    height: u32,
+    room: u32,
+    place: usize,
+    subscripts: &Tuple,
+) -> Result<Value, EvalFault>
+    requires right { AreRight model.now kept.old }
+    ensures right { AreRight model.now kept.new }
+    ensures value { Gives result (member model.now height place subscripts.now) }
+{
+    if height == 0 {
+        return Err(EvalFault::Depth);
+    }
+    declared(alloc, model, kept, height - 1, room, place, subscripts)
+}
+
+#[cycle(evaluation)]
+fn declared(
+    alloc: Global,
+    model: &LoadedModel,
+    kept: &mut Kept,
+    height: u32,
+    room: u32,
+    place: usize,
+    subscripts: &Tuple,
+) -> Result<Value, EvalFault>
+    requires right { AreRight model.now kept.old }
+    ensures right { AreRight model.now kept.new }
+    ensures value { Gives result (members.declared model.now (member model.now height) place (given.statement_at model.now place) subscripts.now) }
+{
+    match model.statement(place) {
+        None => Err(EvalFault::NoValue),
+        Some(found) => {
+            member_of(
+                alloc,
+                model,
+                kept,
+                height,
+                room,
+                place,
+                &found.statement,
+                subscripts,
+            )
+        }
+    }
+}
+
+#[cycle(evaluation)]
+fn member_of(
+    alloc: Global,
+    model: &LoadedModel,
+    kept: &mut Kept,
+    height: u32,
+    room: u32,
+    place: usize,
+    statement: &Statement,
+    subscripts: &Tuple,
+) -> Result<Value, EvalFault>
+    requires right { AreRight model.now kept.old }
+    ensures right { AreRight model.now kept.new }
+    ensures value { Gives result (members.member_of model.now (member model.now height) place statement.now subscripts.now) }
+{
+    match statement {
+        Statement::Set(set) => set_member(alloc, model, kept, height, room, place, set, subscripts),
+        Statement::Param(param) => param_member(
+            alloc, model, kept, height, room, place, param, subscripts,
+        ),
+        Statement::Var(variable) => {
+            variable_member(
+                alloc, model, kept, height, room, place, variable, subscripts,
+            )
+        }
+        _ => Err(EvalFault::NoValue),
+    }
+}
+
+// ---- where a value comes from
+
+#[cycle(evaluation)]
+fn source(
+    alloc: Global,
+    model: &LoadedModel,
+    kept: &mut Kept,
+    height: u32,
+    room: u32,
+    bindings: &Tuple,
+    place: usize,
+    subscripts: &Tuple,
+    attributes: &[Attribute],
+) -> Result<Value, EvalFault>
+    requires right { AreRight model.now kept.old }
+    ensures right { AreRight model.now kept.new }
+    ensures value { Gives result (members.source model.now (member model.now height) bindings.now place subscripts.now attributes.now) }
+{
+    match model.value(place, subscripts) {
+        Some(given) => Ok(kept_value(alloc, given)?),
+        None => stated(
+            alloc, model, kept, height, room, bindings, place, attributes,
+        ),
+    }
+}
+
+#[cycle(evaluation)]
+fn stated(
+    alloc: Global,
+    model: &LoadedModel,
+    kept: &mut Kept,
+    height: u32,
+    room: u32,
+    bindings: &Tuple,
+    place: usize,
+    attributes: &[Attribute],
+) -> Result<Value, EvalFault>
+    requires right { AreRight model.now kept.old }
+    ensures right { AreRight model.now kept.new }
+    ensures value { Gives result (members.by_statement model.now (member model.now height) bindings.now place (restrictions.assigned attributes.now) attributes.now) }
+{
+    match assigned(attributes) {
+        Some(whole) => eval(alloc, model, kept, height, room, whole, bindings),
+        None => by_default(
+            alloc, model, kept, height, room, bindings, place, attributes,
+        ),
+    }
+}
+
+#[cycle(evaluation)]
+fn by_default(
+    alloc: Global,
+    model: &LoadedModel,
+    kept: &mut Kept,
+    height: u32,
+    room: u32,
+    bindings: &Tuple,
+    place: usize,
+    attributes: &[Attribute],
+) -> Result<Value, EvalFault>
+    requires right { AreRight model.now kept.old }
+    ensures right { AreRight model.now kept.new }
+    ensures value { Gives result (members.by_data_default model.now (member model.now height) bindings.now (given.default_given model.now place) attributes.now) }
+{
+    match model.default(place) {
+        Some(symbol) => Ok(Value::Scalar(symbol.copied(alloc)?)),
+        None => match default_of(attributes) {
+            Some(whole) => eval(alloc, model, kept, height, room, whole, bindings),
+            None => Err(EvalFault::NoValue),
+        },
+    }
+}
+
+// ---- parameters and sets
+
+#[cycle(evaluation)]
+fn param_member(
+    alloc: Global,
+    model: &LoadedModel,
+    kept: &mut Kept,
+    height: u32,
+    room: u32,
+    place: usize,
+    param: &Declaration,
+    subscripts: &Tuple,
+) -> Result<Value, EvalFault>
+    requires right { AreRight model.now kept.old }
+    ensures right { AreRight model.now kept.new }
+    ensures value { Gives result (members.param_member model.now (member model.now height) place param.now subscripts.now) }
+{
+    let attributes = param.attributes.as_slice();
+    let bindings = within_domain(
+        alloc,
+        model,
+        kept,
+        height,
+        room,
+        &param.head.domain,
+        subscripts,
+    )?;
+    let value = source(
+        alloc, model, kept, height, room, &bindings, place, subscripts, attributes,
+    )?;
+    let symbolic = is_symbolic(attributes);
+    let symbol = held(symbolic, value)?;
+    restricted(
+        alloc, model, kept, height, room, &bindings, symbolic, attributes, symbol,
+    )
+}
+
+#[cycle(evaluation)]
+fn set_member(
+    alloc: Global,
+    model: &LoadedModel,
+    kept: &mut Kept,
+    height: u32,
+    room: u32,
+    place: usize,
+    declaration: &Declaration,
+    subscripts: &Tuple,
+) -> Result<Value, EvalFault>
+    requires right { AreRight model.now kept.old }
+    ensures right { AreRight model.now kept.new }
+    ensures value { Gives result (members.set_member model.now (member model.now height) place declaration.now subscripts.now) }
+{
+    let attributes = declaration.attributes.as_slice();
+    let domain = &declaration.head.domain;
+    let bindings = within_domain(alloc, model, kept, height, room, domain, subscripts)?;
+    if model.is_overfull(place, subscripts) {
+        return Err(EvalFault::TooMany);
+    }
+    let value = source(
+        alloc, model, kept, height, room, &bindings, place, subscripts, attributes,
+    )?;
+    let set = value.into_set()?;
+    inclusions_hold(
+        alloc, model, kept, height, room, &bindings, attributes, &set,
+    )?;
+    Ok(Value::Elements(set))
+}

@@ -1,0 +1,148 @@
+// Sets that are looked at: those that are kept are shared, and none is copied.
+ghost use Rattle.std.specs.Prelude.{◌≡◌, Ok};
+ghost use Rattle.gmpl_fault.specs.Outcome.{Gives, GivesAs, then_do};
+ghost use Rattle.gmpl_expr.specs.At as at;
+ghost use Rattle.gmpl_meaning.specs.Expressions as spec;
+ghost use Rattle.gmpl_meaning.specs.Walks as walks;
+ghost use Rattle.gmpl_meaning.specs.Members.{member};
+ghost use Rattle.gmpl_operations.specs.Values.{set_in};
+ghost use Rattle.gmpl_kept.specs.Right.{AreRight};
+
+use crate::evaluate::eval;
+use crate::members::demanded;
+use crate::parts::{index_set, kept_range};
+use crate::values::{number, symbols};
+use fraction::Frac;
+use gmpl_data::LoadedModel;
+use gmpl_fault::EvalFault;
+use gmpl_kept::Kept;
+use gmpl_resolved::{Expr, Meaning};
+use gmpl_syntax::Suffix;
+use gmpl_value::{SetValue, Tuple};
+use sqlite_items::Boxed;
+use std::alloc::Global;
+use std::rc::Rc;
+
+/// The set that an expression comes to.
+#[cycle(evaluation)]
+pub(crate) fn shared_set(
+    alloc: Global,
+    model: &LoadedModel,
+    kept: &mut Kept,
+    height: u32,
+    room: u32,
+    whole: &Expr,
+    bindings: &Tuple,
+) -> Result<Rc<SetValue>, EvalFault>
+    requires right { AreRight model.now kept.old }
+    ensures right { AreRight model.now kept.new }
+    ensures value { GivesAs (λ set. set.value) result (walks.entry_set (at.expr model.now height whole.now) bindings.now) }
+{
+    match whole {
+        Expr::Named(name, subscripts, suffix) => {
+            let subscripts = subscripts.as_slice();
+            shared_member(
+                alloc, model, kept, height, room, *name, subscripts, *suffix, bindings,
+            )
+        }
+        Expr::Range(first, last, step) => {
+            shared_range(
+                alloc,
+                model,
+                kept,
+                height,
+                room,
+                first.get(),
+                last.get(),
+                step,
+                bindings,
+            )
+        }
+        _ => own_set(alloc, model, kept, height, room, whole, bindings),
+    }
+}
+
+#[cycle(evaluation)]
+fn own_set(
+    alloc: Global,
+    model: &LoadedModel,
+    kept: &mut Kept,
+    height: u32,
+    room: u32,
+    whole: &Expr,
+    bindings: &Tuple,
+) -> Result<Rc<SetValue>, EvalFault>
+    requires right { AreRight model.now kept.old }
+    ensures right { AreRight model.now kept.new }
+    ensures value { GivesAs (λ set. set.value) result (walks.entry_set (at.expr model.now height whole.now) bindings.now) }
+{
+    let set = eval(alloc, model, kept, height, room, whole, bindings)?.into_set()?;
+    Ok(Rc::new(alloc, set)?)
+}
+
+#[cycle(evaluation)]
+fn shared_member(
+    alloc: Global,
+    model: &LoadedModel,
+    kept: &mut Kept,
+    height: u32,
+    room: u32,
+    name: Meaning,
+    subscripts: &[Expr],
+    suffix: Option<Suffix>,
+    bindings: &Tuple,
+) -> Result<Rc<SetValue>, EvalFault>
+    requires right { AreRight model.now kept.old }
+    ensures right { AreRight model.now kept.new }
+    ensures value { GivesAs (λ set. set.value) result (then_do set_in (spec.named (member model.now height) name (at.exprs model.now height subscripts.now) suffix bindings.now)) }
+{
+    if room == 0 {
+        return Err(EvalFault::NoMemory);
+    }
+    match name {
+        Meaning::Index(place) => index_set(alloc, bindings, place),
+        Meaning::Object(place) => match suffix {
+            None => {
+                let subscripts = symbols(
+                    alloc,
+                    model,
+                    kept,
+                    height,
+                    room - 1,
+                    subscripts,
+                    bindings,
+                )?;
+                let value = demanded(alloc, model, kept, height, room - 1, place, &subscripts)?;
+                value.into_set(alloc)
+            }
+            Some(_) => Err(EvalFault::NoValue),
+        },
+    }
+}
+
+#[cycle(evaluation)]
+fn shared_range(
+    alloc: Global,
+    model: &LoadedModel,
+    kept: &mut Kept,
+    height: u32,
+    room: u32,
+    first: &Expr,
+    last: &Expr,
+    step: &Option<Boxed<Expr>>,
+    bindings: &Tuple,
+) -> Result<Rc<SetValue>, EvalFault>
+    requires right { AreRight model.now kept.old }
+    ensures right { AreRight model.now kept.new }
+    ensures value { GivesAs (λ set. set.value) result (then_do set_in (spec.range (at.expr model.now height first.now) (at.expr model.now height last.now) (at.optional model.now height step.now) bindings.now)) }
+{
+    let from = number(alloc, model, kept, height, room, first, bindings)?;
+    let to = number(alloc, model, kept, height, room, last, bindings)?;
+    match step {
+        None => kept_range(alloc, kept, from, to, Frac::one()),
+        Some(step) => {
+            let by = number(alloc, model, kept, height, room, step.get(), bindings)?;
+            kept_range(alloc, kept, from, to, by)
+        }
+    }
+}

@@ -1,0 +1,486 @@
+// Lists of values, functions, comparisons, braces and iterations.
+ghost use Rattle.std.specs.Prelude.{◌≡◌, []};
+ghost use Rattle.gmpl_fault.specs.Outcome.{Gives};
+ghost use Rattle.gmpl_expr.specs.At as at;
+ghost use Rattle.gmpl_meaning.specs.Expressions as spec;
+ghost use Rattle.gmpl_meaning.specs.Walks as walks;
+ghost use Rattle.gmpl_kept.specs.Right.{AreRight};
+ghost use Rattle.gmpl_expr.specs.Membership as membership;
+ghost use Rattle.gmpl_syntax.specs.declared.expression.Relation.TheVariants as relations;
+
+use crate::evaluate::eval;
+use crate::indexing::walked;
+use crate::listing::{add, set_over};
+use crate::parts::{closed, negated_value, ranged, size_of, truth_value};
+use crate::set_kinds::is_indexing;
+use crate::sets::shared_set;
+use fraction::Frac;
+use gmpl_data::LoadedModel;
+use gmpl_fault::EvalFault;
+use gmpl_functions::{length, power as power_of};
+use gmpl_kept::Kept;
+use gmpl_meaning::Walk;
+use gmpl_operations::{
+    Value, called_with_numbers, ended, is_decided, joined, left_side, related, sliced,
+};
+use gmpl_resolved::{Entry, Expr, Indexing};
+use gmpl_syntax::{Function, Iteration, Relation};
+use gmpl_value::{SetValue, Tuple};
+use sqlite_items::{Boxed, Items};
+use std::alloc::Global;
+
+// ---- lists and single values
+
+#[cycle(evaluation)]
+pub(crate) fn symbols(
+    alloc: Global,
+    model: &LoadedModel,
+    kept: &mut Kept,
+    height: u32,
+    room: u32,
+    all: &[Expr],
+    bindings: &Tuple,
+) -> Result<Tuple, EvalFault>
+    requires right { AreRight model.now kept.old }
+    ensures right { AreRight model.now kept.new }
+    ensures value { Gives result (spec.symbols [] (at.exprs model.now height all.now) bindings.now) }
+{
+    let mut found = Tuple::new(alloc);
+    for one in all {
+        let value = eval(alloc, model, kept, height, room, one, bindings)?;
+        found.push(value.into_symbol()?)?;
+    }
+    Ok(found)
+}
+
+#[cycle(evaluation)]
+fn numbers(
+    alloc: Global,
+    model: &LoadedModel,
+    kept: &mut Kept,
+    height: u32,
+    room: u32,
+    all: &[Expr],
+    bindings: &Tuple,
+) -> Result<Items<Frac>, EvalFault>
+    requires right { AreRight model.now kept.old }
+    ensures right { AreRight model.now kept.new }
+    ensures value { Gives result (spec.numbers [] (at.exprs model.now height all.now) bindings.now) }
+{
+    let mut found = Items::new(alloc);
+    for one in all {
+        let value = eval(alloc, model, kept, height, room, one, bindings)?;
+        found.push(value.as_number()?)?;
+    }
+    Ok(found)
+}
+
+#[cycle(evaluation)]
+pub(crate) fn number(
+    alloc: Global,
+    model: &LoadedModel,
+    kept: &mut Kept,
+    height: u32,
+    room: u32,
+    whole: &Expr,
+    bindings: &Tuple,
+) -> Result<Frac, EvalFault>
+    requires right { AreRight model.now kept.old }
+    ensures right { AreRight model.now kept.new }
+    ensures value { Gives result (spec.number_at (at.expr model.now height whole.now) bindings.now) }
+{
+    let value = eval(alloc, model, kept, height, room, whole, bindings)?;
+    value.as_number()
+}
+
+#[cycle(evaluation)]
+pub(crate) fn holds(
+    alloc: Global,
+    model: &LoadedModel,
+    kept: &mut Kept,
+    height: u32,
+    room: u32,
+    condition: &Expr,
+    bindings: &Tuple,
+) -> Result<bool, EvalFault>
+    requires right { AreRight model.now kept.old }
+    ensures right { AreRight model.now kept.new }
+    ensures value { Gives result (walks.holds (at.expr model.now height condition.now) bindings.now) }
+{
+    let value = eval(alloc, model, kept, height, room, condition, bindings)?;
+    value.as_truth()
+}
+
+// ---- functions
+
+#[cycle(evaluation)]
+pub(crate) fn called(
+    alloc: Global,
+    model: &LoadedModel,
+    kept: &mut Kept,
+    height: u32,
+    room: u32,
+    function: Function,
+    arguments: &[Expr],
+    bindings: &Tuple,
+) -> Result<Value, EvalFault>
+    requires right { AreRight model.now kept.old }
+    ensures right { AreRight model.now kept.new }
+    ensures value { Gives result (spec.called function (at.exprs model.now height arguments.now) bindings.now) }
+{
+    match function {
+        Function::Card => size(alloc, model, kept, height, room, arguments, bindings),
+        Function::Length => text_length(alloc, model, kept, height, room, arguments, bindings),
+        Function::Substr => substring(alloc, model, kept, height, room, arguments, bindings),
+        _ => {
+            let numbers = numbers(alloc, model, kept, height, room, arguments, bindings)?;
+            Ok(Value::number(called_with_numbers(function, numbers.as_slice())?))
+        }
+    }
+}
+
+#[cycle(evaluation)]
+fn size(
+    alloc: Global,
+    model: &LoadedModel,
+    kept: &mut Kept,
+    height: u32,
+    room: u32,
+    arguments: &[Expr],
+    bindings: &Tuple,
+) -> Result<Value, EvalFault>
+    requires right { AreRight model.now kept.old }
+    ensures right { AreRight model.now kept.new }
+    ensures value { Gives result (spec.size (at.exprs model.now height arguments.now) bindings.now) }
+{
+    match arguments {
+        [] => Err(EvalFault::NotANumber),
+        [set, ..] => {
+            let set = shared_set(alloc, model, kept, height, room, set, bindings)?;
+            Ok(size_of(set.as_ref()))
+        }
+    }
+}
+
+#[cycle(evaluation)]
+fn text_length(
+    alloc: Global,
+    model: &LoadedModel,
+    kept: &mut Kept,
+    height: u32,
+    room: u32,
+    arguments: &[Expr],
+    bindings: &Tuple,
+) -> Result<Value, EvalFault>
+    requires right { AreRight model.now kept.old }
+    ensures right { AreRight model.now kept.new }
+    ensures value { Gives result (spec.text_length (at.exprs model.now height arguments.now) bindings.now) }
+{
+    match arguments {
+        [] => Err(EvalFault::NotANumber),
+        [text, ..] => {
+            let symbol = eval(alloc, model, kept, height, room, text, bindings)?.into_symbol()?;
+            Ok(Value::number(length(alloc, &symbol)?))
+        }
+    }
+}
+
+#[cycle(evaluation)]
+fn substring(
+    alloc: Global,
+    model: &LoadedModel,
+    kept: &mut Kept,
+    height: u32,
+    room: u32,
+    arguments: &[Expr],
+    bindings: &Tuple,
+) -> Result<Value, EvalFault>
+    requires right { AreRight model.now kept.old }
+    ensures right { AreRight model.now kept.new }
+    ensures value { Gives result (spec.substring (at.exprs model.now height arguments.now) bindings.now) }
+{
+    match arguments {
+        [] => Err(EvalFault::NotANumber),
+        [text, others @ ..] => {
+            let symbol = eval(alloc, model, kept, height, room, text, bindings)?.into_symbol()?;
+            let numbers = numbers(alloc, model, kept, height, room, others, bindings)?;
+            Ok(Value::Scalar(sliced(alloc, &symbol, numbers.as_slice())?))
+        }
+    }
+}
+
+// ---- ranges and comparisons
+
+#[cycle(evaluation)]
+pub(crate) fn range(
+    alloc: Global,
+    model: &LoadedModel,
+    kept: &mut Kept,
+    height: u32,
+    room: u32,
+    first: &Expr,
+    last: &Expr,
+    step: &Option<Boxed<Expr>>,
+    bindings: &Tuple,
+) -> Result<Value, EvalFault>
+    requires right { AreRight model.now kept.old }
+    ensures right { AreRight model.now kept.new }
+    ensures value { Gives result (spec.range (at.expr model.now height first.now) (at.expr model.now height last.now) (at.optional model.now height step.now) bindings.now) }
+{
+    let from = number(alloc, model, kept, height, room, first, bindings)?;
+    let to = number(alloc, model, kept, height, room, last, bindings)?;
+    match step {
+        None => ranged(alloc, from, to, Frac::one()),
+        Some(step) => {
+            let by = number(alloc, model, kept, height, room, step.get(), bindings)?;
+            ranged(alloc, from, to, by)
+        }
+    }
+}
+
+#[cycle(evaluation)]
+pub(crate) fn power(
+    alloc: Global,
+    model: &LoadedModel,
+    kept: &mut Kept,
+    height: u32,
+    room: u32,
+    base: &Expr,
+    exponent: &Expr,
+    bindings: &Tuple,
+) -> Result<Value, EvalFault>
+    requires right { AreRight model.now kept.old }
+    ensures right { AreRight model.now kept.new }
+    ensures value { Gives result (spec.power (at.expr model.now height base.now) (at.expr model.now height exponent.now) bindings.now) }
+{
+    let base = number(alloc, model, kept, height, room, base, bindings)?;
+    let exponent = number(alloc, model, kept, height, room, exponent, bindings)?;
+    Ok(Value::number(power_of(base, exponent)?))
+}
+
+#[cycle(evaluation)]
+pub(crate) fn compared(
+    alloc: Global,
+    model: &LoadedModel,
+    kept: &mut Kept,
+    height: u32,
+    room: u32,
+    relation: Relation,
+    left: &Expr,
+    right: &Expr,
+    bindings: &Tuple,
+) -> Result<Value, EvalFault>
+    requires right { AreRight model.now kept.old }
+    ensures right { AreRight model.now kept.new }
+    ensures value { Gives result (spec.compared relation (at.expr model.now height left.now) (at.expr model.now height right.now) bindings.now) }
+{
+    match relation {
+        Relation::In => within_set(alloc, model, kept, height, room, left, right, bindings),
+        Relation::NotIn => outside_set(alloc, model, kept, height, room, left, right, bindings),
+        _ => compared_values(
+            alloc, model, kept, height, room, relation, left, right, bindings,
+        ),
+    }
+}
+
+#[cycle(evaluation)]
+fn within_set(
+    alloc: Global,
+    model: &LoadedModel,
+    kept: &mut Kept,
+    height: u32,
+    room: u32,
+    left: &Expr,
+    right: &Expr,
+    bindings: &Tuple,
+) -> Result<Value, EvalFault>
+    requires right { AreRight model.now kept.old }
+    ensures right { AreRight model.now kept.new }
+    ensures value { Gives result (spec.compared relations.In (at.expr model.now height left.now) (at.expr model.now height right.now) bindings.now) }
+{
+    let found = is_element(alloc, model, kept, height, room, left, right, bindings);
+    truth_value(found)
+}
+
+#[cycle(evaluation)]
+fn outside_set(
+    alloc: Global,
+    model: &LoadedModel,
+    kept: &mut Kept,
+    height: u32,
+    room: u32,
+    left: &Expr,
+    right: &Expr,
+    bindings: &Tuple,
+) -> Result<Value, EvalFault>
+    requires right { AreRight model.now kept.old }
+    ensures right { AreRight model.now kept.new }
+    ensures value { Gives result (spec.compared relations.NotIn (at.expr model.now height left.now) (at.expr model.now height right.now) bindings.now) }
+{
+    let found = is_element(alloc, model, kept, height, room, left, right, bindings);
+    negated_value(found)
+}
+
+#[cycle(evaluation)]
+fn is_element(
+    alloc: Global,
+    model: &LoadedModel,
+    kept: &mut Kept,
+    height: u32,
+    room: u32,
+    left: &Expr,
+    right: &Expr,
+    bindings: &Tuple,
+) -> Result<bool, EvalFault>
+    requires right { AreRight model.now kept.old }
+    ensures right { AreRight model.now kept.new }
+    ensures value { Gives result (membership.is_element (at.expr model.now height left.now) (at.expr model.now height right.now) bindings.now) }
+{
+    let tuple = eval(alloc, model, kept, height, room, left, bindings)?.into_tuple(alloc)?;
+    let set = shared_set(alloc, model, kept, height, room, right, bindings)?;
+    Ok(set.as_ref().contains(&tuple))
+}
+
+#[cycle(evaluation)]
+fn compared_values(
+    alloc: Global,
+    model: &LoadedModel,
+    kept: &mut Kept,
+    height: u32,
+    room: u32,
+    relation: Relation,
+    left: &Expr,
+    right: &Expr,
+    bindings: &Tuple,
+) -> Result<Value, EvalFault>
+    requires right { AreRight model.now kept.old }
+    ensures right { AreRight model.now kept.new }
+    ensures value { Gives result (spec.compared relation (at.expr model.now height left.now) (at.expr model.now height right.now) bindings.now) }
+{
+    let left = eval(alloc, model, kept, height, room, left, bindings)?;
+    let left = left_side(alloc, relation, left)?;
+    let right = eval(alloc, model, kept, height, room, right, bindings)?;
+    Ok(Value::Truth(related(alloc, relation, left, right)?))
+}
+
+#[cycle(evaluation)]
+pub(crate) fn negation(
+    alloc: Global,
+    model: &LoadedModel,
+    kept: &mut Kept,
+    height: u32,
+    room: u32,
+    part: &Expr,
+    bindings: &Tuple,
+) -> Result<Value, EvalFault>
+    requires right { AreRight model.now kept.old }
+    ensures right { AreRight model.now kept.new }
+    ensures value { Gives result (spec.negation (at.expr model.now height part.now) bindings.now) }
+{
+    let truth = holds(alloc, model, kept, height, room, part, bindings)?;
+    Ok(Value::Truth(!truth))
+}
+
+// ---- braces and iterations
+
+#[cycle(evaluation)]
+pub(crate) fn braces(
+    alloc: Global,
+    model: &LoadedModel,
+    kept: &mut Kept,
+    height: u32,
+    room: u32,
+    indexing: &Indexing,
+    bindings: &Tuple,
+) -> Result<Value, EvalFault>
+    requires right { AreRight model.now kept.old }
+    ensures right { AreRight model.now kept.new }
+    ensures value { Gives result (spec.braces (at.indexing model.now height indexing.now) bindings.now) }
+{
+    if is_indexing(model, height, indexing) {
+        let walk = walked(alloc, model, kept, height, room, indexing, bindings)?;
+        set_over(alloc, &walk)
+    } else {
+        listed(
+            alloc,
+            model,
+            kept,
+            height,
+            room,
+            indexing.entries.as_slice(),
+            bindings,
+        )
+    }
+}
+
+#[cycle(evaluation)]
+fn listed(
+    alloc: Global,
+    model: &LoadedModel,
+    kept: &mut Kept,
+    height: u32,
+    room: u32,
+    entries: &[Entry],
+    bindings: &Tuple,
+) -> Result<Value, EvalFault>
+    requires right { AreRight model.now kept.old }
+    ensures right { AreRight model.now kept.new }
+    ensures value { Gives result (spec.listed [] (at.entries model.now height entries.now) bindings.now) }
+{
+    let mut found = SetValue::new(alloc);
+    for entry in entries {
+        let value = eval(alloc, model, kept, height, room, &entry.set, bindings)?;
+        add(&mut found, value.into_tuple(alloc)?)?;
+    }
+    Ok(Value::Elements(found))
+}
+
+#[cycle(evaluation)]
+pub(crate) fn iterated(
+    alloc: Global,
+    model: &LoadedModel,
+    kept: &mut Kept,
+    height: u32,
+    room: u32,
+    iteration: Iteration,
+    indexing: &Indexing,
+    body: &Expr,
+    bindings: &Tuple,
+) -> Result<Value, EvalFault>
+    requires right { AreRight model.now kept.old }
+    ensures right { AreRight model.now kept.new }
+    ensures value { Gives result (spec.iterated iteration (at.expr model.now height body.now) bindings.now (walks.walked (at.indexing model.now height indexing.now) bindings.now)) }
+{
+    let walk = walked(alloc, model, kept, height, room, indexing, bindings)?;
+    gone_over(
+        alloc, model, kept, height, room, iteration, &walk, body, bindings,
+    )
+}
+
+#[cycle(evaluation)]
+fn gone_over(
+    alloc: Global,
+    model: &LoadedModel,
+    kept: &mut Kept,
+    height: u32,
+    room: u32,
+    iteration: Iteration,
+    walk: &Walk,
+    body: &Expr,
+    bindings: &Tuple,
+) -> Result<Value, EvalFault>
+    requires right { AreRight model.now kept.old }
+    ensures right { AreRight model.now kept.new }
+    ensures value { Gives result (spec.iterated iteration (at.expr model.now height body.now) bindings.now walk.now) }
+{
+    let mut total = None;
+    for element in walk.elements.as_slice() {
+        if is_decided(iteration, &total) {
+            return ended(alloc, iteration, total);
+        }
+        let inner = bindings.joined(alloc, &element.indices)?;
+        let value = eval(alloc, model, kept, height, room, body, &inner)?;
+        total = joined(alloc, iteration, total, value)?;
+    }
+    closed(alloc, iteration, total, walk.fault)
+}
