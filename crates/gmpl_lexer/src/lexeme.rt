@@ -12,19 +12,21 @@ use crate::words::{long_delimiter, name_kind, short_delimiter};
 use gmpl_token::{LexFaultKind, TokenKind};
 use model_text::after;
 
-// How many bytes it takes, and what it is.
+/// What stands at a place of a text: how many bytes it takes, and what it is.
 #[derive(Clone, Copy)]
-pub(crate) struct Lexeme {
-    pub(crate) size: usize,
-    pub(crate) kind: LexemeKind,
+pub struct Lexeme {
+    pub size: usize,
+    pub kind: LexemeKind,
 }
 
+/// What a part of a text is.
 #[derive(Clone, Copy)]
-pub(crate) enum LexemeKind {
-    // blanks, a line's end or a comment
+pub enum LexemeKind {
+    /// Blanks, a line's end or a comment.
     Gap,
+    /// A token of this kind.
     Token(TokenKind),
-    // no token can stand here
+    /// No token can stand here.
     Bad(LexFaultKind),
 }
 
@@ -214,7 +216,7 @@ fn line_end(rest: &[u8]) -> Lexeme
 }
 
 /// What stands at the start of a text; `begins` tells whether a statement may begin there.
-pub(crate) fn lexeme_at(begins: bool, text: &[u8]) -> Lexeme
+pub fn lexeme_at(begins: bool, text: &[u8]) -> Lexeme
     ensures value { result ≡ lexeme_at begins text.now }
     ensures some { 0 < result.size }
     ensures within { 0 < length text.now → result.size ≤ length text.now }

@@ -8,4 +8,5 @@ mod strings;
 mod tokens;
 mod words;
 
+pub use lexeme::{Lexeme, LexemeKind, lexeme_at};
 pub use tokens::read_tokens;

@@ -1,5 +1,5 @@
 // Tables of members.
-ghost use Rattle.std.specs.Prelude.{◌≡◌, [], map, length, option_copied, slice_get, IfErr, OnErr, OnOk};
+ghost use Rattle.std.specs.Prelude.{◌≡◌, [], map, length, option_copied, slice_get, IfOk, IfErr, OnErr, OnOk};
 ghost use Rattle.std.specs.List.{IsDistinct};
 ghost use Rattle.std.specs.Option.{option_map};
 ghost use Rattle.gmpl_value.specs.SymbolEquality.{tuple_eq};
@@ -66,6 +66,24 @@ impl Members {
     {
         match self.values.insert(subscripts, value) {
             Ok(_) => Ok(()),
+            Err(refused) => Err(refused.value),
+        }
+    }
+
+    /// Gives a member a value, in place of the one that it has, and hands that one out. Subscripts and value come back where
+    /// memory is wanting.
+    pub fn replace(
+        &mut self,
+        subscripts: Tuple,
+        value: Value,
+    ) -> Result<Option<Value>, (Tuple, Value)>
+        ensures ok { OnOk result (self.new ≡ with_value self.old subscripts value) }
+        ensures replaced { IfOk result (λ before. before ≡ value_of self.old subscripts) }
+        ensures kept { OnErr result (self.new ≡ self.old) }
+        ensures returned { IfErr result (λ refused. refused ≡ (subscripts, value)) }
+    {
+        match self.values.insert(subscripts, value) {
+            Ok(before) => Ok(before),
             Err(refused) => Err(refused.value),
         }
     }

@@ -1,0 +1,4 @@
+pub mod Input
+pub mod Rules
+pub mod Strings
+pub mod Symbols

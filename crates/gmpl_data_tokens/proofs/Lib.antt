@@ -1,0 +1,3 @@
+pub mod TokenKinds
+pub mod Scanned
+pub mod TokenExamples

@@ -1,0 +1,5 @@
+pub mod Objects
+pub mod Tables
+pub mod Statements
+pub mod Tabbing
+pub mod Texts
