@@ -8,22 +8,23 @@ use Rattle.gmpl_kinds.specs.declared.shape.Shape.TheVariants.{Scalar, SetOf}
 use Rattle.gmpl_kinds.specs.declared.shape.Sort.{Sort}
 use Rattle.gmpl_kinds.specs.declared.shape.Sort.TheVariants as sort
 use Rattle.gmpl_kinds.specs.declared.shape.Object.{Object}
+use Rattle.gmpl_kinds.specs.declared.shape.Position.{Position}
+use Rattle.gmpl_kinds.specs.declared.shape.Position.TheVariants as position
 use Rattle.gmpl_kinds.specs.declared.shape.Site.{Site}
-use Rattle.gmpl_kinds.specs.declared.shape.Site.TheVariants as site
 use Rattle.gmpl_kinds.specs.Demands.{Judged}
 
 -- a variable stands in a constraint or an objective, and with a suffix or without one behind `solve`
-abbrev pub may_hold_variable : Site → Bool → Bool
-may_hold_variable site.Constant has_suffix = false
-may_hold_variable site.Linear has_suffix = not has_suffix
-may_hold_variable site.Solved has_suffix = true
+abbrev pub may_hold_variable : Position → Bool → Bool
+may_hold_variable position.Constant has_suffix = false
+may_hold_variable position.Linear has_suffix = not has_suffix
+may_hold_variable position.Solved has_suffix = true
 
-abbrev pub is_solved : Site → Bool
-is_solved site.Solved = true
+abbrev pub is_solved : Position → Bool
+is_solved position.Solved = true
 is_solved _ = false
 
 -- a constraint or an objective stands behind `solve` alone; no suffix stands behind a set or a parameter
-abbrev pub may_stand : Site → Sort → Bool → Bool
+abbrev pub may_stand : Position → Sort → Bool → Bool
 may_stand stands sort.Set has_suffix = not has_suffix
 may_stand stands sort.Param has_suffix = not has_suffix
 may_stand stands sort.Var has_suffix = may_hold_variable stands has_suffix
@@ -38,17 +39,25 @@ shape_by _ n = Scalar
 abbrev pub index_shape : ℕ → Bool → Judged
 index_shape count has_suffix = if has_suffix then Err WrongKind else if count == 0 then Ok Scalar else Err WrongDimension
 
-abbrev pub object_shape : Site → Object → ℕ → Bool → Judged
+abbrev pub object_shape : Position → Object → ℕ → Bool → Judged
 object_shape stands object count has_suffix =
     if not (may_stand stands object.sort has_suffix) then Err WrongKind
     else if object.subscripts == count then Ok (shape_by object.sort object.elements)
     else Err WrongDimension
 
-abbrev pub object_at : Site → Option Object → ℕ → Bool → Judged
-object_at stands None count has_suffix = Err WrongKind
-object_at stands (Some object) count has_suffix = object_shape stands object count has_suffix
+abbrev pub shape_at : Position → Option Object → ℕ → Bool → Judged
+shape_at stands None count has_suffix = Err WrongKind
+shape_at stands (Some object) count has_suffix = object_shape stands object count has_suffix
+
+-- behind the objects that are declared already stands the statement's own
+abbrev pub or_own : Option Object → Option Object → Option Object
+or_own own None = own
+or_own own (Some object) = Some object
+
+abbrev pub object_at : List Object → Option Object → ℕ → Option Object
+object_at objects own place = or_own own (slice_get objects place)
 
 -- a name with so many subscripts
 abbrev pub named : List Object → Site → Meaning → ℕ → Bool → Judged
-named objects stands (m.Index place) count has_suffix = index_shape count has_suffix
-named objects stands (m.Object place) count has_suffix = object_at stands (slice_get objects place) count has_suffix
+named objects site (m.Index place) count has_suffix = index_shape count has_suffix
+named objects site (m.Object place) count has_suffix = shape_at site.position (object_at objects site.own place) count has_suffix

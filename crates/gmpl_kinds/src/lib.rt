@@ -10,4 +10,4 @@ mod shape;
 
 pub use demands::{as_logic, as_scalar, as_set, or_one, same_dimension};
 pub use kinds::{indexing_dimension, shape_of};
-pub use shape::{Object, Shape, Site, Sort};
+pub use shape::{Object, Position, Shape, Site, Sort};

@@ -2,36 +2,36 @@
 ghost use Rattle.std.specs.Prelude.{◌≡◌};
 ghost use Rattle.gmpl_kinds.specs.Objects as spec;
 
-use crate::shape::{Object, Shape, Site, Sort};
+use crate::shape::{Object, Position, Shape, Site, Sort};
 use gmpl_resolved::Meaning;
 use gmpl_syntax::SyntaxFaultKind;
 
-fn may_hold_variable(site: Site, has_suffix: bool) -> bool
-    ensures { result ≡ spec.may_hold_variable site has_suffix }
+fn may_hold_variable(position: Position, has_suffix: bool) -> bool
+    ensures { result ≡ spec.may_hold_variable position has_suffix }
 {
-    match site {
-        Site::Constant => false,
-        Site::Linear => !has_suffix,
-        Site::Solved => true,
+    match position {
+        Position::Constant => false,
+        Position::Linear => !has_suffix,
+        Position::Solved => true,
     }
 }
 
-fn is_solved(site: Site) -> bool
-    ensures { result ≡ spec.is_solved site }
+fn is_solved(position: Position) -> bool
+    ensures { result ≡ spec.is_solved position }
 {
-    match site {
-        Site::Constant | Site::Linear => false,
-        Site::Solved => true,
+    match position {
+        Position::Constant | Position::Linear => false,
+        Position::Solved => true,
     }
 }
 
-fn may_stand(site: Site, sort: Sort, has_suffix: bool) -> bool
-    ensures { result ≡ spec.may_stand site sort has_suffix }
+fn may_stand(position: Position, sort: Sort, has_suffix: bool) -> bool
+    ensures { result ≡ spec.may_stand position sort has_suffix }
 {
     match sort {
         Sort::Set | Sort::Param => !has_suffix,
-        Sort::Var => may_hold_variable(site, has_suffix),
-        Sort::Constraint | Sort::Objective => is_solved(site),
+        Sort::Var => may_hold_variable(position, has_suffix),
+        Sort::Constraint | Sort::Objective => is_solved(position),
     }
 }
 
@@ -57,19 +57,29 @@ fn index_shape(count: usize, has_suffix: bool) -> Result<Shape, SyntaxFaultKind>
 }
 
 fn object_shape(
-    site: Site,
+    position: Position,
     object: Object,
     count: usize,
     has_suffix: bool,
 ) -> Result<Shape, SyntaxFaultKind>
-    ensures { result ≡ spec.object_shape site object count has_suffix }
+    ensures { result ≡ spec.object_shape position object count has_suffix }
 {
-    if !may_stand(site, object.sort, has_suffix) {
+    if !may_stand(position, object.sort, has_suffix) {
         Err(SyntaxFaultKind::WrongKind)
     } else if object.subscripts == count {
         Ok(shape_by(object.sort, object.elements))
     } else {
         Err(SyntaxFaultKind::WrongDimension)
+    }
+}
+
+// The object at a place: behind those that are declared already stands the statement's own.
+fn object_at(objects: &[Object], own: Option<Object>, place: usize) -> Option<Object>
+    ensures { result ≡ spec.object_at objects.now own place }
+{
+    match objects.get(place) {
+        None => own,
+        Some(object) => Some(*object),
     }
 }
 
@@ -85,9 +95,9 @@ pub(crate) fn named(
 {
     match meaning {
         Meaning::Index(_) => index_shape(count, has_suffix),
-        Meaning::Object(place) => match objects.get(place) {
+        Meaning::Object(place) => match object_at(objects, site.own, place) {
             None => Err(SyntaxFaultKind::WrongKind),
-            Some(object) => object_shape(site, *object, count, has_suffix),
+            Some(object) => object_shape(site.position, object, count, has_suffix),
         },
     }
 }

@@ -31,9 +31,17 @@ pub struct Object {
     pub elements: Option<usize>,
 }
 
-/// Where an expression stands.
+/// Where an expression stands, and the object that its statement declares, where a name may mean it there. The dimension of a
+/// set is not known before its statement is judged.
 #[derive(Clone, Copy, Debug, PartialEq, Eq)]
-pub enum Site {
+pub struct Site {
+    pub position: Position,
+    pub own: Option<Object>,
+}
+
+/// Among which statements, and in which of their parts.
+#[derive(Clone, Copy, Debug, PartialEq, Eq)]
+pub enum Position {
     /// Before `solve`, and neither in a constraint nor in an objective.
     Constant,
     /// In a constraint or an objective: it may hold variables.

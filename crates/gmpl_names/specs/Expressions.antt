@@ -20,7 +20,6 @@ use Rattle.gmpl_resolved.specs.declared.expression.Indexing.{Indexing as Resolve
 use Rattle.gmpl_resolved.specs.declared.expression.Link.{Link as ResolvedLink, roll-Link}
 use Rattle.gmpl_names.specs.declared.error.NamesError.{NamesError}
 use Rattle.gmpl_names.specs.declared.error.NamesError.TheVariants.{Fault, NoMemory}
-use Rattle.gmpl_names.specs.declared.meanings.Objects.{Objects}
 use Rattle.gmpl_names.specs.Names.{Name, with_names}
 use Rattle.gmpl_names.specs.Supported.{supports_function}
 use Rattle.gmpl_names.specs.Meanings.{Or_fault, used, named_by, lone}
@@ -135,7 +134,7 @@ chain head links = do
   others ← all links
   pure (e.Chain first others)
 
-module _ (objects : Objects) where
+module _ (objects : List Name) where
   -- subscripts, then the name, then the suffix
   abbrev pub named : Name → List (Pass Resolved) → Option Suffix → Pass Resolved
   named name subscripts suffix = all subscripts >>= (λ found scope. beside (named_by (used objects scope name) found suffix) scope)

@@ -1,5 +1,5 @@
 -- What a name means (GNU MathProg Language Reference, chapter on names of model objects and section on indexing expressions).
-use Rattle.std.specs.Prelude.{ℕ, Bool, false, ◌==◌, if◌then◌else◌, List, [], Option, Some, None, Result, Ok, Err}
+use Rattle.std.specs.Prelude.{ℕ, if◌then◌else◌, List, [], Option, Some, None, Result, Ok, Err}
 use Rattle.gmpl_syntax.specs.declared.fault.SyntaxFaultKind.{SyntaxFaultKind}
 use Rattle.gmpl_syntax.specs.declared.fault.SyntaxFaultKind.TheVariants.{Undeclared, Declared, Unsupported}
 use Rattle.gmpl_syntax.specs.declared.expression.Suffix.{Suffix}
@@ -9,7 +9,6 @@ use Rattle.gmpl_resolved.specs.declared.expression.Expr.{Expr as Resolved}
 use Rattle.gmpl_resolved.specs.declared.expression.Expr.TheVariants as e
 use Rattle.gmpl_resolved.specs.declared.expression.Component.{Component as ResolvedComponent}
 use Rattle.gmpl_resolved.specs.declared.expression.Component.TheVariants as c
-use Rattle.gmpl_names.specs.declared.meanings.Objects.{Objects}
 use Rattle.gmpl_names.specs.Names.{Name, place_of, has, with_name}
 use Rattle.gmpl_names.specs.Supported.{supports_suffix}
 
@@ -22,25 +21,16 @@ meaning_by (Some place) object = Some (m.Index place)
 meaning_by None (Some place) = Some (m.Object place)
 meaning_by None None = None
 
-abbrev pub meaning : Objects → List Name → Name → Option Meaning
-meaning objects scope name = meaning_by (place_of name scope) (place_of name objects.names)
+abbrev pub meaning : List Name → List Name → Name → Option Meaning
+meaning objects scope name = meaning_by (place_of name scope) (place_of name objects)
 
-abbrev pub is_at : Option ℕ → ℕ → Bool
-is_at None place = false
-is_at (Some own) place = own == place
-
--- a member's own name in its statement is not supported so far
-abbrev pub usable : Objects → Meaning → Or_fault Meaning
-usable objects (m.Index place) = Ok (m.Index place)
-usable objects (m.Object place) = if is_at objects.own place then Err Unsupported else Ok (m.Object place)
-
-abbrev pub used_by : Objects → Option Meaning → Or_fault Meaning
-used_by objects None = Err Undeclared
-used_by objects (Some meaning) = usable objects meaning
+abbrev pub used_by : Option Meaning → Or_fault Meaning
+used_by None = Err Undeclared
+used_by (Some meaning) = Ok meaning
 
 -- a name outside an index
-abbrev pub used : Objects → List Name → Name → Or_fault Meaning
-used objects scope name = used_by objects (meaning objects scope name)
+abbrev pub used : List Name → List Name → Name → Or_fault Meaning
+used objects scope name = used_by (meaning objects scope name)
 
 -- a name behind its subscripts, then its suffix
 abbrev pub named_by : Or_fault Meaning → List Resolved → Option Suffix → Or_fault Resolved
@@ -52,14 +42,10 @@ named_by (Err fault) subscripts suffix = Err fault
 abbrev pub new_index : Name → List Name → Or_fault (ResolvedComponent × List Name)
 new_index name found = if has name found then Err Declared else Ok (c.New, with_name found name)
 
-abbrev pub known_index : Or_fault Meaning → List Name → Or_fault (ResolvedComponent × List Name)
-known_index (Ok meaning) found = Ok (c.Value (e.Named meaning [] None), found)
-known_index (Err fault) found = Err fault
-
-abbrev pub lone_by : Objects → Option Meaning → Name → List Name → Or_fault (ResolvedComponent × List Name)
-lone_by objects None name found = new_index name found
-lone_by objects (Some meaning) name found = known_index (usable objects meaning) found
+abbrev pub lone_by : Option Meaning → Name → List Name → Or_fault (ResolvedComponent × List Name)
+lone_by None name found = new_index name found
+lone_by (Some meaning) name found = Ok (c.Value (e.Named meaning [] None), found)
 
 -- it is a new index where it means nothing, once; any other is what the element's component must equal
-abbrev pub lone : Objects → List Name → Name → List Name → Or_fault (ResolvedComponent × List Name)
-lone objects scope name found = lone_by objects (meaning objects scope name) name found
+abbrev pub lone : List Name → List Name → Name → List Name → Or_fault (ResolvedComponent × List Name)
+lone objects scope name found = lone_by (meaning objects scope name) name found

@@ -4,7 +4,7 @@ ghost use Rattle.gmpl_names.specs.Expressions as spec;
 ghost use Rattle.gmpl_names.specs.Expressions.{Follows, FollowsIndex};
 
 use crate::error::NamesError;
-use crate::meanings::{Objects, lone, named, supports_function};
+use crate::meanings::{lone, named, supports_function};
 use crate::names::Names;
 use gmpl_resolved as resolved;
 use gmpl_syntax::{
@@ -18,7 +18,7 @@ use std::alloc::Global;
 #[cycle(names)]
 pub fn resolve_expr(
     alloc: Global,
-    objects: &Objects,
+    objects: &Names,
     scope: &mut Names,
     whole: &Expr,
 ) -> Result<resolved::Expr, NamesError>
@@ -96,7 +96,7 @@ pub fn resolve_expr(
 #[cycle(names)]
 fn resolve_boxed(
     alloc: Global,
-    objects: &Objects,
+    objects: &Names,
     scope: &mut Names,
     whole: &Boxed<Expr>,
 ) -> Result<Boxed<resolved::Expr>, NamesError>
@@ -109,7 +109,7 @@ fn resolve_boxed(
 #[cycle(names)]
 fn resolve_optional(
     alloc: Global,
-    objects: &Objects,
+    objects: &Names,
     scope: &mut Names,
     whole: &Option<Boxed<Expr>>,
 ) -> Result<Option<Boxed<resolved::Expr>>, NamesError>
@@ -128,7 +128,7 @@ fn resolve_optional(
 #[cycle(names)]
 pub fn resolve_exprs(
     alloc: Global,
-    objects: &Objects,
+    objects: &Names,
     scope: &mut Names,
     all: &[Expr],
 ) -> Result<Items<resolved::Expr>, NamesError>
@@ -144,7 +144,7 @@ pub fn resolve_exprs(
 #[cycle(names)]
 fn resolve_links(
     alloc: Global,
-    objects: &Objects,
+    objects: &Names,
     scope: &mut Names,
     all: &[Link],
 ) -> Result<Items<resolved::Link>, NamesError>
@@ -167,7 +167,7 @@ fn resolve_links(
 #[cycle(names)]
 pub fn resolve_indexing(
     alloc: Global,
-    objects: &Objects,
+    objects: &Names,
     scope: &mut Names,
     whole: &Indexing,
 ) -> Result<resolved::Indexing, NamesError>
@@ -181,7 +181,7 @@ pub fn resolve_indexing(
 #[cycle(names)]
 fn resolve_entries(
     alloc: Global,
-    objects: &Objects,
+    objects: &Names,
     scope: &mut Names,
     all: &[Entry],
 ) -> Result<Items<resolved::Entry>, NamesError>
@@ -197,7 +197,7 @@ fn resolve_entries(
 #[cycle(names)]
 fn resolve_entry(
     alloc: Global,
-    objects: &Objects,
+    objects: &Names,
     scope: &mut Names,
     whole: &Entry,
 ) -> Result<resolved::Entry, NamesError>
@@ -224,7 +224,7 @@ fn resolve_entry(
 #[cycle(names)]
 fn resolve_components(
     alloc: Global,
-    objects: &Objects,
+    objects: &Names,
     scope: &mut Names,
     found: &mut Names,
     all: &[Component],
@@ -241,7 +241,7 @@ fn resolve_components(
 #[cycle(names)]
 fn resolve_component(
     alloc: Global,
-    objects: &Objects,
+    objects: &Names,
     scope: &mut Names,
     found: &mut Names,
     whole: &Component,

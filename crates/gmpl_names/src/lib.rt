@@ -8,5 +8,5 @@ mod names;
 
 pub use error::NamesError;
 pub use expressions::{resolve_expr, resolve_exprs, resolve_indexing};
-pub use meanings::{Objects, resolve_name};
+pub use meanings::resolve_name;
 pub use names::Names;

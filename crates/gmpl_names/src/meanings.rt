@@ -12,57 +12,25 @@ use gmpl_text::Text;
 use sqlite_items::Items;
 use std::alloc::{AllocError, Global};
 
-/// The names of the objects that are declared, in the order of their declarations, and the place of the one that the statement
-/// itself declares, where it declares one.
-#[derive(Drop)]
-pub struct Objects {
-    pub names: Names,
-    pub own: Option<usize>,
-}
-
-fn is_at(own: Option<usize>, place: usize) -> bool
-    ensures { result ≡ spec.is_at own place }
-{
-    match own {
-        None => false,
-        Some(own) => own == place,
-    }
-}
-
-fn meaning(objects: &Objects, scope: &Names, name: &str) -> Option<Meaning>
+fn meaning(objects: &Names, scope: &Names, name: &str) -> Option<Meaning>
     ensures { result ≡ spec.meaning objects.now scope.now name.now }
 {
     match scope.place(name) {
         Some(place) => Some(Meaning::Index(place)),
-        None => match objects.names.place(name) {
+        None => match objects.place(name) {
             Some(place) => Some(Meaning::Object(place)),
             None => None,
         },
     }
 }
 
-fn usable(objects: &Objects, meaning: Meaning) -> Result<Meaning, NamesError>
-    ensures { Gives (spec.usable objects.now meaning) result }
-{
-    match meaning {
-        Meaning::Index(place) => Ok(Meaning::Index(place)),
-        Meaning::Object(place) => {
-            if is_at(objects.own, place) {
-                Err(NamesError::Fault(SyntaxFaultKind::Unsupported))
-            } else {
-                Ok(Meaning::Object(place))
-            }
-        }
-    }
-}
-
 /// What a name means that is no component of an index.
-pub fn resolve_name(objects: &Objects, scope: &Names, name: &str) -> Result<Meaning, NamesError>
+pub fn resolve_name(objects: &Names, scope: &Names, name: &str) -> Result<Meaning, NamesError>
     ensures { Gives (spec.used objects.now scope.now name.now) result }
 {
     match meaning(objects, scope, name) {
         None => Err(NamesError::Fault(SyntaxFaultKind::Undeclared)),
-        Some(meaning) => usable(objects, meaning),
+        Some(meaning) => Ok(meaning),
     }
 }
 
@@ -83,7 +51,7 @@ fn supports_suffix(suffix: Option<Suffix>) -> bool
 
 /// A name with its subscripts and its suffix.
 pub(crate) fn named(
-    objects: &Objects,
+    objects: &Names,
     scope: &Names,
     name: &Text,
     subscripts: Items<Expr>,
@@ -112,7 +80,7 @@ fn new_index(alloc: Global, found: &mut Names, name: &str) -> Result<Component, 
 /// A name alone as a component of an index, behind the new indices of its entry.
 pub(crate) fn lone(
     alloc: Global,
-    objects: &Objects,
+    objects: &Names,
     scope: &Names,
     found: &mut Names,
     name: &Text,
@@ -121,10 +89,6 @@ pub(crate) fn lone(
 {
     match meaning(objects, scope, name.as_str()) {
         None => new_index(alloc, found, name.as_str()),
-        Some(meaning) => Ok(Component::Value(Expr::Named(
-            usable(objects, meaning)?,
-            Items::new(alloc),
-            None,
-        ))),
+        Some(meaning) => Ok(Component::Value(Expr::Named(meaning, Items::new(alloc), None))),
     }
 }

@@ -22,7 +22,7 @@ use Rattle.gmpl_words.specs.Operators.{operator, relation, denied_relation}
 use Rattle.gmpl_words.specs.Functions.{iteration_word, function_word, suffix_word, fewest_more, most_more}
 use Rattle.gmpl_expressions.specs.Literals.{numbered, number, string_text, string}
 use Rattle.gmpl_expressions.specs.Trees.{is_index}
-use Rattle.gmpl_expressions.specs.Grammar.{Inside, closed, enclosed_in, inside, expression, indexing_expression, links_from, chain, suffix_by, suffix, reference, named_before, named, primary_by, primary, power, signed_by, signed, product, sum, join, range, cross, inter, union, compared, not_related, related_by, related, negation_by, negation, conjunction, logical, group, subscripts, some_arguments, arguments, entry_over, entry_by, entry, condition, indexing, braces, integrand, iterated, conditional, with_sign, negated}
+use Rattle.gmpl_expressions.specs.Grammar.{Inside, closed, enclosed_in, inside, expression, logical_expression, indexing_expression, links_from, chain, suffix_by, suffix, reference, named_before, named, primary_by, primary, power, signed_by, signed, product, sum, join, range, cross, inter, union, compared, not_related, related_by, related, negation_by, negation, conjunction, logical, group, subscripts, some_arguments, arguments, entry_over, entry_by, entry, condition, indexing, braces, integrand, iterated, conditional, with_sign, negated}
 use Rattle.gmpl_object_names.proofs.KeptTokens.{Kept, Keeps, then_left, made_left, next_kept, after_kept, either_rule, given_left, expect_keeps, optional_keeps, further_from_keeps, further_keeps}
 
 -- ---- literals
@@ -309,6 +309,10 @@ inside_keeps (suc depth) = enclosed_keeps (inside depth) (inside_keeps depth)
 pub expression_keeps : (depth : ℕ) → Keeps (expression depth)
 unfolding expression
 expression_keeps depth = union_keeps (inside depth) (inside_keeps depth)
+
+pub logical_expression_keeps : (depth : ℕ) → Keeps (logical_expression depth)
+unfolding logical_expression
+logical_expression_keeps depth = logical_keeps (inside depth) (inside_keeps depth)
 
 pub indexing_expression_keeps : (depth : ℕ) → Keeps (indexing_expression depth)
 unfolding indexing_expression

@@ -13,6 +13,7 @@ use Rattle.gmpl_syntax.specs.declared.statement.Constraint.{Constraint}
 use Rattle.gmpl_syntax.specs.declared.statement.Objective.{Objective}
 use Rattle.gmpl_syntax.specs.declared.statement.Direction.{Direction}
 use Rattle.gmpl_syntax.specs.declared.statement.Direction.TheVariants as direction
+use Rattle.gmpl_syntax.specs.declared.statement.Action.{Action}
 use Rattle.gmpl_syntax.specs.declared.statement.Statement.{Statement}
 use Rattle.gmpl_syntax.specs.declared.statement.Statement.TheVariants as s
 use Rattle.gmpl_syntax.specs.declared.statement.Numbered.{Numbered}
@@ -40,6 +41,7 @@ use Rattle.gmpl_rows.specs.Premises.{IsName}
 use Rattle.gmpl_object_names.proofs.NamedTokens.{HasText, AreNamed}
 use Rattle.gmpl_object_names.proofs.KeptTokens.{Kept, Left, Keeps, then_left, made_left, next_kept, after_kept, either_rule, either_left, given_left, expect_keeps, optional_keeps}
 use Rattle.gmpl_object_names.proofs.ExpressionTokens.{number_keeps, expression_keeps, indexing_expression_keeps}
+use Rattle.gmpl_object_names.proofs.ActionTokens.{IsAction, action_is_action}
 use Rattle.gmpl_object_names.proofs.Heads.{HeadThen, HeadsThen, heads_then, heads_more}
 
 -- ---- a value of which something holds, with names behind it that are names
@@ -199,7 +201,7 @@ objective_gives depth which i h =
 
 -- ---- a statement
 
--- its name, and names behind it that are names, where it declares an object
+-- its name, where it declares an object, and names behind it that are names
 abbrev IsRead : Outcome Statement → Type 0
 IsRead outcome = IfOk outcome (λ r. HeadThen IsName r.0 (Kept r.1))
 
@@ -224,12 +226,20 @@ table_is_read : (depth : ℕ) (solved : Bool) (i : Input) → IsRead (table dept
 unfolding table
 table_is_read depth solved i = then_any (titled_name i) _ (λ said j. table_by_is_read depth solved said (kind j) j)
 
-solve_is_read : (i : Input) → IsRead (solve i)
-unfolding solve
-solve_is_read i = then_any (expect k.Semicolon i) _ (λ _ _. tt)
+solve_told : (outcome : Outcome (Unit {0})) → Left outcome → IsRead (and_then outcome (λ _. pure s.Solve))
+solve_told (Ok r) h = h
+solve_told (Err fault) h = tt
 
-action_is_read : (depth : ℕ) (i : Input) → IsRead (and_then (action depth i) (λ a. pure (s.Action a)))
-action_is_read depth i = then_any (action depth i) _ (λ _ _. tt)
+solve_is_read : (i : Input) → Kept i → IsRead (solve i)
+unfolding solve
+solve_is_read i h = solve_told (expect k.Semicolon i) (expect_keeps k.Semicolon i h)
+
+action_told : (outcome : Outcome Action) → IsAction outcome → IsRead (and_then outcome (λ a. pure (s.Action a)))
+action_told (Ok r) h = h
+action_told (Err fault) h = tt
+
+action_is_read : (depth : ℕ) (i : Input) → Kept i → IsRead (and_then (action depth i) (λ a. pure (s.Action a)))
+action_is_read depth i h = action_told (action depth i) (action_is_action depth i h)
 
 set_is_read : (depth : ℕ) (i : Input) → Kept i → IsRead (and_then (declaration depth declared.Set (next i)) (λ d. pure (s.Set d)))
 set_is_read depth i h = told_as DeclarationIsNamed s.Set (declaration depth declared.Set (next i)) (declaration_gives depth declared.Set (next i) (next_kept i h)) (λ _ _ is kept. (is, kept))
@@ -256,12 +266,12 @@ statement_by_is_read depth false b.Subject i h = constraint_is_read (subject dep
 statement_by_is_read depth false b.Name i h = constraint_is_read (constraint depth i) (constraint_gives depth i h)
 statement_by_is_read depth false b.Minimize i h = objective_is_read (objective depth direction.Minimize (next i)) (objective_gives depth direction.Minimize (next i) (next_kept i h))
 statement_by_is_read depth false b.Maximize i h = objective_is_read (objective depth direction.Maximize (next i)) (objective_gives depth direction.Maximize (next i) (next_kept i h))
-statement_by_is_read depth false b.Solve i h = solve_is_read (next i)
+statement_by_is_read depth false b.Solve i h = solve_is_read (next i) (next_kept i h)
 statement_by_is_read depth solved b.Table i h = table_is_read depth solved (next i)
-statement_by_is_read depth solved b.Check i h = action_is_read depth i
-statement_by_is_read depth solved b.Display i h = action_is_read depth i
-statement_by_is_read depth solved b.Printf i h = action_is_read depth i
-statement_by_is_read depth solved b.For i h = action_is_read depth i
+statement_by_is_read depth solved b.Check i h = action_is_read depth i h
+statement_by_is_read depth solved b.Display i h = action_is_read depth i h
+statement_by_is_read depth solved b.Printf i h = action_is_read depth i h
+statement_by_is_read depth solved b.For i h = action_is_read depth i h
 statement_by_is_read depth false b.Nothing i h = tt
 statement_by_is_read depth true beginning i h = tt
 

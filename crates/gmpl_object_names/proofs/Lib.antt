@@ -3,6 +3,7 @@ mod NamedTokens
 mod LexedNames
 mod KeptTokens
 mod ExpressionTokens
+mod ActionTokens
 mod HeadNames
 mod ResolvedNames
 mod ObjectNames

@@ -11,7 +11,9 @@ use Rattle.gmpl_syntax.specs.declared.statement.Numbered.{Numbered}
 use Rattle.gmpl_syntax.specs.declared.statement.Statements.{Statements}
 use Rattle.gmpl_statements.specs.Statements.{statements_of}
 use Rattle.gmpl_resolved.specs.declared.statement.Statement.{Statement as ResolvedStatement}
-use Rattle.gmpl_names.specs.declared.meanings.Objects.{Objects}
+use Rattle.gmpl_names.specs.Names.{Name}
+use Rattle.gmpl_statement_names.specs.declared.resolved.Resolved.{Resolved}
+use Rattle.gmpl_statement_names.specs.declared.resolved.Resolved.TheVariants as made
 use Rattle.gmpl_statement_names.specs.Statements.{statement, statements}
 use Rattle.gmpl_statement_kinds.specs.StatementKinds.{judgement}
 use Rattle.gmpl_parse.specs.declared.model.Model.{Model}
@@ -19,7 +21,7 @@ use Rattle.gmpl_parse.specs.Models.{unless_bad, model_of, parsed}
 use Rattle.gmpl_rows.specs.declared.declared.Declared.{Declared}
 use Rattle.gmpl_rows.specs.Premises.{AreDifferent, AreObjects, IsName, declared_name}
 use Rattle.gmpl_object_names.specs.Names.{head_of, names_of}
-use Rattle.gmpl_object_names.proofs.Heads.{HeadThen, HeadsThen}
+use Rattle.gmpl_object_names.proofs.Heads.{HeadThen, HeadsThen, check_then_any}
 use Rattle.gmpl_object_names.proofs.LexedNames.{lexed_named}
 use Rattle.gmpl_object_names.proofs.HeadNames.{statements_named}
 use Rattle.gmpl_object_names.proofs.ResolvedNames.{HaveNames, Declares, statement_declares, resolved_named}
@@ -31,7 +33,7 @@ given_where P (Some fault) made model h is = subst (λ (outcome : Result Model S
 
 model_names : (P : List ℕ → Type 0) (found : Statements) (model : Model) → HeadsThen P found.items (Unit {0}) → model_of found ≡ Ok model → HaveNames P model.statements
 model_names P found model heads is =
-    given_where P (judgement (statements found)).fault (record { statements = (statements found).items; objects = (judgement (statements found)).objects }) model (resolved_named P found.items found.fault heads) is
+    given_where P (judgement (statements found)).fault (record { statements = (statements found).items; checks = (statements found).checks; objects = (judgement (statements found)).objects; data_at = found.data_at }) model (resolved_named P found.items found.fault heads) is
 
 -- ---- letters, digits and underscores
 
@@ -49,6 +51,9 @@ any_head (s.Param declaration) behind h = (tt, h)
 any_head (s.Var declaration) behind h = (tt, h)
 any_head (s.Constraint constraint) behind h = (tt, h)
 any_head (s.Objective objective) behind h = (tt, h)
+any_head (s.Action action) behind h = check_then_any action behind h
+any_head s.Solve behind h = h
+any_head s.Data behind h = h
 any_head _ behind h = tt
 
 any_heads : (xs : List Numbered) → HeadsThen IsAny xs (Unit {0})
@@ -56,8 +61,8 @@ any_heads [] = tt
 any_heads (x ∷ xs) = any_head x.statement (HeadsThen IsAny xs (Unit {0})) (any_heads xs)
 
 -- the object of a statement comes last
-pub comes_last : (x : Statement) (objects : Objects) (made : ResolvedStatement × Objects) → statement x objects ≡ Ok made → made.1.names ≡ objects.names ++ (head_of made.0).name ∷ []
-comes_last x objects made is = (IfOk-at_ok (Declares IsAny (Unit {0}) objects) is (statement_declares IsAny (Unit {0}) objects x (any_head x (Unit {0}) tt))).names
+pub comes_last : (x : Statement) (objects : List Name) (declared : ResolvedStatement) (after : List Name) → statement x objects ≡ Ok (made.Declaration declared, after) → after ≡ objects ++ (head_of declared).name ∷ []
+comes_last x objects declared after is = (IfOk-at_ok (Declares IsAny (Unit {0}) objects) is (statement_declares IsAny (Unit {0}) objects x (any_head x (Unit {0}) tt))).names
 
 pub differ : (tokens : Tokens) (model : Model) → parsed tokens ≡ Ok model → AreDifferent (names_of model.statements)
 differ tokens model is = (model_names IsAny (statements_of tokens) model (any_heads (statements_of tokens).items) is).differ

@@ -1,15 +1,18 @@
 -- The second pass keeps the names of heads, and of a name that is there already it makes a fault.
-use Rattle.std.proofs.Common.{◌≡◌, ◌∙◌, ℕ, Bool, true, false, true≢false, ◌||◌, if◌then◌else◌, List, [], ◌∷◌, ◌++◌, length, Option, Some, None, Ok, Err, IfOk, refl, ap, sym, subst}
+use Rattle.std.proofs.Common.{◌≡◌, ◌∙◌, ℕ, ◌+◌, Bool, true, false, true≢false, ◌||◌, ◌&&◌, if◌then◌else◌, List, [], ◌∷◌, ◌++◌, Option, Ok, Err, IfOk, refl, ap, sym, subst}
 use Rattle.std.specs.List.{AllByRecursion}
 use Rattle.std.specs.Str.{bytes_eq}
 use Rattle.std.proofs.lemmas.List.{map-append}
 use Rattle.std.proofs.lemmas.Slice.Eq.{bytes_eq-Decides}
 use Rattle.gmpl_syntax.specs.declared.fault.SyntaxFault.{SyntaxFault}
-use Rattle.gmpl_syntax.specs.declared.fault.SyntaxFaultKind.TheVariants.{Declared as DeclaredAgain}
+use Rattle.gmpl_syntax.specs.declared.fault.SyntaxFaultKind.TheVariants.{Declared as DeclaredAgain, Unsupported}
 use Rattle.gmpl_syntax.specs.declared.statement.Head.{Head}
 use Rattle.gmpl_syntax.specs.declared.statement.Declaration.{Declaration}
 use Rattle.gmpl_syntax.specs.declared.statement.Constraint.{Constraint}
 use Rattle.gmpl_syntax.specs.declared.statement.Objective.{Objective}
+use Rattle.gmpl_syntax.specs.declared.expression.Expr.{Expr}
+use Rattle.gmpl_syntax.specs.declared.expression.Indexing.{Indexing}
+use Rattle.gmpl_syntax.specs.declared.statement.Action.TheVariants as act
 use Rattle.gmpl_syntax.specs.declared.statement.Statement.{Statement}
 use Rattle.gmpl_syntax.specs.declared.statement.Statement.TheVariants as s
 use Rattle.gmpl_syntax.specs.declared.statement.Numbered.{Numbered}
@@ -17,12 +20,13 @@ use Rattle.gmpl_resolved.specs.declared.statement.Statement.{Statement as Resolv
 use Rattle.gmpl_resolved.specs.declared.statement.Statement.TheVariants as rs
 use Rattle.gmpl_resolved.specs.declared.statement.Numbered.{Numbered as ResolvedNumbered}
 use Rattle.gmpl_resolved.specs.declared.statement.Statements.{Statements as ResolvedStatements}
-use Rattle.gmpl_names.specs.declared.meanings.Objects.{Objects}
 use Rattle.gmpl_names.specs.Names.{Name, has}
-use Rattle.gmpl_names.specs.Expressions.{Outcome, Pass, and_then, expr}
+use Rattle.gmpl_names.specs.Expressions.{Outcome, Pass, and_then, beside, expr}
 use Rattle.gmpl_statement_names.specs.declared.sort.Sort.{Sort}
 use Rattle.gmpl_statement_names.specs.declared.sort.Sort.TheVariants as sort
-use Rattle.gmpl_statement_names.specs.Statements.{Judged, optional_indexing, optional_side, head, attributes, declaration, constraint, objective, alone, declaring, declaring_by, refused, told_as, statement, with_statement, statements_from}
+use Rattle.gmpl_statement_names.specs.declared.resolved.Resolved.{Resolved}
+use Rattle.gmpl_statement_names.specs.declared.resolved.Resolved.TheVariants as made
+use Rattle.gmpl_statement_names.specs.Statements.{Judged, optional_indexing, optional_side, head, attributes, declaration, constraint, objective, check, alone, declaring, declaring_by, refused, told_as, statement, makes_something, behind_solve, statement_behind, is_solve, none, with_statement, behind, statements_from}
 use Rattle.gmpl_rows.specs.Premises.{AreDifferent}
 use Rattle.gmpl_object_names.specs.Names.{head_of, object_name, names_of}
 use Rattle.gmpl_object_names.proofs.Heads.{HeadThen, HeadsThen}
@@ -39,63 +43,99 @@ then_of P (Err fault) go Q p h = tt
 
 -- ---- the name of the head stays
 
-head_kept : (os : Objects) (h : Head) (scope : List Name) → IfOk (head os h scope) (λ r. r.0.name ≡ h.name)
+head_kept : (os : List Name) (h : Head) (scope : List Name) → IfOk (head os h scope) (λ r. r.0.name ≡ h.name)
 head_kept os h scope = then_any (optional_indexing os h.domain scope) _ _ (λ domain after. refl)
 
-declaration_kept : (os : Objects) (which : Sort) (d : Declaration) (scope : List Name) → IfOk (declaration os which d scope) (λ r. r.0.head.name ≡ d.head.name)
+declaration_kept : (os : List Name) (which : Sort) (d : Declaration) (scope : List Name) → IfOk (declaration os which d scope) (λ r. r.0.head.name ≡ d.head.name)
 declaration_kept os which d scope =
     then_of (λ made. made.name ≡ d.head.name) (head os d.head scope) _ _ (head_kept os d.head scope)
     (λ made after same. then_any (attributes os which d.attributes after) _ _ (λ _ _. same))
 
-constraint_kept : (os : Objects) (x : Constraint) (scope : List Name) → IfOk (constraint os x scope) (λ r. r.0.head.name ≡ x.head.name)
+constraint_kept : (os : List Name) (x : Constraint) (scope : List Name) → IfOk (constraint os x scope) (λ r. r.0.head.name ≡ x.head.name)
 constraint_kept os x scope =
     then_of (λ made. made.name ≡ x.head.name) (head os x.head scope) _ _ (head_kept os x.head scope)
     (λ made after same. then_any (expr os x.left after) _ _ (λ _ left. then_any (expr os x.right left) _ _ (λ _ right. then_any (optional_side os x.last right) _ _ (λ _ _. same))))
 
-objective_kept : (os : Objects) (x : Objective) (scope : List Name) → IfOk (objective os x scope) (λ r. r.0.head.name ≡ x.head.name)
+objective_kept : (os : List Name) (x : Objective) (scope : List Name) → IfOk (objective os x scope) (λ r. r.0.head.name ≡ x.head.name)
 objective_kept os x scope =
     then_of (λ made. made.name ≡ x.head.name) (head os x.head scope) _ _ (head_kept os x.head scope)
     (λ made after same. then_any (expr os x.form after) _ _ (λ _ _. same))
 
--- ---- a statement declares a new name, which is the last one from then on
+-- ---- what a statement declares is a new name, which is the last one from then on
 
-pub record Declares (P : List ℕ → Type 0) (behind : Type 0) (objects : Objects) (r : ResolvedStatement × Objects) : Type 0 where
-  pub new : has (head_of r.0).name objects.names ≡ false
-  pub names : r.1.names ≡ objects.names ++ (head_of r.0).name ∷ []
-  pub named : P (head_of r.0).name
-  pub left : behind
+pub record DeclaresNew (P : List ℕ → Type 0) (rest : Type 0) (objects : List Name) (x : ResolvedStatement) (after : List Name) : Type 0 where
+  pub new : has (head_of x).name objects ≡ false
+  pub names : after ≡ objects ++ (head_of x).name ∷ []
+  pub named : P (head_of x).name
+  pub left : rest
 
-module _ (P : List ℕ → Type 0) (behind : Type 0) (objects : Objects) where
-  told_alone : {A : Type 0} (make : A → ResolvedStatement) (name : Name) (os : Objects) (outcome : Outcome A) → has name objects.names ≡ false → os.names ≡ objects.names ++ name ∷ [] → P name × behind
-      → IfOk outcome (λ r. (head_of (make r.0)).name ≡ name) → IfOk (told_as make (alone os outcome)) (Declares P behind objects)
+-- a check declares none, and neither do `solve` and `data`
+pub record DeclaresNone (rest : Type 0) (objects : List Name) (after : List Name) : Type 0 where
+  pub names : after ≡ objects
+  pub left : rest
+
+module _ (P : List ℕ → Type 0) (rest : Type 0) (objects : List Name) where
+  abbrev pub DeclaresBy : Resolved → List Name → Type 0
+  DeclaresBy (made.Declaration x) after = DeclaresNew P rest objects x after
+  DeclaresBy (made.Check domain condition) after = DeclaresNone rest objects after
+  DeclaresBy made.Nothing after = DeclaresNone rest objects after
+
+  abbrev pub Declares : Resolved × List Name → Type 0
+  Declares r = DeclaresBy r.0 r.1
+
+  told_alone : {A : Type 0} (make : A → ResolvedStatement) (name : Name) (os : List Name) (outcome : Outcome A) → has name objects ≡ false → os ≡ objects ++ name ∷ [] → P name × rest
+      → IfOk outcome (λ r. (head_of (make r.0)).name ≡ name) → IfOk (told_as make (alone os outcome)) Declares
   told_alone make name os (Ok r) new names h same =
       record { new = rw same new; names = rw same names; named = subst P (sym same) h.0; left = h.1 }
   told_alone make name os (Err fault) new names h same = tt
 
-  told_where : {A : Type 0} (make : A → ResolvedStatement) (name : Name) (pass : Objects → Pass A) (b : Bool) → has name objects.names ≡ b → P name × behind
-      → ((os : Objects) → IfOk (pass os []) (λ r. (head_of (make r.0)).name ≡ name))
-      → IfOk (told_as make (declaring_by pass (if b then Err DeclaredAgain else Ok (record { names = if b then objects.names else objects.names ++ name ∷ []; own = Some (length objects.names) })))) (Declares P behind objects)
+  told_where : {A : Type 0} (make : A → ResolvedStatement) (name : Name) (pass : List Name → Pass A) (b : Bool) → has name objects ≡ b → P name × rest
+      → ((os : List Name) → IfOk (pass os []) (λ r. (head_of (make r.0)).name ≡ name))
+      → IfOk (told_as make (declaring_by pass (if b then Err DeclaredAgain else Ok (if b then objects else objects ++ name ∷ [])))) Declares
   told_where make name pass true is h same = tt
   told_where make name pass false is h same = told_alone make name _ (pass _ []) is refl h (same _)
 
-  told : {A : Type 0} (make : A → ResolvedStatement) (name : Name) (pass : Objects → Pass A) → P name × behind → ((os : Objects) → IfOk (pass os []) (λ r. (head_of (make r.0)).name ≡ name))
-      → IfOk (told_as make (declaring name pass objects)) (Declares P behind objects)
-  told make name pass h same = told_where make name pass (has name objects.names) refl h same
+  told : {A : Type 0} (make : A → ResolvedStatement) (name : Name) (pass : List Name → Pass A) → P name × rest → ((os : List Name) → IfOk (pass os []) (λ r. (head_of (make r.0)).name ≡ name))
+      → IfOk (told_as make (declaring name pass objects)) Declares
+  told make name pass h same = told_where make name pass (has name objects) refl h same
 
-  refused_all : {A : Type 0} (outcome : Outcome A) → IfOk (refused outcome) (Declares P behind objects)
+  refused_all : {A : Type 0} (outcome : Outcome A) → IfOk (refused outcome) Declares
   refused_all (Ok r) = tt
   refused_all (Err fault) = tt
 
-  pub statement_declares : (x : Statement) → HeadThen P x behind → IfOk (statement x objects) (Declares P behind objects)
+  -- ---- a check
+
+  check_declares : (domain : Option Indexing) (condition : Expr) → rest → IfOk (check objects domain condition []) (λ r. DeclaresBy r.0 objects)
+  check_declares domain condition h =
+      then_any (optional_indexing objects domain []) _ _
+      (λ _ after. then_any (expr objects condition after) _ _ (λ _ _. record { names = refl; left = h }))
+
+  check_alone : (outcome : Outcome Resolved) → IfOk outcome (λ r. DeclaresBy r.0 objects) → IfOk (alone objects outcome) Declares
+  check_alone (Ok r) h = h
+  check_alone (Err fault) h = tt
+
+  pub statement_declares : (x : Statement) → HeadThen P x rest → IfOk (statement x objects) Declares
   statement_declares (s.Set d) h = told rs.Set d.head.name (λ os. declaration os sort.Set d) h (λ os. declaration_kept os sort.Set d [])
   statement_declares (s.Param d) h = told rs.Param d.head.name (λ os. declaration os sort.Param d) h (λ os. declaration_kept os sort.Param d [])
   statement_declares (s.Var d) h = told rs.Var d.head.name (λ os. declaration os sort.Var d) h (λ os. declaration_kept os sort.Var d [])
   statement_declares (s.Constraint x) h = told rs.Constraint x.head.name (λ os. constraint os x) h (λ os. constraint_kept os x [])
   statement_declares (s.Objective x) h = told rs.Objective x.head.name (λ os. objective os x) h (λ os. objective_kept os x [])
   statement_declares (s.TableInput t) h = refused_all _
-  statement_declares s.Solve h = tt
-  statement_declares (s.Action x) h = refused_all _
-  statement_declares s.Data h = tt
+  statement_declares s.Solve h = record { names = refl; left = h }
+  statement_declares (s.Action (act.Check domain condition)) h = check_alone (check objects domain condition []) (check_declares domain condition h)
+  statement_declares (s.Action (act.Display domain items)) h = refused_all _
+  statement_declares (s.Action (act.Printf domain arguments file)) h = refused_all _
+  statement_declares (s.Action (act.TableOutput table)) h = refused_all _
+  statement_declares (s.Action _) h = refused_all _
+  statement_declares s.Data h = record { names = refl; left = h }
+
+  unless_declares : (refused : Bool) (r : Resolved × List Name) → Declares r → IfOk (beside (if refused then Err Unsupported else Ok r.0) r.1) Declares
+  unless_declares true r h = tt
+  unless_declares false r h = h
+
+  behind_solve_declares : (solved : Bool) (outcome : Judged Resolved) → IfOk outcome Declares → IfOk (behind_solve solved outcome) Declares
+  behind_solve_declares solved (Ok r) h = unless_declares (solved && makes_something r.0) r h
+  behind_solve_declares solved (Err fault) h = tt
 
 -- ---- one more name that is new
 
@@ -124,28 +164,46 @@ pub record HaveNames (P : List ℕ → Type 0) (made : List ResolvedNumbered) : 
   pub differ : AreDifferent (names_of made)
 
 module _ (P : List ℕ → Type 0) where
-  one_more : (made : List ResolvedNumbered) (objects : Objects) (line : ℕ) (behind : Type 0) (found : Judged ResolvedStatement) (go : List ResolvedNumbered → Objects → ResolvedStatements)
-      → names_of made ≡ objects.names → HaveNames P made → IfOk found (Declares P behind objects)
-      → ((more : List ResolvedNumbered) (os : Objects) → names_of more ≡ os.names → HaveNames P more → behind → HaveNames P (go more os).items)
-      → HaveNames P (with_statement made line found go).items
-  one_more made objects line behind (Ok r) go same all declares then_all =
-      let x : ResolvedNumbered = record { line = line; statement = r.0 } in
-      let more : names_of (made ++ x ∷ []) ≡ names_of made ++ object_name x ∷ [] = map-append object_name made (x ∷ []) in
-      let new : has (object_name x) (names_of made) ≡ false = rw same declares.new in
-      then_all (made ++ x ∷ []) r.1 (more ∙ ap (λ names. names ++ object_name x ∷ []) same ∙ sym declares.names)
-      (record {
-        names = subst (AllByRecursion P) (sym more) (all_more P (names_of made) (object_name x) all.names declares.named);
-        differ = subst AreDifferent (sym more) (different_more (names_of made) (object_name x) new all.differ);
-      })
-      declares.left
-  one_more made objects line behind (Err kind) go same all declares then_all = all
+  -- what is said of the statements, where it is said of those up to here
+  abbrev Goes : Type 0 → (ResolvedStatements → List Name → ResolvedStatements) → Type 0
+  Goes rest go = (more : ResolvedStatements) (os : List Name) → names_of more.items ≡ os → HaveNames P more.items → rest → HaveNames P (go more os).items
 
-  all_named : (made : List ResolvedNumbered) (objects : Objects) (xs : List Numbered) (fault : Option SyntaxFault) → names_of made ≡ objects.names → HaveNames P made → HeadsThen P xs (Unit {0})
-      → HaveNames P (statements_from made objects xs fault).items
-  all_named made objects [] fault same all heads = all
-  all_named made objects (x ∷ xs) fault same all heads =
-      one_more made objects x.line (HeadsThen P xs (Unit {0})) (statement x.statement objects) (λ more os. statements_from more os xs fault) same all (statement_declares P (HeadsThen P xs (Unit {0})) objects x.statement heads)
-      (λ more os same_names named left. all_named more os xs fault same_names named left)
+  one_declaration : (found : ResolvedStatements) (objects : List Name) (x : ResolvedNumbered) (after : List Name) (rest : Type 0)
+      → names_of found.items ≡ objects → HaveNames P found.items → DeclaresNew P rest objects x.statement after
+      → (names_of (found.items ++ x ∷ []) ≡ after) × HaveNames P (found.items ++ x ∷ [])
+  one_declaration found objects x after rest same named declares =
+      let more : names_of (found.items ++ x ∷ []) ≡ names_of found.items ++ object_name x ∷ [] = map-append object_name found.items (x ∷ []) in
+      let new : has (object_name x) (names_of found.items) ≡ false = rw same declares.new in (
+        more ∙ ap (λ names. names ++ object_name x ∷ []) same ∙ sym declares.names,
+        record {
+          names = subst (AllByRecursion P) (sym more) (all_more P (names_of found.items) (object_name x) named.names declares.named);
+          differ = subst AreDifferent (sym more) (different_more (names_of found.items) (object_name x) new named.differ);
+        },
+      )
 
-  pub resolved_named : (xs : List Numbered) (fault : Option SyntaxFault) → HeadsThen P xs (Unit {0}) → HaveNames P (statements_from [] (record { names = []; own = None }) xs fault).items
-  resolved_named xs fault heads = all_named [] (record { names = []; own = None }) xs fault refl (record { names = tt; differ = tt }) heads
+  one_statement : (found : ResolvedStatements) (objects : List Name) (number line : ℕ) (rest : Type 0) (x : Resolved) (after : List Name) (go : ResolvedStatements → List Name → ResolvedStatements)
+      → names_of found.items ≡ objects → HaveNames P found.items → DeclaresBy P rest objects x after → Goes rest go
+      → HaveNames P (go (with_statement found number line x) after).items
+  one_statement found objects number line rest (made.Declaration x) after go same named declares then_all =
+      let more = one_declaration found objects (record { checks = found.checks; number = number; line = line; statement = x }) after rest same named declares in
+      then_all (with_statement found number line (made.Declaration x)) after more.0 more.1 declares.left
+  one_statement found objects number line rest (made.Check domain condition) after go same named declares then_all =
+      then_all (with_statement found number line (made.Check domain condition)) after (same ∙ sym declares.names) named declares.left
+  one_statement found objects number line rest made.Nothing after go same named declares then_all = then_all found after (same ∙ sym declares.names) named declares.left
+
+  one_more : (found : ResolvedStatements) (objects : List Name) (number line : ℕ) (rest : Type 0) (judged : Judged Resolved) (go : ResolvedStatements → List Name → ResolvedStatements)
+      → names_of found.items ≡ objects → HaveNames P found.items → IfOk judged (Declares P rest objects) → Goes rest go
+      → HaveNames P (behind found number line judged go).items
+  one_more found objects number line rest (Ok r) go same named declares then_all = one_statement found objects number line rest r.0 r.1 go same named declares then_all
+  one_more found objects number line rest (Err kind) go same named declares then_all = named
+
+  all_named : (found : ResolvedStatements) (count : ℕ) (solved : Bool) (objects : List Name) (xs : List Numbered) (fault : Option SyntaxFault) → names_of found.items ≡ objects → HaveNames P found.items → HeadsThen P xs (Unit {0})
+      → HaveNames P (statements_from found count solved objects xs fault).items
+  all_named found count solved objects [] fault same named heads = named
+  all_named found count solved objects (x ∷ xs) fault same named heads =
+      one_more found objects (count + 1) x.line (HeadsThen P xs (Unit {0})) (statement_behind solved x.statement objects) (λ more os. statements_from more (count + 1) (solved || is_solve x.statement) os xs fault) same named
+      (behind_solve_declares P (HeadsThen P xs (Unit {0})) objects solved (statement x.statement objects) (statement_declares P (HeadsThen P xs (Unit {0})) objects x.statement heads))
+      (λ more os same_names now left. all_named more (count + 1) (solved || is_solve x.statement) os xs fault same_names now left)
+
+  pub resolved_named : (xs : List Numbered) (fault : Option SyntaxFault) → HeadsThen P xs (Unit {0}) → HaveNames P (statements_from none 0 false [] xs fault).items
+  resolved_named xs fault heads = all_named none 0 false [] xs fault refl (record { names = tt; differ = tt }) heads

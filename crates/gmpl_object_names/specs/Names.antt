@@ -1,4 +1,4 @@
--- The names of what the statements of a model declare, one object each.
+-- The names of what the declarations of a model declare, one object each.
 use Rattle.std.specs.Prelude.{ℕ, List, map}
 use Rattle.gmpl_resolved.specs.declared.statement.Head.{Head}
 use Rattle.gmpl_resolved.specs.declared.statement.Statement.{Statement}

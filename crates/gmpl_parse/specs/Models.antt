@@ -1,11 +1,11 @@
 -- The model that statements make, or the first fault. Each pass goes over the statements before the first bad one of the pass
 -- before it, so the first bad statement is the third pass's where that has one, else the second's, else the first's.
-use Rattle.std.specs.Prelude.{◌≡◌, [], Option, Some, None, Result, Ok, Err}
+use Rattle.std.specs.Prelude.{◌≡◌, false, [], Option, Some, None, Result, Ok, Err}
 use Rattle.gmpl_syntax.specs.declared.fault.SyntaxFault.{SyntaxFault}
 use Rattle.gmpl_token.specs.Token.{Tokens}
 use Rattle.gmpl_syntax.specs.declared.statement.Statements.{Statements}
 use Rattle.gmpl_statements.specs.Statements.{statements_of}
-use Rattle.gmpl_statement_names.specs.Statements.{statements, statements_from}
+use Rattle.gmpl_statement_names.specs.Statements.{none, statements, statements_from}
 use Rattle.gmpl_statement_kinds.specs.StatementKinds.{judgement, judged_from}
 use Rattle.gmpl_parse.specs.declared.model.Model.{Model}
 use Rattle.gmpl_parse.specs.declared.model.ParseError.{ParseError}
@@ -17,7 +17,7 @@ unless_bad (Some fault) model = Err fault
 
 -- the statements that the first pass found, judged by the two passes behind it
 abbrev pub model_of : Statements → Result Model SyntaxFault
-model_of found = unless_bad (judgement (statements found)).fault (record { statements = (statements found).items; objects = (judgement (statements found)).objects })
+model_of found = unless_bad (judgement (statements found)).fault (record { statements = (statements found).items; checks = (statements found).checks; objects = (judgement (statements found)).objects; data_at = found.data_at })
 
 -- the model that the tokens of a text make, or its first fault
 abbrev pub parsed : Tokens → Result Model SyntaxFault
@@ -29,17 +29,13 @@ abbrev pub fault_of : Result Model SyntaxFault → Option SyntaxFault
 fault_of (Ok model) = None
 fault_of (Err fault) = Some fault
 
-abbrev pub or_else : Option SyntaxFault → Option SyntaxFault → Option SyntaxFault
-or_else (Some fault) other = Some fault
-or_else None other = other
-
 -- the fault that the second pass finds among the statements before the first bad one of the first pass
 abbrev pub own_of_names : Statements → Option SyntaxFault
-own_of_names found = (statements_from [] (record { names = []; own = None }) found.items None).fault
+own_of_names found = (statements_from none 0 false [] found.items None).fault
 
 -- the fault that the third pass finds among the statements before the first bad one of the second pass
 abbrev pub own_of_kinds : Statements → Option SyntaxFault
-own_of_kinds found = (judged_from [] (statements found).items None).fault
+own_of_kinds found = (judged_from [] (statements found).items (statements found).checks None).fault
 
 -- the code and the definition go the same way; want of memory is free
 abbrev pub IsOutcome : Result Model SyntaxFault → Result Model ParseError → Type 0

@@ -1,15 +1,21 @@
 // A model, and why there is none.
 use gmpl_kinds::Object;
-use gmpl_resolved::Numbered;
+use gmpl_resolved::{Check, Numbered};
 use gmpl_syntax::SyntaxFault;
 use sqlite_items::Items;
 use std::alloc::AllocError;
 
-/// The statements of a model in order, with their names resolved, and the objects that they declare, one each.
+/// A model, with its names resolved.
 #[derive(Drop)]
 pub struct Model {
+    /// The statements that declare in order, each behind its checks.
     pub statements: Items<Numbered>,
+    /// The checks behind the last of them.
+    pub checks: Items<Check>,
+    /// The objects that they declare, one each.
     pub objects: Items<Object>,
+    /// Where a data section stands behind the model: the place of the semicolon before it.
+    pub data_at: Option<usize>,
 }
 
 /// The first fault of a model, or want of memory.

@@ -19,7 +19,9 @@ pub fn model_of(alloc: Global, found: &Statements) -> Result<Model, ParseError>
         Some(fault) => Err(ParseError::Fault(fault)),
         None => Ok(Model {
             statements: resolved.items,
+            checks: resolved.checks,
             objects: judgement.objects,
+            data_at: found.data_at,
         }),
     }
 }

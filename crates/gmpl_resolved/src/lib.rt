@@ -11,5 +11,5 @@ mod statement;
 
 pub use expression::{Component, Entry, Expr, Indexing, Link, Meaning};
 pub use statement::{
-    Attribute, Constraint, Declaration, Head, Numbered, Objective, Statement, Statements,
+    Attribute, Check, Constraint, Declaration, Head, Numbered, Objective, Statement, Statements,
 };

@@ -58,8 +58,7 @@ pub struct Objective {
     pub form: Expr,
 }
 
-/// A statement of those that are supported so far. Each declares one object, so that the place of an object is that of its
-/// statement.
+/// A statement that declares an object.
 #[derive(Drop)]
 pub enum Statement {
     Set(Declaration),
@@ -69,17 +68,35 @@ pub enum Statement {
     Objective(Objective),
 }
 
-/// A statement with the line of its first token, counted from 1.
+/// A `check` statement: what has to hold at each element of its domain.
+#[derive(Drop)]
+pub struct Check {
+    /// Of the statement, counted from 1.
+    pub number: usize,
+    /// Of the statement's first token, counted from 1.
+    pub line: usize,
+    pub domain: Option<Indexing>,
+    pub condition: Expr,
+}
+
+/// A statement that declares an object, behind the checks that stand between it and the declaration before it. The place of an
+/// object is that of its statement among those that declare.
 #[derive(Drop)]
 pub struct Numbered {
+    pub checks: Items<Check>,
+    /// Of the statement, counted from 1.
+    pub number: usize,
+    /// Of the statement's first token, counted from 1.
     pub line: usize,
     pub statement: Statement,
 }
 
-/// The statements of a model in order, up to its end or to the first bad one. A statement's number is its place, counted from 1.
+/// The statements of a model in order, up to its end or to the first bad one.
 #[derive(Drop)]
 pub struct Statements {
     pub items: Items<Numbered>,
+    /// The checks behind the last declaration.
+    pub checks: Items<Check>,
     /// The first bad statement.
     pub fault: Option<SyntaxFault>,
 }

@@ -1,10 +1,12 @@
 // The parts of statements.
-ghost use Rattle.std.specs.Prelude.{◌≡◌, Ok, None};
+ghost use Rattle.std.specs.Prelude.{◌≡◌};
 ghost use Rattle.gmpl_statement_kinds.specs.StatementKinds as spec;
 
+use crate::sites::{beside, set_of};
 use fraction::Frac;
 use gmpl_kinds::{
-    Object, Shape, Site, as_scalar, as_set, indexing_dimension, same_dimension, shape_of,
+    Object, Shape, Site, as_logic, as_scalar, as_set, indexing_dimension, or_one, same_dimension,
+    shape_of,
 };
 use gmpl_resolved::{Attribute, Expr, Indexing};
 use gmpl_syntax::{Relation, SyntaxFaultKind};
@@ -25,6 +27,7 @@ pub(crate) fn subscripts(
     }
 }
 
+#[tactic(auto, unfolding(crate::specs::StatementKinds::scalar_at))]
 pub(crate) fn scalar_at(
     objects: &[Object],
     site: Site,
@@ -35,10 +38,22 @@ pub(crate) fn scalar_at(
     as_scalar(shape_of(objects, site, whole)?)
 }
 
-fn set_at(objects: &[Object], whole: &Expr) -> Result<Option<usize>, SyntaxFaultKind>
-    ensures { result ≡ spec.set_at objects.now whole.now }
+fn set_at(objects: &[Object], site: Site, whole: &Expr) -> Result<Option<usize>, SyntaxFaultKind>
+    ensures { result ≡ spec.set_at objects.now site whole.now }
 {
-    as_set(shape_of(objects, Site::Constant, whole)?)
+    as_set(shape_of(objects, site, whole)?)
+}
+
+/// What has to hold.
+#[tactic(auto, unfolding(crate::specs::StatementKinds::logic_at))]
+pub(crate) fn logic_at(
+    objects: &[Object],
+    site: Site,
+    whole: &Expr,
+) -> Result<Shape, SyntaxFaultKind>
+    ensures { result ≡ spec.logic_at objects.now site whole.now }
+{
+    as_logic(shape_of(objects, site, whole)?)
 }
 
 // ---- sets
@@ -55,13 +70,17 @@ fn whole_dimension(number: Frac) -> Result<Option<usize>, SyntaxFaultKind>
     }
 }
 
-fn told_by(objects: &[Object], attribute: &Attribute) -> Result<Option<usize>, SyntaxFaultKind>
-    ensures { result ≡ spec.told_by objects.now attribute.now }
+fn told_by(
+    objects: &[Object],
+    site: Site,
+    attribute: &Attribute,
+) -> Result<Option<usize>, SyntaxFaultKind>
+    ensures { result ≡ spec.told_by objects.now site attribute.now }
 {
     match attribute {
         Attribute::Dimension(number) => whole_dimension(*number),
         Attribute::Restriction(_, value) | Attribute::Assigned(value) | Attribute::Default(value) =>
-            set_at(objects, value),
+            set_at(objects, site, value),
         Attribute::Integer | Attribute::Binary | Attribute::Symbolic => Ok(None),
     }
 }
@@ -75,46 +94,69 @@ fn agree(
     same_dimension(agreed?, told)
 }
 
-/// The dimension of a set, where its attributes tell it.
-pub(crate) fn agreed_dimension(
+// The dimension of a set on which its attributes agree, and with this one too where the set's own is known.
+fn agreed_dimension(
     objects: &[Object],
+    subscripts: usize,
+    own: Option<usize>,
     attributes: &[Attribute],
 ) -> Result<Option<usize>, SyntaxFaultKind>
-    ensures { result ≡ spec.agreed_from objects.now (Ok None) attributes.now }
+    ensures { result ≡ spec.agreed_with objects.now subscripts own attributes.now }
 {
-    let mut agreed = Ok(None);
+    let site = beside(set_of(subscripts, own));
+    let mut agreed = Ok(own);
     for one in attributes {
-        agreed = agree(agreed, told_by(objects, one)?);
+        agreed = agree(agreed, told_by(objects, site, one)?);
     }
     agreed
 }
 
+/// The dimension of the elements of a set: what its attributes tell while that of the set itself is not known, with which they
+/// then have to agree.
+pub(crate) fn set_dimension(
+    objects: &[Object],
+    subscripts: usize,
+    attributes: &[Attribute],
+) -> Result<usize, SyntaxFaultKind>
+    ensures { result ≡ spec.set_dimension objects.now subscripts attributes.now }
+{
+    let told = or_one(agreed_dimension(objects, subscripts, None, attributes)?);
+    Ok(or_one(agreed_dimension(objects, subscripts, Some(told), attributes)?))
+}
+
 // ---- parameters and variables
 
-fn holds_values(objects: &[Object], whole: &Expr) -> Result<Shape, SyntaxFaultKind>
-    ensures { result ≡ spec.holds_values objects.now whole.now }
+fn holds_values(objects: &[Object], site: Site, whole: &Expr) -> Result<Shape, SyntaxFaultKind>
+    ensures { result ≡ spec.holds_values objects.now site whole.now }
 {
-    same_dimension(Some(1), set_at(objects, whole)?)?;
+    same_dimension(Some(1), set_at(objects, site, whole)?)?;
     Ok(Shape::Scalar)
 }
 
-fn restricts(objects: &[Object], relation: Relation, whole: &Expr) -> Result<Shape, SyntaxFaultKind>
-    ensures { result ≡ spec.restricts objects.now relation whole.now }
+fn restricts(
+    objects: &[Object],
+    site: Site,
+    relation: Relation,
+    whole: &Expr,
+) -> Result<Shape, SyntaxFaultKind>
+    ensures { result ≡ spec.restricts objects.now site relation whole.now }
 {
     match relation {
-        Relation::In => holds_values(objects, whole),
-        _ => scalar_at(objects, Site::Constant, whole),
+        Relation::In => holds_values(objects, site, whole),
+        _ => scalar_at(objects, site, whole),
     }
 }
 
-fn value_attribute(objects: &[Object], attribute: &Attribute) -> Result<Shape, SyntaxFaultKind>
-    ensures { result ≡ spec.value_attribute objects.now attribute.now }
+fn value_attribute(
+    objects: &[Object],
+    site: Site,
+    attribute: &Attribute,
+) -> Result<Shape, SyntaxFaultKind>
+    ensures { result ≡ spec.value_attribute objects.now site attribute.now }
 {
     match attribute {
-        Attribute::Restriction(relation, value) => restricts(objects, *relation, value),
-        Attribute::Assigned(value) | Attribute::Default(value) => {
-            scalar_at(objects, Site::Constant, value)
-        }
+        Attribute::Restriction(relation, value) => restricts(objects, site, *relation, value),
+        Attribute::Assigned(value) | Attribute::Default(value) => scalar_at(objects, site, value),
         Attribute::Dimension(_) | Attribute::Integer | Attribute::Binary | Attribute::Symbolic =>
             Ok(Shape::Scalar),
     }
@@ -123,12 +165,13 @@ fn value_attribute(objects: &[Object], attribute: &Attribute) -> Result<Shape, S
 /// The attributes of a parameter or a variable.
 pub(crate) fn value_attributes(
     objects: &[Object],
+    site: Site,
     attributes: &[Attribute],
 ) -> Result<Shape, SyntaxFaultKind>
-    ensures { result ≡ spec.value_attributes objects.now attributes.now }
+    ensures { result ≡ spec.value_attributes objects.now site attributes.now }
 {
     for one in attributes {
-        value_attribute(objects, one)?;
+        value_attribute(objects, site, one)?;
     }
     Ok(Shape::Scalar)
 }

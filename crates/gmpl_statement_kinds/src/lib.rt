@@ -5,6 +5,7 @@
 
 mod attributes;
 mod judgement;
+mod sites;
 mod statements;
 
 pub use judgement::Judgement;

@@ -1,6 +1,6 @@
 -- What the names of statements mean, or the first fault: from left to right, inner parts before outer ones (GNU MathProg
 -- Language Reference, chapter on statements).
-use Rattle.std.specs.Prelude.{◌≡◌, ℕ, ◌+◌, codes, Bool, true, false, if◌then◌else◌, List, [], ◌∷◌, ◌++◌, length, map, Option, Some, None, Result, Ok, Err}
+use Rattle.std.specs.Prelude.{◌≡◌, ℕ, ◌+◌, codes, Bool, true, false, ◌||◌, ◌&&◌, if◌then◌else◌, List, [], ◌∷◌, ◌++◌, length, map, Option, Some, None, Result, Ok, Err}
 use Rattle.std.specs.Str.{bytes_eq}
 use Rattle.gmpl_syntax.specs.declared.fault.SyntaxFault.{SyntaxFault}
 use Rattle.gmpl_syntax.specs.declared.fault.SyntaxFaultKind.TheVariants.{Declared, Unsupported}
@@ -17,6 +17,7 @@ use Rattle.gmpl_syntax.specs.declared.statement.OutputColumn.{OutputColumn}
 use Rattle.gmpl_syntax.specs.declared.statement.TableInput.{TableInput}
 use Rattle.gmpl_syntax.specs.declared.statement.TableOutput.{TableOutput}
 use Rattle.gmpl_syntax.specs.declared.statement.Action.{Action}
+use Rattle.gmpl_syntax.specs.declared.statement.Action.TheVariants as act
 use Rattle.gmpl_syntax.specs.declared.statement.Action.TheOpen.{Action-F}
 use Rattle.gmpl_syntax.specs.declared.statement.Action.TheFolds.{fold-Action}
 use Rattle.gmpl_syntax.specs.declared.statement.Statement.{Statement}
@@ -37,22 +38,20 @@ use Rattle.gmpl_resolved.specs.declared.statement.Numbered.{Numbered as Resolved
 use Rattle.gmpl_resolved.specs.declared.statement.Statements.{Statements as ResolvedStatements}
 use Rattle.gmpl_names.specs.declared.error.NamesError.{NamesError}
 use Rattle.gmpl_names.specs.declared.error.NamesError.TheVariants.{Fault, NoMemory}
-use Rattle.gmpl_names.specs.declared.meanings.Objects.{Objects}
 use Rattle.gmpl_names.specs.Names.{Name, has, with_name}
 use Rattle.gmpl_names.specs.Meanings.{Or_fault, used}
 use Rattle.gmpl_names.specs.Expressions.{Outcome, Pass, ◌>>=◌, pure, ◌<$>◌, beside, all, expr, exprs, indexing}
 use Rattle.gmpl_statement_names.specs.declared.sort.Sort.{Sort}
 use Rattle.gmpl_statement_names.specs.declared.sort.Sort.TheVariants as sort
+use Rattle.gmpl_statement_names.specs.declared.resolved.Resolved.{Resolved}
+use Rattle.gmpl_statement_names.specs.declared.resolved.Resolved.TheVariants as made
 
 -- ---- what is supported so far
 
--- restrictions of sets and parameters and defaults are not, nor integer variables
+-- variables of whole numbers are not
 abbrev pub supports_attribute : Sort → Attribute → Bool
-supports_attribute sort.Var (a.Restriction relation x) = true
-supports_attribute _ (a.Restriction relation x) = false
-supports_attribute _ (a.Default x) = false
-supports_attribute _ a.Integer = false
-supports_attribute _ a.Binary = false
+supports_attribute sort.Var a.Integer = false
+supports_attribute sort.Var a.Binary = false
 supports_attribute _ _ = true
 
 abbrev pub known : {A : Type 0} → Or_fault A → Or_fault (Unit {0})
@@ -77,7 +76,7 @@ driver name = beside (if bytes_eq name (codes "CSV") then Ok tt else Err Unsuppo
 abbrev pub unsupported : Pass (Unit {0})
 unsupported = λ scope. Err Unsupported
 
-module _ (objects : Objects) where
+module _ (objects : List Name) where
   abbrev pub optional_indexing : Option Indexing → Pass (Option ResolvedIndexing)
   optional_indexing None = pure None
   optional_indexing (Some x) = Some <$> indexing objects x
@@ -101,8 +100,8 @@ module _ (objects : Objects) where
   -- the expression of an attribute, then the attribute
   abbrev pub attribute : Sort → Attribute → Pass ResolvedAttribute
   attribute sort x = do
-    made ← attribute_of x
-    beside (if supports_attribute sort x then Ok made else Err Unsupported)
+    found ← attribute_of x
+    beside (if supports_attribute sort x then Ok found else Err Unsupported)
 
   abbrev pub attributes : Sort → List Attribute → Pass (List ResolvedAttribute)
   attributes sort xs = all (map (attribute sort) xs)
@@ -127,10 +126,17 @@ module _ (objects : Objects) where
     f ← expr objects x.form
     pure (record { direction = x.direction; head = h; form = f })
 
+  -- what has to hold, and where
+  abbrev pub check : Option Indexing → Expr → Pass Resolved
+  check domain x = do
+    d ← optional_indexing domain
+    held ← expr objects x
+    pure (made.Check d held)
+
   -- ---- statements that are not supported so far: what is wrong inside comes first
 
   abbrev pub new_name : Name → Pass (Unit {0})
-  new_name name = beside (if has name objects.names then Err Declared else Ok tt)
+  new_name name = beside (if has name objects then Err Declared else Ok tt)
 
   unfoldable pub known_name : Name → Pass (Unit {0})
   known_name name scope = beside (known (used objects scope name)) scope
@@ -163,8 +169,9 @@ module _ (objects : Objects) where
     parameters t.columns
     unsupported
 
-  unfoldable pub check : Option Indexing → Expr → Pass (Unit {0})
-  check domain x = do
+  -- one that stands in a `for`
+  unfoldable pub refused_check : Option Indexing → Expr → Pass (Unit {0})
+  refused_check domain x = do
     optional_indexing domain
     expr objects x
     unsupported
@@ -189,7 +196,7 @@ module _ (objects : Objects) where
     unsupported
 
   abbrev pub action_step : Action-F (Pass (Unit {0})) → Pass (Unit {0})
-  action_step (Action-F.Check domain x) = check domain x
+  action_step (Action-F.Check domain x) = refused_check domain x
   action_step (Action-F.Display domain xs) = display domain xs
   action_step (Action-F.Printf domain xs file) = printf domain xs file
   action_step (Action-F.TableOutput t) = table_output t
@@ -207,86 +214,122 @@ module _ (objects : Objects) where
 -- ---- a statement, and the objects that are declared behind it
 
 abbrev pub Judged : Type 0 → Type 0
-Judged A = Or_fault (A × Objects)
+Judged A = Or_fault (A × List Name)
 
 -- a statement's own name is declared from its name on
-abbrev pub declare : Name → Objects → Or_fault Objects
-declare name objects = if has name objects.names then Err Declared else Ok (record { names = with_name objects.names name; own = Some (length objects.names) })
+abbrev pub declare : Name → List Name → Or_fault (List Name)
+declare name objects = if has name objects then Err Declared else Ok (with_name objects name)
 
 -- a statement begins with no index in scope
-abbrev pub alone : {A : Type 0} → Objects → Outcome A → Judged A
+abbrev pub alone : {A : Type 0} → List Name → Outcome A → Judged A
 alone objects (Ok r) = Ok (r.0, objects)
 alone objects (Err fault) = Err fault
 
-abbrev pub declaring_by : {A : Type 0} → (Objects → Pass A) → Or_fault Objects → Judged A
+abbrev pub declaring_by : {A : Type 0} → (List Name → Pass A) → Or_fault (List Name) → Judged A
 declaring_by pass (Ok objects) = alone objects (pass objects [])
 declaring_by pass (Err fault) = Err fault
 
-abbrev pub declaring : {A : Type 0} → Name → (Objects → Pass A) → Objects → Judged A
+abbrev pub declaring : {A : Type 0} → Name → (List Name → Pass A) → List Name → Judged A
 declaring name pass objects = declaring_by pass (declare name objects)
 
-abbrev pub declared : Sort → Declaration → Objects → Judged ResolvedDeclaration
+abbrev pub declared : Sort → Declaration → List Name → Judged ResolvedDeclaration
 declared sort d = declaring d.head.name (λ os. declaration os sort d)
 
-abbrev pub declared_constraint : Constraint → Objects → Judged ResolvedConstraint
+abbrev pub declared_constraint : Constraint → List Name → Judged ResolvedConstraint
 declared_constraint x = declaring x.head.name (λ os. constraint os x)
 
-abbrev pub declared_objective : Objective → Objects → Judged ResolvedObjective
+abbrev pub declared_objective : Objective → List Name → Judged ResolvedObjective
 declared_objective x = declaring x.head.name (λ os. objective os x)
 
-abbrev pub without_own : Objects → Objects
-without_own objects = record { names = objects.names; own = None }
-
-abbrev pub refused : {A : Type 0} → Outcome A → Judged ResolvedStatement
+abbrev pub refused : {A : Type 0} → Outcome A → Judged Resolved
 refused (Ok r) = Err Unsupported
 refused (Err fault) = Err fault
 
-abbrev pub refused_table : TableInput → Objects → Judged ResolvedStatement
-refused_table t objects = refused (table_input (without_own objects) t [])
+abbrev pub refused_table : TableInput → List Name → Judged Resolved
+refused_table t objects = refused (table_input objects t [])
 
-abbrev pub refused_action : Action → Objects → Judged ResolvedStatement
-refused_action x objects = refused (action (without_own objects) x [])
+abbrev pub refused_action : Action → List Name → Judged Resolved
+refused_action x objects = refused (action objects x [])
 
-abbrev pub told_as : {A : Type 0} → (A → ResolvedStatement) → Judged A → Judged ResolvedStatement
-told_as make (Ok r) = Ok (make r.0, r.1)
+abbrev pub resolved_check : Option Indexing → Expr → List Name → Judged Resolved
+resolved_check domain x objects = alone objects (check objects domain x [])
+
+abbrev pub resolved_action : Action → List Name → Judged Resolved
+resolved_action (act.Check domain x) objects = resolved_check domain x objects
+resolved_action x objects = refused_action x objects
+
+abbrev pub told_as : {A : Type 0} → (A → ResolvedStatement) → Judged A → Judged Resolved
+told_as make (Ok r) = Ok (made.Declaration (make r.0), r.1)
 told_as make (Err fault) = Err fault
 
-abbrev pub statement : Statement → Objects → Judged ResolvedStatement
+abbrev pub statement : Statement → List Name → Judged Resolved
 statement (s.Set d) objects = told_as rs.Set (declared sort.Set d objects)
 statement (s.Param d) objects = told_as rs.Param (declared sort.Param d objects)
 statement (s.Var d) objects = told_as rs.Var (declared sort.Var d objects)
 statement (s.Constraint x) objects = told_as rs.Constraint (declared_constraint x objects)
 statement (s.Objective x) objects = told_as rs.Objective (declared_objective x objects)
 statement (s.TableInput t) objects = refused_table t objects
-statement s.Solve objects = Err Unsupported
-statement (s.Action x) objects = refused_action x objects
-statement s.Data objects = Err Unsupported
+statement s.Solve objects = Ok (made.Nothing, objects)
+statement (s.Action x) objects = resolved_action x objects
+statement s.Data objects = Ok (made.Nothing, objects)
+
+abbrev pub makes_something : Resolved → Bool
+makes_something (made.Declaration statement) = true
+makes_something (made.Check domain condition) = true
+makes_something made.Nothing = false
+
+-- behind `solve` no statement but `data` is supported so far
+abbrev pub unless_solved : Bool → Resolved → Or_fault Resolved
+unless_solved solved r = if solved && makes_something r then Err Unsupported else Ok r
+
+abbrev pub behind_solve : Bool → Judged Resolved → Judged Resolved
+behind_solve solved (Ok r) = beside (unless_solved solved r.0) r.1
+behind_solve solved (Err fault) = Err fault
+
+abbrev pub statement_behind : Bool → Statement → List Name → Judged Resolved
+statement_behind solved x objects = behind_solve solved (statement x objects)
+
+abbrev pub is_solve : Statement → Bool
+is_solve s.Solve = true
+is_solve _ = false
 
 -- ---- the statements before the first bad one, and its fault
 
-abbrev pub stopped : List ResolvedNumbered → Option SyntaxFault → ResolvedStatements
-stopped made fault = record { items = made; fault = fault }
+abbrev pub none : ResolvedStatements
+none = record { items = []; checks = []; fault = None }
 
-abbrev pub with_statement : List ResolvedNumbered → ℕ → Judged ResolvedStatement → (List ResolvedNumbered → Objects → ResolvedStatements) → ResolvedStatements
-with_statement made line (Ok r) go = go (made ++ record { line = line; statement = r.0 } ∷ []) r.1
-with_statement made line (Err kind) go = stopped made (Some (record { statement = length made + 1; line = line; kind = kind }))
+-- one more: a declaration takes the checks since the one before it
+abbrev pub with_statement : ResolvedStatements → ℕ → ℕ → Resolved → ResolvedStatements
+with_statement all number line (made.Declaration statement) =
+    record { items = all.items ++ record { checks = all.checks; number = number; line = line; statement = statement } ∷ []; checks = []; fault = all.fault }
+with_statement all number line (made.Check domain x) =
+    record { items = all.items; checks = all.checks ++ record { number = number; line = line; domain = domain; condition = x } ∷ []; fault = all.fault }
+with_statement all number line made.Nothing = all
 
--- behind those that were gone over; behind all of them stands what the first pass found
-abbrev pub statements_from : List ResolvedNumbered → Objects → List Numbered → Option SyntaxFault → ResolvedStatements
-statements_from made objects [] fault = stopped made fault
-statements_from made objects (x ∷ xs) fault = with_statement made x.line (statement x.statement objects) (λ more os. statements_from more os xs fault)
+abbrev pub stopped : ResolvedStatements → Option SyntaxFault → ResolvedStatements
+stopped all fault = record { items = all.items; checks = all.checks; fault = fault }
+
+abbrev pub behind : ResolvedStatements → ℕ → ℕ → Judged Resolved → (ResolvedStatements → List Name → ResolvedStatements) → ResolvedStatements
+behind all number line (Ok r) go = go (with_statement all number line r.0) r.1
+behind all number line (Err kind) go = stopped all (Some (record { statement = number; line = line; kind = kind }))
+
+-- behind those that were gone over, so many, and behind `solve` or before it; behind all of them stands what the first pass found
+abbrev pub statements_from : ResolvedStatements → ℕ → Bool → List Name → List Numbered → Option SyntaxFault → ResolvedStatements
+statements_from all count solved objects [] fault = stopped all fault
+statements_from all count solved objects (x ∷ xs) fault =
+    behind all (count + 1) x.line (statement_behind solved x.statement objects) (λ more os. statements_from more (count + 1) (solved || is_solve x.statement) os xs fault)
 
 abbrev pub statements : Statements → ResolvedStatements
-statements whole = statements_from [] (record { names = []; own = None }) whole.items whole.fault
+statements whole = statements_from none 0 false [] whole.items whole.fault
 
 -- ---- the code and the definition go the same way; want of memory is free
 
-abbrev pub Judges : {A : Type 0} → Judged A → Result A NamesError → Objects → Type 0
-Judges outcome (Ok made) objects = outcome ≡ Ok (made, objects)
+abbrev pub Judges : {A : Type 0} → Judged A → Result A NamesError → List Name → Type 0
+Judges outcome (Ok found) objects = outcome ≡ Ok (found, objects)
 Judges outcome (Err (Fault kind)) objects = outcome ≡ Err kind
 Judges outcome (Err NoMemory) objects = Unit {0}
 
-abbrev pub Declares : Or_fault Objects → Result (Unit {0}) NamesError → Objects → Type 0
+abbrev pub Declares : Or_fault (List Name) → Result (Unit {0}) NamesError → List Name → Type 0
 Declares outcome (Ok _) objects = outcome ≡ Ok objects
 Declares outcome (Err (Fault kind)) objects = outcome ≡ Err kind
 Declares outcome (Err NoMemory) objects = Unit {0}

@@ -6,6 +6,7 @@
 
 mod parts;
 mod refused;
+mod resolved;
 mod sort;
 mod statements;
 

@@ -2,8 +2,9 @@
 ghost use Rattle.gmpl_names.specs.Expressions.{Follows};
 ghost use Rattle.gmpl_statement_names.specs.Statements as spec;
 
+use crate::resolved::Resolved;
 use crate::sort::{Sort, supports_attribute};
-use gmpl_names::{Names, NamesError, Objects, resolve_expr, resolve_indexing};
+use gmpl_names::{Names, NamesError, resolve_expr, resolve_indexing};
 use gmpl_resolved as resolved;
 use gmpl_syntax::{
     Attribute, Constraint, Declaration, Expr, Head, Indexing, Objective, SyntaxFaultKind,
@@ -13,7 +14,7 @@ use std::alloc::Global;
 
 pub(crate) fn optional_indexing(
     alloc: Global,
-    objects: &Objects,
+    objects: &Names,
     scope: &mut Names,
     whole: &Option<Indexing>,
 ) -> Result<Option<resolved::Indexing>, NamesError>
@@ -27,7 +28,7 @@ pub(crate) fn optional_indexing(
 
 pub(crate) fn optional_side(
     alloc: Global,
-    objects: &Objects,
+    objects: &Names,
     scope: &mut Names,
     whole: &Option<Expr>,
 ) -> Result<Option<resolved::Expr>, NamesError>
@@ -41,7 +42,7 @@ pub(crate) fn optional_side(
 
 fn head(
     alloc: Global,
-    objects: &Objects,
+    objects: &Names,
     scope: &mut Names,
     whole: &Head,
 ) -> Result<resolved::Head, NamesError>
@@ -56,7 +57,7 @@ fn head(
 
 fn attribute_of(
     alloc: Global,
-    objects: &Objects,
+    objects: &Names,
     scope: &mut Names,
     whole: &Attribute,
 ) -> Result<resolved::Attribute, NamesError>
@@ -82,7 +83,7 @@ fn attribute_of(
 
 fn attribute(
     alloc: Global,
-    objects: &Objects,
+    objects: &Names,
     scope: &mut Names,
     sort: Sort,
     whole: &Attribute,
@@ -99,7 +100,7 @@ fn attribute(
 
 fn attributes(
     alloc: Global,
-    objects: &Objects,
+    objects: &Names,
     scope: &mut Names,
     sort: Sort,
     all: &[Attribute],
@@ -116,7 +117,7 @@ fn attributes(
 /// The declaration of a set, a parameter or a variable.
 pub(crate) fn declaration(
     alloc: Global,
-    objects: &Objects,
+    objects: &Names,
     scope: &mut Names,
     sort: Sort,
     whole: &Declaration,
@@ -130,7 +131,7 @@ pub(crate) fn declaration(
 
 pub(crate) fn constraint(
     alloc: Global,
-    objects: &Objects,
+    objects: &Names,
     scope: &mut Names,
     whole: &Constraint,
 ) -> Result<resolved::Constraint, NamesError>
@@ -151,7 +152,7 @@ pub(crate) fn constraint(
 
 pub(crate) fn objective(
     alloc: Global,
-    objects: &Objects,
+    objects: &Names,
     scope: &mut Names,
     whole: &Objective,
 ) -> Result<resolved::Objective, NamesError>
@@ -164,4 +165,19 @@ pub(crate) fn objective(
         head,
         form,
     })
+}
+
+/// What has to hold, and where.
+pub(crate) fn check(
+    alloc: Global,
+    objects: &Names,
+    scope: &mut Names,
+    domain: &Option<Indexing>,
+    condition: &Expr,
+) -> Result<Resolved, NamesError>
+    ensures { Follows (spec.check objects.now domain.now condition.now scope.old) result scope.new }
+{
+    let domain = optional_indexing(alloc, objects, scope, domain)?;
+    let condition = resolve_expr(alloc, objects, scope, condition)?;
+    Ok(Resolved::Check(domain, condition))
 }

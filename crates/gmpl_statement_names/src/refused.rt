@@ -3,9 +3,7 @@ ghost use Rattle.gmpl_names.specs.Expressions.{Follows};
 ghost use Rattle.gmpl_statement_names.specs.Statements as spec;
 
 use crate::parts::{optional_indexing, optional_side};
-use gmpl_names::{
-    Names, NamesError, Objects, resolve_expr, resolve_exprs, resolve_indexing, resolve_name,
-};
+use gmpl_names::{Names, NamesError, resolve_expr, resolve_exprs, resolve_indexing, resolve_name};
 use gmpl_syntax::{
     Action, Expr, Indexing, InputColumn, OutputColumn, SyntaxFaultKind, TableInput, TableOutput,
 };
@@ -22,10 +20,10 @@ fn driver(scope: &Names, name: &Text) -> Result<(), NamesError>
     }
 }
 
-fn new_name(objects: &Objects, scope: &Names, name: &Text) -> Result<(), NamesError>
+fn new_name(objects: &Names, scope: &Names, name: &Text) -> Result<(), NamesError>
     ensures { Follows (spec.new_name objects.now name.now scope.now) result scope.now }
 {
-    if objects.names.has(name.as_str()) {
+    if objects.has(name.as_str()) {
         Err(NamesError::Fault(SyntaxFaultKind::Declared))
     } else {
         Ok(())
@@ -33,14 +31,14 @@ fn new_name(objects: &Objects, scope: &Names, name: &Text) -> Result<(), NamesEr
 }
 
 #[tactic(auto, unfolding(crate::specs::Statements::known_name))]
-fn known_name(objects: &Objects, scope: &Names, name: &Text) -> Result<(), NamesError>
+fn known_name(objects: &Names, scope: &Names, name: &Text) -> Result<(), NamesError>
     ensures { Follows (spec.known_name objects.now name.now scope.now) result scope.now }
 {
     resolve_name(objects, scope, name.as_str())?;
     Ok(())
 }
 
-fn optional_name(objects: &Objects, scope: &Names, name: &Option<Text>) -> Result<(), NamesError>
+fn optional_name(objects: &Names, scope: &Names, name: &Option<Text>) -> Result<(), NamesError>
     ensures { Follows (spec.optional_name objects.now name.now scope.now) result scope.now }
 {
     match name {
@@ -51,7 +49,7 @@ fn optional_name(objects: &Objects, scope: &Names, name: &Option<Text>) -> Resul
 
 fn values(
     alloc: Global,
-    objects: &Objects,
+    objects: &Names,
     scope: &mut Names,
     all: &[OutputColumn],
 ) -> Result<(), NamesError>
@@ -63,7 +61,7 @@ fn values(
     Ok(())
 }
 
-fn parameters(objects: &Objects, scope: &Names, all: &[InputColumn]) -> Result<(), NamesError>
+fn parameters(objects: &Names, scope: &Names, all: &[InputColumn]) -> Result<(), NamesError>
     ensures { Follows (spec.parameters objects.now all.now scope.now) result scope.now }
 {
     for one in all {
@@ -74,7 +72,7 @@ fn parameters(objects: &Objects, scope: &Names, all: &[InputColumn]) -> Result<(
 
 fn indexings(
     alloc: Global,
-    objects: &Objects,
+    objects: &Names,
     scope: &mut Names,
     all: &[Indexing],
 ) -> Result<(), NamesError>
@@ -89,7 +87,7 @@ fn indexings(
 #[tactic(auto, unfolding(crate::specs::Statements::table_output))]
 fn table_output(
     alloc: Global,
-    objects: &Objects,
+    objects: &Names,
     scope: &mut Names,
     whole: &TableOutput,
 ) -> Result<(), NamesError>
@@ -106,7 +104,7 @@ fn table_output(
 #[tactic(auto, unfolding(crate::specs::Statements::table_input))]
 pub(crate) fn table_input(
     alloc: Global,
-    objects: &Objects,
+    objects: &Names,
     scope: &mut Names,
     whole: &TableInput,
 ) -> Result<(), NamesError>
@@ -120,15 +118,15 @@ pub(crate) fn table_input(
     Err(NamesError::Fault(SyntaxFaultKind::Unsupported))
 }
 
-#[tactic(auto, unfolding(crate::specs::Statements::check))]
-fn check(
+#[tactic(auto, unfolding(crate::specs::Statements::refused_check))]
+fn refused_check(
     alloc: Global,
-    objects: &Objects,
+    objects: &Names,
     scope: &mut Names,
     domain: &Option<Indexing>,
     condition: &Expr,
 ) -> Result<(), NamesError>
-    ensures { Follows (spec.check objects.now domain.now condition.now scope.old) result scope.new }
+    ensures { Follows (spec.refused_check objects.now domain.now condition.now scope.old) result scope.new }
 {
     optional_indexing(alloc, objects, scope, domain)?;
     resolve_expr(alloc, objects, scope, condition)?;
@@ -138,7 +136,7 @@ fn check(
 #[tactic(auto, unfolding(crate::specs::Statements::display))]
 fn display(
     alloc: Global,
-    objects: &Objects,
+    objects: &Names,
     scope: &mut Names,
     domain: &Option<Indexing>,
     items: &[Expr],
@@ -153,7 +151,7 @@ fn display(
 #[tactic(auto, unfolding(crate::specs::Statements::printf))]
 fn printf(
     alloc: Global,
-    objects: &Objects,
+    objects: &Names,
     scope: &mut Names,
     domain: &Option<Indexing>,
     arguments: &[Expr],
@@ -171,14 +169,16 @@ fn printf(
 #[cycle(refusals)]
 pub(crate) fn action(
     alloc: Global,
-    objects: &Objects,
+    objects: &Names,
     scope: &mut Names,
     whole: &Action,
 ) -> Result<(), NamesError>
     ensures { Follows (spec.action objects.now whole.now scope.old) result scope.new }
 {
     match whole {
-        Action::Check(domain, condition) => check(alloc, objects, scope, domain, condition),
+        Action::Check(domain, condition) => {
+            refused_check(alloc, objects, scope, domain, condition)
+        }
         Action::Display(domain, items) => display(alloc, objects, scope, domain, items.as_slice()),
         Action::Printf(domain, arguments, file) => {
             printf(alloc, objects, scope, domain, arguments.as_slice(), file)
@@ -195,7 +195,7 @@ pub(crate) fn action(
 #[cycle(refusals)]
 fn actions(
     alloc: Global,
-    objects: &Objects,
+    objects: &Names,
     scope: &mut Names,
     all: &[Action],
 ) -> Result<(), NamesError>

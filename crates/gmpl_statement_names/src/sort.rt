@@ -15,11 +15,10 @@ pub(crate) fn supports_attribute(sort: Sort, attribute: &Attribute) -> bool
     ensures { result ≡ spec.supports_attribute sort attribute.now }
 {
     match attribute {
-        Attribute::Restriction(_, _) => match sort {
-            Sort::Var => true,
-            _ => false,
+        Attribute::Integer | Attribute::Binary => match sort {
+            Sort::Var => false,
+            Sort::Set | Sort::Param => true,
         },
-        Attribute::Default(_) | Attribute::Integer | Attribute::Binary => false,
-        Attribute::Dimension(_) | Attribute::Assigned(_) | Attribute::Symbolic => true,
+        _ => true,
     }
 }

@@ -1,27 +1,26 @@
 // The names of statements, resolved.
 ghost use Rattle.std.specs.Prelude.{◌≡◌, IfOk};
+ghost use Rattle.gmpl_names.specs.Expressions.{Gives};
 ghost use Rattle.gmpl_statement_names.specs.Statements as spec;
 ghost use Rattle.gmpl_statement_names.specs.Statements.{Declares, Judges};
 
-use crate::parts::{constraint, declaration, objective};
+use crate::parts::{check, constraint, declaration, objective};
 use crate::refused::{action, table_input};
+use crate::resolved::{Resolved, none, stopped, with_statement};
 use crate::sort::Sort;
-use gmpl_names::{Names, NamesError, Objects};
+use gmpl_names::{Names, NamesError};
 use gmpl_resolved as resolved;
 use gmpl_syntax::{
-    Action, Constraint, Declaration, Objective, Statement, Statements, SyntaxFault,
+    Action, Constraint, Declaration, Expr, Indexing, Objective, Statement, Statements, SyntaxFault,
     SyntaxFaultKind, TableInput,
 };
 use gmpl_text::Text;
-use sqlite_items::Items;
 use std::alloc::{AllocError, Global};
 
-fn declare(alloc: Global, objects: &mut Objects, name: &Text) -> Result<(), NamesError>
+fn declare(alloc: Global, objects: &mut Names, name: &Text) -> Result<(), NamesError>
     ensures { Declares (spec.declare name.now objects.old) result objects.new }
 {
-    let own = objects.names.len();
-    if objects.names.insert(name.as_str().to_string(alloc)?)? {
-        objects.own = Some(own);
+    if objects.insert(name.as_str().to_string(alloc)?)? {
         Ok(())
     } else {
         Err(NamesError::Fault(SyntaxFaultKind::Declared))
@@ -30,7 +29,7 @@ fn declare(alloc: Global, objects: &mut Objects, name: &Text) -> Result<(), Name
 
 fn declared(
     alloc: Global,
-    objects: &mut Objects,
+    objects: &mut Names,
     sort: Sort,
     whole: &Declaration,
 ) -> Result<resolved::Declaration, NamesError>
@@ -43,7 +42,7 @@ fn declared(
 
 fn declared_constraint(
     alloc: Global,
-    objects: &mut Objects,
+    objects: &mut Names,
     whole: &Constraint,
 ) -> Result<resolved::Constraint, NamesError>
     ensures { Judges (spec.declared_constraint whole.now objects.old) result objects.new }
@@ -55,7 +54,7 @@ fn declared_constraint(
 
 fn declared_objective(
     alloc: Global,
-    objects: &mut Objects,
+    objects: &mut Names,
     whole: &Objective,
 ) -> Result<resolved::Objective, NamesError>
     ensures { Judges (spec.declared_objective whole.now objects.old) result objects.new }
@@ -65,69 +64,115 @@ fn declared_objective(
     objective(alloc, objects, &mut scope, whole)
 }
 
-fn refused_table(
-    alloc: Global,
-    objects: &mut Objects,
-    whole: &TableInput,
-) -> Result<resolved::Statement, NamesError>
-    ensures { Judges (spec.refused_table whole.now objects.old) result objects.new }
+fn refused_table(alloc: Global, objects: &Names, whole: &TableInput) -> Result<Resolved, NamesError>
+    ensures { Judges (spec.refused_table whole.now objects.now) result objects.now }
 {
-    objects.own = None;
     let mut scope = Names::new(alloc);
     table_input(alloc, objects, &mut scope, whole)?;
     Err(NamesError::Fault(SyntaxFaultKind::Unsupported))
 }
 
-fn refused_action(
+fn resolved_check(
     alloc: Global,
-    objects: &mut Objects,
-    whole: &Action,
-) -> Result<resolved::Statement, NamesError>
-    ensures { Judges (spec.refused_action whole.now objects.old) result objects.new }
+    objects: &Names,
+    domain: &Option<Indexing>,
+    condition: &Expr,
+) -> Result<Resolved, NamesError>
+    ensures { Judges (spec.resolved_check domain.now condition.now objects.now) result objects.now }
 {
-    objects.own = None;
+    let mut scope = Names::new(alloc);
+    check(alloc, objects, &mut scope, domain, condition)
+}
+
+fn refused_action(alloc: Global, objects: &Names, whole: &Action) -> Result<Resolved, NamesError>
+    ensures { Judges (spec.refused_action whole.now objects.now) result objects.now }
+{
     let mut scope = Names::new(alloc);
     action(alloc, objects, &mut scope, whole)?;
     Err(NamesError::Fault(SyntaxFaultKind::Unsupported))
 }
 
-fn statement(
-    alloc: Global,
-    objects: &mut Objects,
-    whole: &Statement,
-) -> Result<resolved::Statement, NamesError>
+fn resolved_action(alloc: Global, objects: &Names, whole: &Action) -> Result<Resolved, NamesError>
+    ensures { Judges (spec.resolved_action whole.now objects.now) result objects.now }
+{
+    match whole {
+        Action::Check(domain, condition) => resolved_check(alloc, objects, domain, condition),
+        _ => refused_action(alloc, objects, whole),
+    }
+}
+
+fn statement(alloc: Global, objects: &mut Names, whole: &Statement) -> Result<Resolved, NamesError>
     ensures { Judges (spec.statement whole.now objects.old) result objects.new }
 {
     match whole {
-        Statement::Set(whole) => Ok(resolved::Statement::Set(declared(
+        Statement::Set(whole) => Ok(Resolved::Declaration(resolved::Statement::Set(declared(
             alloc,
             objects,
             Sort::Set,
             whole,
-        )?)),
-        Statement::Param(whole) => Ok(resolved::Statement::Param(declared(
+        )?))),
+        Statement::Param(whole) => Ok(Resolved::Declaration(resolved::Statement::Param(declared(
             alloc,
             objects,
             Sort::Param,
             whole,
-        )?)),
-        Statement::Var(whole) => Ok(resolved::Statement::Var(declared(
+        )?))),
+        Statement::Var(whole) => Ok(Resolved::Declaration(resolved::Statement::Var(declared(
             alloc,
             objects,
             Sort::Var,
             whole,
-        )?)),
-        Statement::Constraint(whole) => Ok(resolved::Statement::Constraint(declared_constraint(
-            alloc, objects, whole,
-        )?)),
-        Statement::Objective(whole) => Ok(resolved::Statement::Objective(declared_objective(
-            alloc, objects, whole,
-        )?)),
+        )?))),
+        Statement::Constraint(whole) => Ok(Resolved::Declaration(resolved::Statement::Constraint(
+            declared_constraint(alloc, objects, whole)?,
+        ))),
+        Statement::Objective(whole) => Ok(Resolved::Declaration(resolved::Statement::Objective(
+            declared_objective(alloc, objects, whole)?,
+        ))),
         Statement::TableInput(whole) => refused_table(alloc, objects, whole),
-        Statement::Action(whole) => refused_action(alloc, objects, whole),
-        Statement::Solve | Statement::Data => {
-            Err(NamesError::Fault(SyntaxFaultKind::Unsupported))
-        }
+        Statement::Action(whole) => resolved_action(alloc, objects, whole),
+        Statement::Solve | Statement::Data => Ok(Resolved::Nothing),
+    }
+}
+
+fn makes_something(resolved: &Resolved) -> bool
+    ensures { result ≡ spec.makes_something resolved.now }
+{
+    match resolved {
+        Resolved::Declaration(_) | Resolved::Check(_, _) => true,
+        Resolved::Nothing => false,
+    }
+}
+
+// Behind `solve` no statement but `data` is supported so far.
+fn unless_solved(solved: bool, resolved: Resolved) -> Result<Resolved, NamesError>
+    ensures { Gives (spec.unless_solved solved resolved) result }
+{
+    if solved && makes_something(&resolved) {
+        Err(NamesError::Fault(SyntaxFaultKind::Unsupported))
+    } else {
+        Ok(resolved)
+    }
+}
+
+fn statement_behind(
+    alloc: Global,
+    objects: &mut Names,
+    solved: bool,
+    whole: &Statement,
+) -> Result<Resolved, NamesError>
+    ensures { Judges (spec.statement_behind solved whole.now objects.old) result objects.new }
+{
+    let resolved = statement(alloc, objects, whole)?;
+    unless_solved(solved, resolved)
+}
+
+fn is_solve(whole: &Statement) -> bool
+    ensures { result ≡ spec.is_solve whole.now }
+{
+    match whole {
+        Statement::Solve => true,
+        _ => false,
     }
 }
 
@@ -139,33 +184,25 @@ pub fn resolve_statements(
 ) -> Result<resolved::Statements, AllocError>
     ensures { IfOk result (λ made. made ≡ spec.statements whole.now) }
 {
-    let mut objects = Objects {
-        names: Names::new(alloc),
-        own: None,
-    };
-    let mut made = Items::new(alloc);
-    for one in whole.items.as_slice() {
-        match statement(alloc, &mut objects, &one.statement) {
-            Ok(statement) => made.push(resolved::Numbered {
-                line: one.line,
-                statement,
-            })?,
+    let mut objects = Names::new(alloc);
+    let mut made = none(alloc);
+    let mut solved = false;
+    for (place, one) in whole.items.as_slice().iter().enumerate() {
+        match statement_behind(alloc, &mut objects, solved, &one.statement) {
+            Ok(statement) => {
+                made = with_statement(alloc, made, place + 1, one.line, statement)?;
+                solved = solved || is_solve(&one.statement);
+            }
             Err(NamesError::NoMemory) => return Err(AllocError),
             Err(NamesError::Fault(kind)) => {
                 let fault = SyntaxFault {
-                    statement: made.len() + 1,
+                    statement: place + 1,
                     line: one.line,
                     kind,
                 };
-                return Ok(resolved::Statements {
-                    items: made,
-                    fault: Some(fault),
-                });
+                return Ok(stopped(made, Some(fault)));
             }
         }
     }
-    Ok(resolved::Statements {
-        items: made,
-        fault: whole.fault,
-    })
+    Ok(stopped(made, whole.fault))
 }

@@ -2,8 +2,9 @@
 
 use gmpl_lexer::read_tokens;
 use gmpl_parse::{Model, ParseError, parse};
-use gmpl_syntax::{SyntaxFault, SyntaxFaultKind};
+use gmpl_syntax::SyntaxFault;
 use outside::{Store, read_all};
+use solution_writer::{Fault, fault_line};
 use std::alloc::Global;
 use std::io;
 use std::time::{Clock, Instant};
@@ -27,10 +28,10 @@ fn report_text<R: Clock + Print>(rt: &R, alloc: Global, name: &str, text: &[u8])
     let elapsed = start.elapsed(rt)?.as_micros();
     match parsed {
         Ok(model) => {
-            let count = model.statements.len();
-            println!(rt; "{name}: {count} statements, {elapsed} microseconds")
+            let count = model.objects.len();
+            println!(rt; "{name}: {count} objects, {elapsed} microseconds")
         }
-        Err(ParseError::Fault(fault)) => report_fault(rt, name, fault),
+        Err(ParseError::Fault(fault)) => report_fault(rt, alloc, name, fault),
         Err(ParseError::NoMemory) => println!(rt; "{name}: want of memory"),
     }
 }
@@ -40,25 +41,9 @@ fn parse_text(alloc: Global, text: &[u8]) -> Result<Model, ParseError> {
     parse(alloc, &tokens)
 }
 
-fn report_fault<R: Print>(rt: &R, name: &str, fault: SyntaxFault) -> io::Result<()> {
-    let (number, line) = (fault.statement, fault.line);
-    let kind = kind_name(fault.kind);
-    println!(rt; "{name}: statement {number}, line {line}: {kind}")
-}
-
-fn kind_name(kind: SyntaxFaultKind) -> &'static str {
-    match kind {
-        SyntaxFaultKind::BadByte => "BadByte",
-        SyntaxFaultKind::UnendedString => "UnendedString",
-        SyntaxFaultKind::UnendedComment => "UnendedComment",
-        SyntaxFaultKind::TooWide => "TooWide",
-        SyntaxFaultKind::NotAStatement => "NotAStatement",
-        SyntaxFaultKind::Unended => "Unended",
-        SyntaxFaultKind::TooDeep => "TooDeep",
-        SyntaxFaultKind::Undeclared => "Undeclared",
-        SyntaxFaultKind::Declared => "Declared",
-        SyntaxFaultKind::Unsupported => "Unsupported",
-        SyntaxFaultKind::WrongKind => "WrongKind",
-        SyntaxFaultKind::WrongDimension => "WrongDimension",
+fn report_fault<R: Print>(rt: &R, alloc: Global, name: &str, fault: SyntaxFault) -> io::Result<()> {
+    match fault_line(alloc, &Fault::Syntax(fault)) {
+        Ok(line) => print!(rt; "{name}: {line}"),
+        Err(_) => println!(rt; "{name}: want of memory"),
     }
 }

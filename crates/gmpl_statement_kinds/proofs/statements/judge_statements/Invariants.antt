@@ -1,7 +1,7 @@
--- What is judged, then the rest; and no more objects are declared than statements judged.
-use Rattle.std.proofs.Common.{◌≡◌, ◌≤◌, length, drop}
+-- What is judged, then the rest.
+use Rattle.std.proofs.Common.{◌≡◌, drop}
 use Rattle.gmpl_statement_kinds.specs.StatementKinds.{judgement, judged_from}
 use Rattle.gmpl_statement_kinds.proofs.statements.judge_statements.Given as goal
 
 abbrev pub invariant-loop-one : goal.invariant-loop-one
-invariant-loop-one l = (judgement l.fn.whole ≡ judged_from l.objects (drop l.one-index l.fn.whole.items) l.fn.whole.fault) × (length l.objects ≤ l.one-index)
+invariant-loop-one l = judgement l.fn.whole ≡ judged_from l.objects (drop l.one-index l.fn.whole.items) l.fn.whole.checks l.fn.whole.fault
