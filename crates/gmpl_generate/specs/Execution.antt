@@ -1,5 +1,6 @@
 -- The statements of a model in the order of the text, up to the first that faults (GNU MathProg Language Reference, chapter on
--- statements): a constraint or an objective makes a row at each element of its domain, and no other statement evaluates anything.
+-- statements): a constraint or an objective makes a row at each element of its domain, a check is tested, and no other statement
+-- evaluates anything.
 use Rattle.std.specs.Prelude.{ℕ, ◌+◌, Option, Result, Ok, Err, List, [], ◌∷◌}
 use Rattle.gmpl_resolved.specs.declared.statement.Constraint.{Constraint}
 use Rattle.gmpl_resolved.specs.declared.statement.Numbered.{Numbered}
@@ -16,6 +17,8 @@ use Rattle.gmpl_meaning.specs.Members.{elements_of}
 use Rattle.gmpl_rows.specs.Draft.{Draft}
 use Rattle.gmpl_generate.specs.declared.fault.ModelFault.{ModelFault}
 use Rattle.gmpl_generate.specs.Rows.{constraint_row, objective_row}
+use Rattle.gmpl_generate.specs.Faults.{then_on, of_statement}
+use Rattle.gmpl_generate.specs.Checks.{checked}
 
 -- ---- the elements of a domain in order; behind them its fault, where there is one
 
@@ -38,18 +41,10 @@ module _ (model : LoadedModel) (place : ℕ) where
 
 -- ---- the statements
 
-abbrev pub then_on : {A B : Type 0} → (A → Result B ModelFault) → Result A ModelFault → Result B ModelFault
-then_on go (Err f) = Err f
-then_on go (Ok a) = go a
-
--- a fault is its statement's, whose number is its place, counted from 1
-abbrev pub of_statement : ℕ → ℕ → Outcome Draft → Result Draft ModelFault
-of_statement place line (Ok d) = Ok d
-of_statement place line (Err kind) = Err (record { statement = place + 1; line = line; kind = kind })
-
 module _ (model : LoadedModel) where
+  -- the checks before the statement at a place, then the statement
   abbrev pub executed_at : ℕ → Numbered → Draft → Result Draft ModelFault
-  executed_at place s d = of_statement place s.line (executed model place s.statement d)
+  executed_at place s d = then_on (λ _. of_statement s.number s.line (executed model place s.statement d)) (checked model s.checks)
 
   -- from the statement at a place on
   abbrev pub executed_from : ℕ → List Numbered → Draft → Result Draft ModelFault

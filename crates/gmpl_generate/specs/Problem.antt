@@ -1,5 +1,5 @@
 -- The problem that a model with its data means, or its first fault.
-use Rattle.std.specs.Prelude.{ℕ, Bool, true, false, ◌≡◌, Result, Ok, Err, List, [], ◌∷◌, map, if◌then◌else◌}
+use Rattle.std.specs.Prelude.{ℕ, Bool, true, false, Result, Ok, List, [], ◌∷◌, map, if◌then◌else◌}
 use Rattle.milp.specs.Problem.{Problem}
 use Rattle.gmpl_resolved.specs.declared.statement.Attribute.{Attribute}
 use Rattle.gmpl_resolved.specs.declared.statement.Attribute.TheVariants as a
@@ -10,10 +10,10 @@ use Rattle.gmpl_data.specs.declared.tables.LoadedModel.{LoadedModel}
 use Rattle.gmpl_rows.specs.declared.declared.Declared.{Declared}
 use Rattle.gmpl_rows.specs.Draft.{no_rows}
 use Rattle.gmpl_rows.specs.Problem.{problem_of}
-use Rattle.gmpl_generate.specs.declared.fault.GenerateError.{GenerateError}
-use Rattle.gmpl_generate.specs.declared.fault.GenerateError.TheVariants.{Fault, NoMemory}
 use Rattle.gmpl_generate.specs.declared.fault.ModelFault.{ModelFault}
-use Rattle.gmpl_generate.specs.Execution.{executed_from, then_on}
+use Rattle.gmpl_generate.specs.Faults.{then_on}
+use Rattle.gmpl_generate.specs.Checks.{checked}
+use Rattle.gmpl_generate.specs.Execution.{executed_from}
 
 -- ---- what statements declare
 
@@ -48,10 +48,5 @@ all_declared model = map declared_at model.statements
 
 -- the problem of the rows that the statements make, or the first fault
 abbrev pub generated : LoadedModel → Result Problem ModelFault
-generated model = then_on (λ d. Ok (problem_of d)) (executed_from model 0 model.statements (no_rows (all_declared model)))
-
--- the answer is this one, unless memory is wanting
-abbrev pub IsAnswer : {A : Type 0} → Result A ModelFault → Result A GenerateError → Type 0
-IsAnswer right (Ok a) = right ≡ Ok a
-IsAnswer right (Err (Fault f)) = right ≡ Err f
-IsAnswer right (Err NoMemory) = Unit {0}
+generated model =
+    then_on (λ d. then_on (λ _. Ok (problem_of d)) (checked model model.checks)) (executed_from model 0 model.statements (no_rows (all_declared model)))

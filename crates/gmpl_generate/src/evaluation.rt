@@ -1,12 +1,13 @@
-// What is asked of the evaluators. They keep nothing from one call to the next, so each call has a context of its own.
+// What is asked of the evaluators. The context is that of the model, and keeps the members that were evaluated.
 ghost use Rattle.std.specs.Prelude.{◌≡◌, [], Ok};
 ghost use Rattle.gmpl_fault.specs.Outcome.{Gives};
 ghost use Rattle.gmpl_generate.specs.Rows as spec;
+ghost use Rattle.gmpl_generate.specs.Checks as checks;
 ghost use Rattle.gmpl_meaning.specs.Members as members;
 
 use fraction::Frac;
 use gmpl_data::LoadedModel;
-use gmpl_expr::{Context, eval_form, eval_num};
+use gmpl_expr::{Context, eval_bool, eval_form, eval_num};
 use gmpl_fault::EvalFault;
 use gmpl_forms::Form;
 use gmpl_meaning::{Bounds, Walk};
@@ -18,49 +19,72 @@ use std::alloc::Global;
 pub(crate) fn number_of(
     alloc: Global,
     model: &LoadedModel,
+    context: &mut Context<'_>,
     bindings: &Tuple,
     whole: &Expr,
 ) -> Result<Frac, EvalFault>
-    ensures { Gives result (spec.number_of model.now bindings.now whole.now) }
+    requires of { context.old ≡ model.now }
+    ensures of { context.new ≡ model.now }
+    ensures value { Gives result (spec.number_of model.now bindings.now whole.now) }
 {
-    let mut context = Context::new(model);
-    eval_num(alloc, &mut context, whole, bindings)
+    eval_num(alloc, context, whole, bindings)
 }
 
 /// The linear form that an expression comes to, where the indices in scope have these values.
 pub(crate) fn form_of(
     alloc: Global,
     model: &LoadedModel,
+    context: &mut Context<'_>,
     bindings: &Tuple,
     whole: &Expr,
 ) -> Result<Form, EvalFault>
-    ensures { Gives result (spec.form_of model.now bindings.now whole.now) }
+    requires of { context.old ≡ model.now }
+    ensures of { context.new ≡ model.now }
+    ensures value { Gives result (spec.form_of model.now bindings.now whole.now) }
 {
-    let mut context = Context::new(model);
-    eval_form(alloc, &mut context, whole, bindings)
+    eval_form(alloc, context, whole, bindings)
+}
+
+/// Whether what has to hold holds, where the indices in scope have these values.
+pub(crate) fn truth_of(
+    alloc: Global,
+    model: &LoadedModel,
+    context: &mut Context<'_>,
+    bindings: &Tuple,
+    whole: &Expr,
+) -> Result<bool, EvalFault>
+    requires of { context.old ≡ model.now }
+    ensures of { context.new ≡ model.now }
+    ensures value { Gives result (checks.truth_of model.now bindings.now whole.now) }
+{
+    eval_bool(alloc, context, whole, bindings)
 }
 
 /// What the domain of a statement goes over.
 pub(crate) fn elements_of(
     alloc: Global,
     model: &LoadedModel,
+    context: &mut Context<'_>,
     domain: &Option<Indexing>,
 ) -> Result<Walk, EvalFault>
-    ensures { Gives result (Ok (members.elements_of model.now domain.now [])) }
+    requires of { context.old ≡ model.now }
+    ensures of { context.new ≡ model.now }
+    ensures value { Gives result (Ok (members.elements_of model.now domain.now [])) }
 {
-    let mut context = Context::new(model);
-    gmpl_expr::elements_of(alloc, &mut context, domain, &Tuple::new(alloc))
+    gmpl_expr::elements_of(alloc, context, domain, &Tuple::new(alloc))
 }
 
 /// The bounds of a variable's member.
 pub(crate) fn bounds_of(
     alloc: Global,
     model: &LoadedModel,
+    context: &mut Context<'_>,
     place: usize,
     subscripts: &Tuple,
 ) -> Result<Bounds, EvalFault>
-    ensures { Gives result (members.bounds_at model.now place subscripts.now) }
+    requires of { context.old ≡ model.now }
+    ensures of { context.new ≡ model.now }
+    ensures value { Gives result (members.bounds_at model.now place subscripts.now) }
 {
-    let mut context = Context::new(model);
-    gmpl_expr::bounds_of(alloc, &mut context, place, subscripts)
+    gmpl_expr::bounds_of(alloc, context, place, subscripts)
 }

@@ -8,6 +8,7 @@ ghost use Rattle.gmpl_meaning.specs.Members.{elements_of};
 use crate::evaluation::elements_of;
 use crate::rows::{constraint_row, objective_row};
 use gmpl_data::LoadedModel;
+use gmpl_expr::Context;
 use gmpl_fault::EvalFault;
 use gmpl_meaning::Walk;
 use gmpl_resolved::{Constraint, Objective, Statement};
@@ -27,16 +28,19 @@ fn unless(fault: Option<EvalFault>, draft: Draft) -> Result<Draft, EvalFault>
 fn constraint_rows(
     alloc: Global,
     model: &LoadedModel,
+    context: &mut Context<'_>,
     place: u32,
     constraint: &Constraint,
     walk: &Walk,
     draft: Draft,
 ) -> Result<Draft, EvalFault>
-    ensures { Gives result (spec.constraint_rows model.now place constraint.now walk.now draft) }
+    requires of { context.old ≡ model.now }
+    ensures of { context.new ≡ model.now }
+    ensures value { Gives result (spec.constraint_rows model.now place constraint.now walk.now draft) }
 {
     let mut draft = draft;
     for element in walk.elements.as_slice() {
-        draft = constraint_row(alloc, model, place, constraint, element, draft)?;
+        draft = constraint_row(alloc, model, context, place, constraint, element, draft)?;
     }
     unless(walk.fault, draft)
 }
@@ -44,16 +48,19 @@ fn constraint_rows(
 fn objective_rows(
     alloc: Global,
     model: &LoadedModel,
+    context: &mut Context<'_>,
     place: u32,
     objective: &Objective,
     walk: &Walk,
     draft: Draft,
 ) -> Result<Draft, EvalFault>
-    ensures { Gives result (spec.objective_rows model.now place objective.now walk.now draft) }
+    requires of { context.old ≡ model.now }
+    ensures of { context.new ≡ model.now }
+    ensures value { Gives result (spec.objective_rows model.now place objective.now walk.now draft) }
 {
     let mut draft = draft;
     for element in walk.elements.as_slice() {
-        draft = objective_row(alloc, model, place, objective, element, draft)?;
+        draft = objective_row(alloc, model, context, place, objective, element, draft)?;
     }
     unless(walk.fault, draft)
 }
@@ -61,45 +68,54 @@ fn objective_rows(
 fn constraint_executed(
     alloc: Global,
     model: &LoadedModel,
+    context: &mut Context<'_>,
     place: u32,
     constraint: &Constraint,
     draft: Draft,
 ) -> Result<Draft, EvalFault>
-    ensures { Gives result (spec.constraint_rows model.now place constraint.now (elements_of model.now constraint.now.head.domain []) draft) }
+    requires of { context.old ≡ model.now }
+    ensures of { context.new ≡ model.now }
+    ensures value { Gives result (spec.constraint_rows model.now place constraint.now (elements_of model.now constraint.now.head.domain []) draft) }
 {
-    let walk = elements_of(alloc, model, &constraint.head.domain)?;
-    constraint_rows(alloc, model, place, constraint, &walk, draft)
+    let walk = elements_of(alloc, model, context, &constraint.head.domain)?;
+    constraint_rows(alloc, model, context, place, constraint, &walk, draft)
 }
 
 fn objective_executed(
     alloc: Global,
     model: &LoadedModel,
+    context: &mut Context<'_>,
     place: u32,
     objective: &Objective,
     draft: Draft,
 ) -> Result<Draft, EvalFault>
-    ensures { Gives result (spec.objective_rows model.now place objective.now (elements_of model.now objective.now.head.domain []) draft) }
+    requires of { context.old ≡ model.now }
+    ensures of { context.new ≡ model.now }
+    ensures value { Gives result (spec.objective_rows model.now place objective.now (elements_of model.now objective.now.head.domain []) draft) }
 {
-    let walk = elements_of(alloc, model, &objective.head.domain)?;
-    objective_rows(alloc, model, place, objective, &walk, draft)
+    let walk = elements_of(alloc, model, context, &objective.head.domain)?;
+    objective_rows(alloc, model, context, place, objective, &walk, draft)
 }
 
 /// The rows so far with those of the statement at a place.
 pub(crate) fn executed(
     alloc: Global,
     model: &LoadedModel,
+    context: &mut Context<'_>,
     place: u32,
     statement: &Statement,
     draft: Draft,
 ) -> Result<Draft, EvalFault>
-    ensures { Gives result (spec.executed model.now place statement.now draft) }
+    requires of { context.old ≡ model.now }
+    ensures of { context.new ≡ model.now }
+    ensures value { Gives result (spec.executed model.now place statement.now draft) }
 {
     match statement {
         Statement::Constraint(constraint) => {
-            constraint_executed(alloc, model, place, constraint, draft)
+            constraint_executed(alloc, model, context, place, constraint, draft)
         }
         Statement::Objective(objective) => {
-            objective_executed(alloc, model, place, objective, draft)
+            objective_executed(alloc, model, context, place, objective, draft)
         }
         _ => Ok(draft),
     }

@@ -1,6 +1,7 @@
 //! The problem that a MathProg model with its data means: the rows that its constraints and objectives make, or its first fault.
 #![tactic(auto)]
 
+mod checks;
 mod declared;
 mod evaluation;
 mod execution;
@@ -11,5 +12,5 @@ mod sides;
 mod terms;
 
 pub use declared::all_declared;
-pub use fault::{GenerateError, ModelFault};
+pub use fault::{GenerateError, ModelFault, ModelFaultKind};
 pub use problem::generate;

@@ -8,6 +8,7 @@ use crate::evaluation::form_of;
 use crate::sides::{RowForm, constraint_form, no_bounds};
 use crate::terms::terms_of;
 use gmpl_data::LoadedModel;
+use gmpl_expr::Context;
 use gmpl_fault::EvalFault;
 use gmpl_forms::Form;
 use gmpl_meaning::{Bounds, Element};
@@ -53,15 +54,18 @@ fn with_row(
 fn with_form(
     alloc: Global,
     model: &LoadedModel,
+    context: &mut Context<'_>,
     place: u32,
     subscripts: &Tuple,
     draft: Draft,
     row: RowForm,
 ) -> Result<Draft, EvalFault>
-    ensures { Gives result (spec.with_form model.now place subscripts.now draft row) }
+    requires of { context.old ≡ model.now }
+    ensures of { context.new ≡ model.now }
+    ensures value { Gives result (spec.with_form model.now place subscripts.now draft row) }
 {
     let RowForm { form, bounds } = row;
-    let terms = terms_of(alloc, model, &form)?;
+    let terms = terms_of(alloc, model, context, &form)?;
     let head = row_head(alloc, place, subscripts, bounds)?;
     with_row(alloc, draft, head, terms)
 }
@@ -70,15 +74,18 @@ fn with_form(
 pub(crate) fn constraint_row(
     alloc: Global,
     model: &LoadedModel,
+    context: &mut Context<'_>,
     place: u32,
     constraint: &Constraint,
     element: &Element,
     draft: Draft,
 ) -> Result<Draft, EvalFault>
-    ensures { Gives result (spec.constraint_row model.now place constraint.now element.now draft) }
+    requires of { context.old ≡ model.now }
+    ensures of { context.new ≡ model.now }
+    ensures value { Gives result (spec.constraint_row model.now place constraint.now element.now draft) }
 {
-    let row = constraint_form(alloc, model, &element.indices, constraint)?;
-    with_form(alloc, model, place, &element.tuple, draft, row)
+    let row = constraint_form(alloc, model, context, &element.indices, constraint)?;
+    with_form(alloc, model, context, place, &element.tuple, draft, row)
 }
 
 // ---- objectives
@@ -95,20 +102,23 @@ fn aim(direction: Direction) -> Aim
 fn with_objective_form(
     alloc: Global,
     model: &LoadedModel,
+    context: &mut Context<'_>,
     place: u32,
     direction: Direction,
     subscripts: &Tuple,
     draft: Draft,
     form: Form,
 ) -> Result<Draft, EvalFault>
-    ensures { Gives result (spec.with_objective_form model.now place direction subscripts.now draft form) }
+    requires of { context.old ≡ model.now }
+    ensures of { context.new ≡ model.now }
+    ensures value { Gives result (spec.with_objective_form model.now place direction subscripts.now draft form) }
 {
     let constant = form.constant();
     let row = RowForm {
         form,
         bounds: no_bounds(),
     };
-    let draft = with_form(alloc, model, place, subscripts, draft, row)?;
+    let draft = with_form(alloc, model, context, place, subscripts, draft, row)?;
     Ok(draft.objective(aim(direction), constant))
 }
 
@@ -116,18 +126,22 @@ fn with_objective_form(
 pub(crate) fn objective_row(
     alloc: Global,
     model: &LoadedModel,
+    context: &mut Context<'_>,
     place: u32,
     objective: &Objective,
     element: &Element,
     draft: Draft,
 ) -> Result<Draft, EvalFault>
-    ensures { Gives result (spec.objective_row model.now place objective.now element.now draft) }
+    requires of { context.old ≡ model.now }
+    ensures of { context.new ≡ model.now }
+    ensures value { Gives result (spec.objective_row model.now place objective.now element.now draft) }
 {
-    let form = form_of(alloc, model, &element.indices, &objective.form)?;
+    let form = form_of(alloc, model, context, &element.indices, &objective.form)?;
     let subscripts = &element.tuple;
     with_objective_form(
         alloc,
         model,
+        context,
         place,
         objective.direction,
         subscripts,

@@ -2,12 +2,12 @@
 ghost use Rattle.std.specs.Prelude.{◌≡◌};
 ghost use Rattle.gmpl_fault.specs.Outcome.{Gives};
 ghost use Rattle.gmpl_generate.specs.Rows as spec;
-ghost use Rattle.gmpl_meaning.specs.Restrictions as restrictions;
 ghost use Rattle.gmpl_meaning.specs.Members.{no_bounds};
 
 use crate::evaluation::{form_of, number_of};
 use fraction::Frac;
 use gmpl_data::LoadedModel;
+use gmpl_expr::{Context, with_bound};
 use gmpl_fault::EvalFault;
 use gmpl_forms::{Form, Sign};
 use gmpl_meaning::Bounds;
@@ -32,27 +32,6 @@ pub(crate) fn no_bounds() -> Bounds
     Bounds {
         lower: None,
         upper: None,
-    }
-}
-
-// The bounds with one more.
-fn with_bound(so_far: Bounds, relation: Relation, number: Frac) -> Bounds
-    ensures { result ≡ restrictions.with_bound so_far relation number }
-{
-    match relation {
-        Relation::AtLeast => Bounds {
-            lower: Some(number),
-            upper: so_far.upper,
-        },
-        Relation::AtMost => Bounds {
-            lower: so_far.lower,
-            upper: Some(number),
-        },
-        Relation::Equal => Bounds {
-            lower: Some(number),
-            upper: Some(number),
-        },
-        _ => so_far,
     }
 }
 
@@ -118,15 +97,18 @@ fn constant_moved_twice(
 fn two_sides(
     alloc: Global,
     model: &LoadedModel,
+    context: &mut Context<'_>,
     bindings: &Tuple,
     relation: Relation,
     left: &Expr,
     right: &Expr,
 ) -> Result<RowForm, EvalFault>
-    ensures { Gives result (spec.two_sides model.now bindings.now relation left.now right.now) }
+    requires of { context.old ≡ model.now }
+    ensures of { context.new ≡ model.now }
+    ensures value { Gives result (spec.two_sides model.now bindings.now relation left.now right.now) }
 {
-    let left = form_of(alloc, model, bindings, left)?;
-    let right = form_of(alloc, model, bindings, right)?;
+    let left = form_of(alloc, model, context, bindings, left)?;
+    let right = form_of(alloc, model, context, bindings, right)?;
     let form = left.combined(alloc, Sign::Minus, &right)?;
     Ok(constant_moved(relation, form))
 }
@@ -135,17 +117,20 @@ fn two_sides(
 fn three_sides(
     alloc: Global,
     model: &LoadedModel,
+    context: &mut Context<'_>,
     bindings: &Tuple,
     relation: Relation,
     first: &Expr,
     middle: &Expr,
     last: &Expr,
 ) -> Result<RowForm, EvalFault>
-    ensures { Gives result (spec.three_sides model.now bindings.now relation first.now middle.now last.now) }
+    requires of { context.old ≡ model.now }
+    ensures of { context.new ≡ model.now }
+    ensures value { Gives result (spec.three_sides model.now bindings.now relation first.now middle.now last.now) }
 {
-    let first = number_of(alloc, model, bindings, first)?;
-    let form = form_of(alloc, model, bindings, middle)?;
-    let last = number_of(alloc, model, bindings, last)?;
+    let first = number_of(alloc, model, context, bindings, first)?;
+    let form = form_of(alloc, model, context, bindings, middle)?;
+    let last = number_of(alloc, model, context, bindings, last)?;
     constant_moved_twice(relation, first, form, last)
 }
 
@@ -153,16 +138,19 @@ fn three_sides(
 pub(crate) fn constraint_form(
     alloc: Global,
     model: &LoadedModel,
+    context: &mut Context<'_>,
     bindings: &Tuple,
     constraint: &Constraint,
 ) -> Result<RowForm, EvalFault>
-    ensures { Gives result (spec.constraint_form model.now bindings.now constraint.now) }
+    requires of { context.old ≡ model.now }
+    ensures of { context.new ≡ model.now }
+    ensures value { Gives result (spec.constraint_form model.now bindings.now constraint.now) }
 {
     let relation = constraint.relation;
     let left = &constraint.left;
     let right = &constraint.right;
     match &constraint.last {
-        None => two_sides(alloc, model, bindings, relation, left, right),
-        Some(last) => three_sides(alloc, model, bindings, relation, left, right, last),
+        None => two_sides(alloc, model, context, bindings, relation, left, right),
+        Some(last) => three_sides(alloc, model, context, bindings, relation, left, right, last),
     }
 }

@@ -6,6 +6,7 @@ ghost use Rattle.gmpl_generate.specs.Rows as spec;
 use crate::evaluation::bounds_of;
 use fraction::Frac;
 use gmpl_data::LoadedModel;
+use gmpl_expr::Context;
 use gmpl_fault::EvalFault;
 use gmpl_forms::{Form, Variable};
 use gmpl_meaning::Bounds;
@@ -24,13 +25,16 @@ fn term_bounds(bounds: Bounds) -> TermBounds
 fn term_of(
     alloc: Global,
     model: &LoadedModel,
+    context: &mut Context<'_>,
     variable: &Variable,
     coefficient: Frac,
 ) -> Result<Term, EvalFault>
-    ensures { Gives result (spec.term_of model.now (variable.now, coefficient)) }
+    requires of { context.old ≡ model.now }
+    ensures of { context.new ≡ model.now }
+    ensures value { Gives result (spec.term_of model.now (variable.now, coefficient)) }
 {
     let place = variable.statement as usize;
-    let bounds = bounds_of(alloc, model, place, &variable.subscripts)?;
+    let bounds = bounds_of(alloc, model, context, place, &variable.subscripts)?;
     Ok(Term {
         variable: variable.copied(alloc)?,
         bounds: term_bounds(bounds),
@@ -42,16 +46,19 @@ fn term_of(
 fn push_term(
     alloc: Global,
     model: &LoadedModel,
+    context: &mut Context<'_>,
     found: &mut Vec<Term>,
     form: &Form,
     place: usize,
 ) -> Result<(), EvalFault>
-    ensures { Follows result found.new.items (spec.term_at model.now found.old.items (slice_get form.now.terms place)) }
+    requires of { context.old ≡ model.now }
+    ensures of { context.new ≡ model.now }
+    ensures value { Follows result found.new.items (spec.term_at model.now found.old.items (slice_get form.now.terms place)) }
 {
     match form.term(place) {
         None => Ok(()),
         Some((variable, coefficient)) => {
-            found.push(term_of(alloc, model, variable, *coefficient)?)?;
+            found.push(term_of(alloc, model, context, variable, *coefficient)?)?;
             Ok(())
         }
     }
@@ -61,13 +68,16 @@ fn push_term(
 pub(crate) fn terms_of(
     alloc: Global,
     model: &LoadedModel,
+    context: &mut Context<'_>,
     form: &Form,
 ) -> Result<Vec<Term>, EvalFault>
-    ensures { GivesAs (λ terms. terms.items) result (spec.terms_of model.now [] form.now.terms) }
+    requires of { context.old ≡ model.now }
+    ensures of { context.new ≡ model.now }
+    ensures value { GivesAs (λ terms. terms.items) result (spec.terms_of model.now [] form.now.terms) }
 {
     let mut found = Vec::new(alloc);
     for place in 0..form.len() {
-        push_term(alloc, model, &mut found, form, place)?;
+        push_term(alloc, model, context, &mut found, form, place)?;
     }
     Ok(found)
 }

@@ -1,4 +1,5 @@
 pub mod Names
+pub mod Given
 pub mod Wholes
 pub mod Columns
 pub mod Objects

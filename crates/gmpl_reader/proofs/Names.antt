@@ -11,7 +11,7 @@ use Rattle.gmpl_resolved.specs.declared.statement.Statement.TheVariants as s
 use Rattle.gmpl_rows.specs.declared.declared.Declared.{Declared}
 use Rattle.gmpl_rows.specs.Premises.{AreObjects, declared_name}
 use Rattle.milp.specs.Problem.{Problem}
-use Rattle.gmpl_data.specs.declared.tables.DataTables.{DataTables}
+use Rattle.gmpl_load.specs.Tables.{Tables}
 use Rattle.gmpl_generate.specs.declared.fault.ModelFault.{ModelFault}
 use Rattle.gmpl_generate.specs.Problem.{all_declared, declared_at, declared_by, generated}
 use Rattle.gmpl_object_names.specs.Names.{names_of, head_of}
@@ -35,15 +35,14 @@ NamesObjects =
 
 module _ (text : List ℕ) (tokens : Tokens) (is : tokens ≡ tokens_of text) where
   -- what is asked of the objects of a model, where it is read from a text
-  pub are_objects : (model : Parsed) → NamesObjects → parsed tokens ≡ Ok model → AreObjects (all_declared (loaded model))
-  are_objects model law read = law text model (all_declared (loaded model)) (subst (λ ts. parsed ts ≡ Ok model) is read) (names_are_heads model.statements)
+  pub are_objects : (model : Parsed) → NamesObjects → parsed tokens ≡ Ok model → (tables : Tables) → AreObjects (all_declared (loaded model tables))
+  are_objects model law read tables = law text model (all_declared (loaded model tables)) (subst (λ ts. parsed ts ≡ Ok model) is read) (names_are_heads model.statements)
 
   pub is_model : (r : Result Parsed SyntaxFault) → parsed tokens ≡ r → model_in text ≡ r
   unfolding model_in
   is_model r read = subst (λ ts. parsed ts ≡ r) is read
 
--- a model to which no data are given is executed as this
-pub is_executed : (model : Parsed) (tables : DataTables) → tables.objects ≡ [] → (r : Result Problem ModelFault)
-    → generated (record { statements = model.statements; tables = tables }) ≡ r → executed model ≡ of_execution r
+-- a model with these data is executed as this
+pub is_executed : (model : Parsed) (tables : Tables) (r : Result Problem ModelFault) → generated (loaded model tables) ≡ r → executed model tables ≡ of_execution r
 unfolding executed
-is_executed model tables none r e = ap of_execution (subst (λ objects. generated (record { statements = model.statements; tables = record { objects = objects } }) ≡ r) none e)
+is_executed model tables r e = ap of_execution e

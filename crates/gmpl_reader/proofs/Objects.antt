@@ -20,7 +20,9 @@ use Rattle.gmpl_rows.specs.declared.fault.DraftFault.TheVariants as draft
 use Rattle.gmpl_rows.specs.declared.term.Term.{Term}
 use Rattle.gmpl_generate.specs.declared.fault.ModelFault.{ModelFault}
 use Rattle.gmpl_generate.specs.Rows.{row_form, row_head, outcome_of, aim, terms_of, form_of, constraint_form, with_form, constraint_row, with_objective_form, objective_row}
-use Rattle.gmpl_generate.specs.Execution.{over, executed, then_on, of_statement, executed_at, executed_from}
+use Rattle.gmpl_generate.specs.Faults.{then_on, of_statement}
+use Rattle.gmpl_generate.specs.Checks.{checked}
+use Rattle.gmpl_generate.specs.Execution.{over, executed, executed_at, executed_from}
 
 -- a draft of these objects, or a fault
 abbrev pub Keeps : {F : Type 0} → List Declared → Result Draft F → Type 0
@@ -88,9 +90,13 @@ module _ (vs : List Declared) (model : LoadedModel) (place : ℕ) where
 
 -- ---- the statements
 
-at_statement : (vs : List Declared) (place line : ℕ) (o : Outcome Draft) → Keeps vs o → Keeps vs (of_statement place line o)
-at_statement vs place line (Ok d) k = k
-at_statement vs place line (Err f) k = tt
+at_statement : (vs : List Declared) (number line : ℕ) (o : Outcome Draft) → Keeps vs o → Keeps vs (of_statement number line o)
+at_statement vs number line (Ok d) k = k
+at_statement vs number line (Err f) k = tt
+
+keeps_behind : {A : Type 0} (vs : List Declared) (o : Result A ModelFault) (go : A → Result Draft ModelFault) → ((a : A) → Keeps vs (go a)) → Keeps vs (then_on go o)
+keeps_behind vs (Ok a) go h = h a
+keeps_behind vs (Err f) go h = tt
 
 keeps_on_statements : (vs : List Declared) (o : Result Draft ModelFault) (go : Draft → Result Draft ModelFault) → Keeps vs o → ((d : Draft) → d.objects ≡ vs → Keeps vs (go d)) → Keeps vs (then_on go o)
 keeps_on_statements vs (Ok d) go k h = h d k
@@ -100,4 +106,6 @@ pub execution_keeps : (vs : List Declared) (model : LoadedModel) (place : ℕ) (
 execution_keeps vs model place [] d k = k
 execution_keeps vs model place (s ∷ ss) d k =
     keeps_on_statements vs (executed_at model place s d) (executed_from model (place + 1) ss)
-    (at_statement vs place s.line (executed model place s.statement d) (statement_keeps vs model place s.statement d k)) (λ more m. execution_keeps vs model (place + 1) ss more m)
+    (keeps_behind vs (checked model s.checks) (λ _. of_statement s.number s.line (executed model place s.statement d))
+    (λ _. at_statement vs s.number s.line (executed model place s.statement d) (statement_keeps vs model place s.statement d k)))
+    (λ more m. execution_keeps vs model (place + 1) ss more m)

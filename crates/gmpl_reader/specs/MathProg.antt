@@ -1,6 +1,6 @@
 -- The problem that a MathProg text declares (GNU MathProg Language Reference): its tokens, its statements with their names and
--- kinds, and their execution without data from outside; or the first fault of these, in this order.
-use Rattle.std.specs.Prelude.{◌≡◌, ℕ, List, [], Result, Ok, Err}
+-- kinds, what its data section gives, and their execution; or the first fault of these, in this order.
+use Rattle.std.specs.Prelude.{◌≡◌, ℕ, List, Result, Ok, Err}
 use Rattle.milp.specs.Problem.{Problem}
 use Rattle.model_text.specs.declared.error.ReadError.{ReadError}
 use Rattle.model_text.specs.declared.error.ReadError.TheVariants.{Fault, NoMemory}
@@ -9,14 +9,17 @@ use Rattle.gmpl_syntax.specs.declared.fault.SyntaxFault.{SyntaxFault}
 use Rattle.gmpl_parse.specs.Models.{parsed}
 use Rattle.gmpl_parse.specs.declared.model.Model.{Model as Parsed}
 use Rattle.gmpl_data.specs.declared.tables.LoadedModel.{LoadedModel}
+use Rattle.gmpl_data_input.specs.declared.fault.DataFault.{DataFault}
+use Rattle.gmpl_load.specs.Tables.{Tables}
 use Rattle.gmpl_generate.specs.Problem.{generated}
 use Rattle.gmpl_generate.specs.declared.fault.ModelFault.{ModelFault}
+use Rattle.gmpl_reader.specs.Data.{given}
 use Rattle.gmpl_reader.specs.declared.fault.MathProgFault.{MathProgFault}
-use Rattle.gmpl_reader.specs.declared.fault.MathProgFault.TheVariants.{Syntax, Model}
+use Rattle.gmpl_reader.specs.declared.fault.MathProgFault.TheVariants.{Syntax, Model, Data}
 
--- a model to which no data are given
-abbrev pub loaded : Parsed → LoadedModel
-loaded model = record { statements = model.statements; tables = record { objects = [] } }
+-- a model to whose objects data give this
+abbrev pub loaded : Parsed → Tables → LoadedModel
+loaded model tables = record { statements = model.statements; checks = model.checks; tables = record { objects = tables } }
 
 -- the model that a text is, or its first bad statement
 unfoldable pub model_in : List ℕ → Result Parsed SyntaxFault
@@ -26,17 +29,21 @@ abbrev pub of_execution : Result Problem ModelFault → Result Problem MathProgF
 of_execution (Ok problem) = Ok problem
 of_execution (Err fault) = Err (Model fault)
 
--- what a model without data from outside comes to
-unfoldable pub executed : Parsed → Result Problem MathProgFault
-executed model = of_execution (generated (loaded model))
+-- what a model with its data comes to
+unfoldable pub executed : Parsed → Tables → Result Problem MathProgFault
+executed model tables = of_execution (generated (loaded model tables))
 
-abbrev pub of_model : Result Parsed SyntaxFault → Result Problem MathProgFault
-of_model (Ok model) = executed model
-of_model (Err fault) = Err (Syntax fault)
+abbrev pub of_data : Parsed → Result Tables DataFault → Result Problem MathProgFault
+of_data model (Ok tables) = executed model tables
+of_data model (Err fault) = Err (Data fault)
+
+abbrev pub of_model : List ℕ → Result Parsed SyntaxFault → Result Problem MathProgFault
+of_model text (Ok model) = of_data model (given text model)
+of_model text (Err fault) = Err (Syntax fault)
 
 -- the problem that a text declares, or its first fault
 abbrev pub declared : List ℕ → Result Problem MathProgFault
-declared text = of_model (model_in text)
+declared text = of_model text (model_in text)
 
 -- the call's fault is the definition's; want of memory is free
 abbrev pub IsReadingFault : Result Problem MathProgFault → ReadError MathProgFault → Type 0
@@ -47,4 +54,5 @@ IsReadingFault right NoMemory = Unit {0}
 abbrev pub IsNoModel : Result Parsed SyntaxFault → ReadError MathProgFault → Type 0
 IsNoModel right (Fault (Syntax fault)) = right ≡ Err fault
 IsNoModel right (Fault (Model fault)) = ⊥
+IsNoModel right (Fault (Data fault)) = ⊥
 IsNoModel right NoMemory = Unit {0}

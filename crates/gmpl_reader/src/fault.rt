@@ -1,4 +1,5 @@
 // What is wrong with a MathProg text.
+use gmpl_data_input::DataFault;
 use gmpl_generate::ModelFault;
 use gmpl_syntax::SyntaxFault;
 
@@ -7,6 +8,8 @@ use gmpl_syntax::SyntaxFault;
 pub enum MathProgFault {
     /// The text is no model: its first bad statement.
     Syntax(SyntaxFault),
+    /// A block of the data section behind it is bad.
+    Data(DataFault),
     /// A statement of the model can't be executed.
     Model(ModelFault),
 }

@@ -1,6 +1,7 @@
 //! Reads MathProg texts.
 #![tactic(auto)]
 
+mod data;
 mod fault;
 mod laws;
 mod read;

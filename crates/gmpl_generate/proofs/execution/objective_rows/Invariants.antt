@@ -6,4 +6,4 @@ use Rattle.gmpl_generate.proofs.execution.objective_rows.Given as goal
 
 abbrev pub invariant-loop-element : goal.invariant-loop-element
 invariant-loop-element l =
-    over (objective_row l.model l.place l.objective) l.walk.elements l.walk.fault l.initial.draft ≡ over (objective_row l.model l.place l.objective) (drop l.element-index l.walk.elements) l.walk.fault l.draft
+    (over (objective_row l.model l.place l.objective) l.walk.elements l.walk.fault l.initial.draft ≡ over (objective_row l.model l.place l.objective) (drop l.element-index l.walk.elements) l.walk.fault l.draft) × (l.context ≡ l.model)

@@ -1,8 +1,9 @@
 // How the tables write problems and faults.
-use fraction::{Frac, NoFit, Op};
-use gmpl_fault::EvalFault;
-use gmpl_generate::{GenerateError, ModelFault};
-use instance::{Column, Direction, Entry, Instance, Row};
+use fraction::Frac;
+use gmpl_reader::MathProgFault;
+use instance::{Column, Direction, Entry, Instance, Name, Row};
+use model_text::ReadError;
+use solution_writer::{Fault, fault_line};
 use std::alloc::{AllocError, Global};
 
 fn column_name(columns: &[Column], place: u32) -> &str {
@@ -103,55 +104,30 @@ fn problem_word(alloc: Global, problem: &Instance) -> Result<String, AllocError>
 
 // ---- faults
 
-fn operation_word(op: Op) -> &'static str {
-    match op {
-        Op::Add => "+",
-        Op::Sub => "-",
-        Op::Mul => "*",
-        Op::Div => "/",
+// What a line tells of a text: its fault, or that its file is missing.
+fn told<'a>(name: &'a Name, fault: Option<MathProgFault>) -> Fault<'a> {
+    match fault {
+        None => Fault::Missing(name),
+        Some(MathProgFault::Syntax(fault)) => Fault::Syntax(fault),
+        Some(MathProgFault::Data(fault)) => Fault::Data(fault),
+        Some(MathProgFault::Model(fault)) => Fault::Model(fault),
     }
 }
 
-fn no_fit_word(alloc: Global, no_fit: NoFit) -> Result<String, AllocError> {
-    let op = operation_word(no_fit.op);
-    let first = no_fit.a.text(alloc)?;
-    let second = no_fit.b.text(alloc)?;
-    format!(in alloc; "NoFit {first} {op} {second}")
+fn fault_word(alloc: Global, fault: MathProgFault) -> Result<String, AllocError> {
+    let name = Name::new(alloc, "text")?;
+    let line = fault_line(alloc, &told(&name, Some(fault)))?;
+    line.as_str().trim().to_string(alloc)
 }
 
-fn kind_word(alloc: Global, kind: EvalFault) -> Result<String, AllocError> {
-    let word = match kind {
-        EvalFault::NoFit(no_fit) => return no_fit_word(alloc, no_fit),
-        EvalFault::NoValue => "NoValue",
-        EvalFault::OutOfDomain => "OutOfDomain",
-        EvalFault::Restriction => "Restriction",
-        EvalFault::DivZero => "DivZero",
-        EvalFault::NotWhole => "NotWhole",
-        EvalFault::NotANumber => "NotANumber",
-        EvalFault::Nonlinear => "Nonlinear",
-        EvalFault::BadFormat => "BadFormat",
-        EvalFault::Depth => "Depth",
-        EvalFault::TooMany => "TooMany",
-        EvalFault::NoMemory => "NoMemory",
-    };
-    word.to_string(alloc)
-}
-
-fn fault_word(alloc: Global, fault: ModelFault) -> Result<String, AllocError> {
-    let statement = fault.statement;
-    let line = fault.line;
-    let kind = kind_word(alloc, fault.kind)?;
-    format!(in alloc; "statement {statement}, line {line}: {kind}")
-}
-
-/// A problem, or why there is none.
+/// The problem of a text, or why there is none.
 pub(crate) fn answer_word(
     alloc: Global,
-    answer: Result<Instance, GenerateError>,
+    answer: Result<Instance, ReadError<MathProgFault>>,
 ) -> Result<String, AllocError> {
     match answer {
         Ok(problem) => problem_word(alloc, &problem),
-        Err(GenerateError::Fault(fault)) => fault_word(alloc, fault),
-        Err(GenerateError::NoMemory) => "no memory".to_string(alloc),
+        Err(ReadError::Fault(fault)) => fault_word(alloc, fault),
+        Err(ReadError::NoMemory) => "no memory".to_string(alloc),
     }
 }

@@ -1,0 +1,78 @@
+-- What the data section behind a model gives to its objects (GNU MathProg Language Reference, chapter on model data).
+use Rattle.std.specs.Prelude.{◌≡◌, ℕ, ◌+◌, Bool, true, false, if◌then◌else◌, List, [], ◌∷◌, ◌++◌, Option, Some, None, Result, Ok, Err}
+use Rattle.model_text.specs.declared.error.ReadError.{ReadError}
+use Rattle.model_text.specs.declared.error.ReadError.TheVariants.{Fault, NoMemory}
+use Rattle.gmpl_resolved.specs.declared.statement.Attribute.{Attribute}
+use Rattle.gmpl_resolved.specs.declared.statement.Attribute.TheVariants as a
+use Rattle.gmpl_resolved.specs.declared.statement.Statement.{Statement}
+use Rattle.gmpl_resolved.specs.declared.statement.Statement.TheVariants as s
+use Rattle.gmpl_resolved.specs.declared.statement.Numbered.{Numbered}
+use Rattle.gmpl_kinds.specs.declared.shape.Object.{Object}
+use Rattle.gmpl_kinds.specs.declared.shape.Sort.{Sort}
+use Rattle.gmpl_kinds.specs.declared.shape.Sort.TheVariants as sort
+use Rattle.gmpl_kinds.specs.Demands.{or_one}
+use Rattle.gmpl_parse.specs.declared.model.Model.{Model as Parsed}
+use Rattle.gmpl_object_names.specs.Names.{names_of}
+use Rattle.gmpl_data_tokens.specs.Tokens.{data_tokens}
+use Rattle.gmpl_data_input.specs.declared.fault.DataFault.{DataFault}
+use Rattle.gmpl_load.specs.declared.objects.DataObject.{DataObject}
+use Rattle.gmpl_load.specs.declared.objects.DataSort.{DataSort}
+use Rattle.gmpl_load.specs.declared.objects.DataSort.TheVariants as given_as
+use Rattle.gmpl_load.specs.Tables.{Tables}
+use Rattle.gmpl_load.specs.Texts.{all_tables}
+use Rattle.gmpl_reader.specs.declared.fault.MathProgFault.{MathProgFault}
+use Rattle.gmpl_reader.specs.declared.fault.MathProgFault.TheVariants.{Syntax, Model, Data}
+
+-- ---- the objects of a model, as data see them
+
+abbrev pub assigns : Attribute → Bool
+assigns (a.Assigned x) = true
+assigns _ = false
+
+-- `:=`
+abbrev pub is_assigned : List Attribute → Bool
+is_assigned [] = false
+is_assigned (x ∷ xs) = if assigns x then true else is_assigned xs
+
+abbrev pub has_expression : Statement → Bool
+has_expression (s.Set d) = is_assigned d.attributes
+has_expression (s.Param d) = is_assigned d.attributes
+has_expression _ = false
+
+abbrev pub data_sort : Sort → Option ℕ → DataSort
+data_sort sort.Set n = given_as.Set (or_one n)
+data_sort sort.Param n = given_as.Parameter
+data_sort _ n = given_as.Other
+
+abbrev pub data_object : Numbered → Object → DataObject
+data_object x o = record { sort = data_sort o.sort o.elements; subscripts = o.subscripts; has_expression = has_expression x.statement }
+
+-- in order; each statement declares one
+abbrev pub data_objects : List Numbered → List Object → List DataObject
+data_objects [] os = []
+data_objects (x ∷ xs) [] = []
+data_objects (x ∷ xs) (o ∷ os) = data_object x o ∷ data_objects xs os
+
+abbrev pub with_name : List (List ℕ) → List ℕ → List (List ℕ)
+with_name names name = names ++ name ∷ []
+
+-- ---- what is given
+
+-- by the data behind so many bytes of a text
+unfoldable pub given_behind : List ℕ → Parsed → ℕ → Result Tables DataFault
+given_behind text model start = all_tables (names_of model.statements) (data_objects model.statements model.objects) (data_tokens start text ∷ [])
+
+abbrev pub given_by : List ℕ → Parsed → Option ℕ → Result Tables DataFault
+given_by text model None = Ok []
+given_by text model (Some at) = given_behind text model (at + 1)
+
+-- by the section behind the model: nothing, where there is none
+abbrev pub given : List ℕ → Parsed → Result Tables DataFault
+given text model = given_by text model model.data_at
+
+-- the call's fault is the definition's; want of memory is free
+abbrev pub IsNoData : Result Tables DataFault → ReadError MathProgFault → Type 0
+IsNoData right (Fault (Data fault)) = right ≡ Err fault
+IsNoData right (Fault (Syntax fault)) = ⊥
+IsNoData right (Fault (Model fault)) = ⊥
+IsNoData right NoMemory = Unit {0}

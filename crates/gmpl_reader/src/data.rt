@@ -1,0 +1,173 @@
+// What the data section behind a model gives.
+ghost use Rattle.std.specs.Prelude.{◌≡◌, [], ◌∷◌, IfOk, IfErr, Ok};
+ghost use Rattle.gmpl_data_tokens.specs.Tokens.{data_tokens};
+ghost use Rattle.gmpl_object_names.specs.Names.{object_name, names_of};
+ghost use Rattle.gmpl_reader.specs.Data as spec;
+ghost use Rattle.gmpl_reader.specs.Data.{IsNoData};
+
+use crate::fault::MathProgFault;
+use gmpl_data::DataTables;
+use gmpl_data_tokens::read_data_tokens;
+use gmpl_kinds::{Object, Sort, or_one};
+use gmpl_load::{DataObject, DataSort, LoadError, load};
+use gmpl_parse::Model;
+use gmpl_resolved::{Attribute, Declaration, Numbered, Statement};
+use gmpl_token::Tokens;
+use model_text::{Names, ReadError};
+use std::alloc::{AllocError, Global};
+
+// ---- the objects of a model, as data see them
+
+fn assigns(attribute: &Attribute) -> bool
+    ensures { result ≡ spec.assigns attribute.now }
+{
+    match attribute {
+        Attribute::Assigned(_) => true,
+        _ => false,
+    }
+}
+
+fn is_assigned(attributes: &[Attribute]) -> bool
+    ensures { result ≡ spec.is_assigned attributes.now }
+{
+    for attribute in attributes {
+        if assigns(attribute) {
+            return true;
+        }
+    }
+    false
+}
+
+// Whether an expression of the model gives it its value.
+fn has_expression(statement: &Statement) -> bool
+    ensures { result ≡ spec.has_expression statement.now }
+{
+    match statement {
+        Statement::Set(Declaration { attributes, .. })
+        | Statement::Param(Declaration { attributes, .. }) => is_assigned(attributes.as_slice()),
+        _ => false,
+    }
+}
+
+fn data_sort(sort: Sort, elements: Option<usize>) -> DataSort
+    ensures { result ≡ spec.data_sort sort elements }
+{
+    match sort {
+        Sort::Set => DataSort::Set(or_one(elements)),
+        Sort::Param => DataSort::Parameter,
+        _ => DataSort::Other,
+    }
+}
+
+fn data_object(numbered: &Numbered, object: Object) -> DataObject
+    ensures { result ≡ spec.data_object numbered.now object }
+{
+    DataObject {
+        sort: data_sort(object.sort, object.elements),
+        subscripts: object.subscripts,
+        has_expression: has_expression(&numbered.statement),
+    }
+}
+
+// In order; each statement declares one.
+fn data_objects(
+    alloc: Global,
+    statements: &[Numbered],
+    objects: &[Object],
+) -> Result<Vec<DataObject>, AllocError>
+    ensures { IfOk result (λ made. made.items ≡ spec.data_objects statements.now objects.now) }
+{
+    let mut made = Vec::new(alloc);
+    for (place, numbered) in statements.iter().enumerate() {
+        match objects.get(place) {
+            None => return Ok(made),
+            Some(object) => made.push(data_object(numbered, *object))?,
+        }
+    }
+    Ok(made)
+}
+
+// ---- their names
+
+fn name_of(numbered: &Numbered) -> &str
+    ensures { result.now ≡ object_name numbered.now }
+{
+    match &numbered.statement {
+        Statement::Set(declaration) => declaration.head.name.as_str(),
+        Statement::Param(declaration) => declaration.head.name.as_str(),
+        Statement::Var(declaration) => declaration.head.name.as_str(),
+        Statement::Constraint(constraint) => constraint.head.name.as_str(),
+        Statement::Objective(objective) => objective.head.name.as_str(),
+    }
+}
+
+// Names of which two are the same, which no model has, count as want of memory.
+fn with_name<'a>(names: &mut Names<'a>, name: &'a str) -> Result<(), AllocError>
+    ensures { IfOk result (λ done. names.new ≡ spec.with_name names.old name.now) }
+{
+    match names.place(name) {
+        Some(_) => Err(AllocError),
+        None => names.push(name),
+    }
+}
+
+fn names_of(alloc: Global, statements: &[Numbered]) -> Result<Names<'_>, AllocError>
+    ensures { IfOk result (λ names. names ≡ names_of statements.now) }
+{
+    let mut names = Names::new(alloc);
+    for numbered in statements {
+        with_name(&mut names, name_of(numbered))?;
+    }
+    Ok(names)
+}
+
+// ---- what is given
+
+// The data behind so many bytes of a text, as a list of one text.
+fn one_text(alloc: Global, text: &[u8], start: usize) -> Result<Vec<Tokens<'_>>, AllocError>
+    ensures { IfOk result (λ texts. texts.items ≡ data_tokens start text.now ∷ []) }
+{
+    let mut texts = Vec::new(alloc);
+    texts.push(read_data_tokens(alloc, text, start)?)?;
+    Ok(texts)
+}
+
+// What the data behind so many bytes of a text give.
+fn given_behind(
+    alloc: Global,
+    text: &[u8],
+    model: &Model,
+    start: usize,
+) -> Result<DataTables, ReadError<MathProgFault>>
+    ensures tables { IfOk result (λ given. spec.given_behind text.now model.now start ≡ Ok given.objects) }
+    ensures fault { IfErr result (IsNoData (spec.given_behind text.now model.now start)) }
+{
+    let statements = model.statements.as_slice();
+    let names = names_of(alloc, statements)?;
+    let objects = data_objects(alloc, statements, model.objects.as_slice())?;
+    let texts = one_text(alloc, text, start)?;
+    match load(alloc, &names, &objects, &texts) {
+        Ok(given) => Ok(given),
+        Err(LoadError::Fault(fault)) => Err(ReadError::Fault(MathProgFault::Data(fault))),
+        Err(LoadError::NoMemory) => Err(ReadError::NoMemory),
+    }
+}
+
+/// What the data section behind a model gives to its objects; nothing, where there is none. A place of a text that has no place
+/// behind it, which no text reaches, counts as want of memory.
+pub(crate) fn given(
+    alloc: Global,
+    text: &[u8],
+    model: &Model,
+) -> Result<DataTables, ReadError<MathProgFault>>
+    ensures tables { IfOk result (λ given. spec.given text.now model.now ≡ Ok given.objects) }
+    ensures fault { IfErr result (IsNoData (spec.given text.now model.now)) }
+{
+    match model.data_at {
+        None => Ok(DataTables::empty(alloc)),
+        Some(at) => match at.checked_add(1) {
+            Some(start) => given_behind(alloc, text, model, start),
+            None => Err(ReadError::NoMemory),
+        },
+    }
+}

@@ -1,0 +1,7 @@
+//! Tests of the problems that MathProg texts declare, by public calls alone.
+#![tactic(auto)]
+
+#[cfg(test)]
+mod models;
+#[cfg(test)]
+mod words;
