@@ -1,26 +1,15 @@
 /* The cheapest food with enough energy, protein and calcium. */
 
-set FOODS := {'oats', 'chicken', 'eggs', 'milk', 'pie', 'pork'};
+set FOODS;
 
-/* cents a serving */
-param price{f in FOODS} :=
-   if f = 'oats' then 3 else if f = 'chicken' then 24 else if f = 'eggs' then 13
-   else if f = 'milk' then 9 else if f = 'pie' then 20 else 19;
-
-/* kilocalories, grams and milligrams a serving */
-param energy{f in FOODS} :=
-   if f = 'oats' then 110 else if f = 'chicken' then 205 else if f = 'pie' then 420
-   else if f = 'pork' then 260 else 160;
-param protein{f in FOODS} :=
-   if f = 'chicken' then 32 else if f = 'eggs' then 13 else if f = 'milk' then 8
-   else if f = 'pork' then 14 else 4;
-param calcium{f in FOODS} :=
-   if f = 'oats' then 2 else if f = 'chicken' then 12 else if f = 'eggs' then 54
-   else if f = 'milk' then 285 else if f = 'pie' then 22 else 80;
+/* cents, kilocalories, grams and milligrams a serving */
+param price{FOODS}, >= 0;
+param energy{FOODS}, >= 0;
+param protein{FOODS}, >= 0;
+param calcium{FOODS}, >= 0;
 
 /* servings a day */
-param most{f in FOODS} :=
-   if f = 'oats' then 4 else if f = 'chicken' then 3 else if f = 'milk' then 8 else 2;
+param most{FOODS}, integer, default 2;
 
 var servings{f in FOODS} >= 0, <= most[f];
 
@@ -29,5 +18,15 @@ minimize cost: sum{f in FOODS} price[f] * servings[f];
 s.t. enough_energy: sum{f in FOODS} energy[f] * servings[f] >= 2000;
 s.t. enough_protein: sum{f in FOODS} protein[f] * servings[f] >= 55;
 s.t. enough_calcium: sum{f in FOODS} calcium[f] * servings[f] >= 800;
+
+data;
+
+param : FOODS :   price  energy  protein  calcium  most :=
+   oats              3     110       4        2      4
+   chicken          24     205      32       12      3
+   eggs             13     160      13       54      .
+   milk              9     160       8      285      8
+   pie              20     420       4       22      .
+   pork             19     260      14       80      . ;
 
 end;

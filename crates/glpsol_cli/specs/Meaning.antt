@@ -39,6 +39,7 @@ pub record Meaning : Type 0 where
 
 abbrev pub text_fault_of : MathProgFault → TextFault
 text_fault_of (math_prog.Syntax fault) = text_fault.Syntax fault
+text_fault_of (math_prog.Data fault) = text_fault.Data fault
 text_fault_of (math_prog.Model fault) = text_fault.Model fault
 
 -- a fault as one of a text of any language

@@ -1,6 +1,6 @@
 -- What a run writes with each answer: the pieces of what it reached, or the first of them, and then the line of a fault or a part of it.
 use Rattle.std.specs.Prelude.{ℕ, List, [], codes}
-use Rattle.solution_writer.specs.FaultLine.{named_line, overflow_line, usage_line, syntax_line, model_line, file_line, certificate_line, undecided_pivots_line, refused_line, no_memory_line}
+use Rattle.solution_writer.specs.FaultLine.{named_line, overflow_line, usage_line, syntax_line, data_line, model_line, file_line, certificate_line, undecided_pivots_line, refused_line, no_memory_line}
 use Rattle.glpsol_cli.specs.Pieces.{Piece, Outside, IsWrittenInPart, Extent, Whole, UpTo, Part, WrittenTo}
 use Rattle.glpsol_cli.specs.Meaning.{OfPieces}
 use Rattle.glpsol_cli.specs.Cause.{reached_of}
@@ -9,7 +9,7 @@ use Rattle.glpsol_cli.specs.declared.answer.Answer.TheVariants.{Optimal, Infeasi
 use Rattle.glpsol_cli.specs.declared.answer.Target.{Target}
 use Rattle.glpsol_cli.specs.declared.answer.Target.TheVariants.{Out, File}
 use Rattle.glpsol_cli.specs.declared.answer.TextFault.{TextFault}
-use Rattle.glpsol_cli.specs.declared.answer.TextFault.TheVariants.{Syntax, Model, File as FileText}
+use Rattle.glpsol_cli.specs.declared.answer.TextFault.TheVariants.{Syntax, Data, Model, File as FileText}
 
 -- the line of a target that can't be written; the output has none
 abbrev pub target_line_of : Target → List ℕ
@@ -18,6 +18,7 @@ target_line_of (File name) = named_line (codes "write fault") name
 
 abbrev pub text_line : TextFault → List ℕ
 text_line (Syntax fault) = syntax_line fault
+text_line (Data fault) = data_line fault
 text_line (Model fault) = model_line fault
 text_line (FileText fault) = file_line fault
 

@@ -5,6 +5,7 @@ use cert_check::Part;
 use certificate::Certificate;
 use certificate_reader::CertFault;
 use fraction::NoFit;
+use gmpl_data_input::DataFault;
 use gmpl_generate::ModelFault;
 use gmpl_syntax::SyntaxFault;
 use instance::Name;
@@ -25,6 +26,8 @@ pub enum Target {
 pub enum TextFault {
     /// A MathProg text is no model: its first bad statement.
     Syntax(SyntaxFault),
+    /// A block of data of a MathProg model is bad.
+    Data(DataFault),
     /// A statement of a MathProg model can't be executed.
     Model(ModelFault),
     /// A line of a free MPS or CPLEX LP text.

@@ -56,6 +56,7 @@ fn math_prog_fault(fault: MathProgFault) -> TextFault
 {
     match fault {
         MathProgFault::Syntax(fault) => TextFault::Syntax(fault),
+        MathProgFault::Data(fault) => TextFault::Data(fault),
         MathProgFault::Model(fault) => TextFault::Model(fault),
     }
 }

@@ -52,6 +52,7 @@ fn line(alloc: Global, answer: &Answer) -> Result<String, AllocError>
         Answer::WriteFault { target, .. } => target_line(alloc, target),
         Answer::TooLong(name) => fault_line(alloc, &Fault::TooLong(name)),
         Answer::BadText(TextFault::Syntax(fault)) => fault_line(alloc, &Fault::Syntax(*fault)),
+        Answer::BadText(TextFault::Data(fault)) => fault_line(alloc, &Fault::Data(*fault)),
         Answer::BadText(TextFault::Model(fault)) => fault_line(alloc, &Fault::Model(*fault)),
         Answer::BadText(TextFault::File(fault)) => fault_line(alloc, &Fault::File(*fault)),
         Answer::BadCertificate(fault) => fault_line(alloc, &Fault::Certificate(*fault)),

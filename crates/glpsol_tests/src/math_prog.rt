@@ -8,6 +8,9 @@ const MODELS: &str = "\
 0 OPTIMAL$objective z 6$column x[1] 2$column x[2] 1$column x[3] 0$row z 6$row r 3$ <- -m f <- set I := 1..3; param c{i in I} := i*i; var x{I} >= 0, <= 2; minimize z: sum{i in I} c[i]*x[i]; s.t. r: sum{i in I} x[i] >= 3; end;
 0 TRANSLATED$rows 2$columns 3$ <- --math f --check <- set I := 1..3; param c{i in I} := i*i; var x{I} >= 0, <= 2; minimize z: sum{i in I} c[i]*x[i]; s.t. r: sum{i in I} x[i] >= 3; end;
 0 OPTIMAL$objective z 17$column x 17$row z 17$row r 17$ <- --math f <- var x; minimize z: x; s.t. r: x >= sum{i in 1..3} i*2 + 10 + 7 mod -2 - 2**2; end;
+0 OPTIMAL$objective z 18$column x 18$row z 18$row r 18$ <- --math f <- param p{1..2}; var x; minimize z: x; s.t. r: x >= p[1]+p[2]; data; param p := 1 9 2 9; end;
+0 OPTIMAL$objective z 54$column x 54$row z 54$row r 54$ <- --math f <- param c{1..2,1..2}; var x; minimize z: x; s.t. r: x >= c[1,2]*10 + c[2,1]; data; param c (tr): 1 2 := 1 3 4 2 5 6; end;
+0 OPTIMAL$objective z 45$column x 45$row z 45$row r 45$ <- --math f <- param c{1..2,1..2}; var x; minimize z: x; s.t. r: x >= c[1,2]*10 + c[2,1]; data; param c : 1 2 := 1 3 4 2 5 6; end;
 0 OPTIMAL$objective z 2$column y 2$row z 2$ <- --math f <- var x >= 1; var y >= 2; minimize z: x - x + y; end;
 0 OPTIMAL$objective profit 25/2$column x 3$column y 1/2$row profit 23/2$row a 7/2$row b -2$ <- --math f <- var x >= 0, <= 3;$var y >= 0;$maximize profit: 3*x + 5*y + 1;$a: x + y <= 7/2;$b: 0 <= 2*y - x + 5/2 <= 1/2;$end;$
 0 OPTIMAL$objective z 1$column x['a b',1] 1$column x[c-1,2] 0$row z 1$row r 1$ <- --math f --min <- set S := {('a b', 1), ('c-1', 2)}; var x{(i,j) in S} >= 0, <= j; maximize z: sum{(i,j) in S} j*x[i,j]; s.t. r: sum{(i,j) in S} x[i,j] = 1; end;
@@ -34,6 +37,8 @@ const OBJECTIVES: &str = "\
 0 OPTIMAL$objective z 136/7$column <- --math f <- set I := 1..4; param big := prod{i in I} i; param least := min{i in I} (i - 2)**2; param ok := if forall{i in I} i > 0 and exists{k in I} k mod 3 = 0 then 1 else 0; var x >= least, <= max{i in I} i**2; maximize z: ok*x + big/7; end;
 0 OPTIMAL$objective z 16/3$column <- --math f <- set I := 9 .. 1 by -2; param p{i in I} := (i less 4) + i div 2; var x{i in I} >= p[i]; minimize z: sum{i in I: i <> 5} x[i] / 3; s.t. r: x[5] + x[3] >= 21/2; end;
 0 OPTIMAL$objective z 23$column <- --math f <- set A := {'x','y'}; set B := 1..2; set AB := A cross B; set D := AB diff {('x',1)} union {('z',9)}; var v{D} >= 1; minimize z: sum{(a,b) in D} b*v[a,b]; s.t. r{(a,b) in D inter AB}: v[a,b] >= b + 1; end;
+0 OPTIMAL$objective cost 30735/2$column <- --math f <- set PLANTS; set MARKETS; param supply{PLANTS}, >= 0; param demand{MARKETS}, >= 0; param distance{PLANTS, MARKETS}, > 0; param freight := 9/100; check: sum{p in PLANTS} supply[p] >= sum{m in MARKETS} demand[m]; var shipped{PLANTS, MARKETS} >= 0; minimize cost: sum{p in PLANTS, m in MARKETS} freight * distance[p,m] * shipped[p,m]; s.t. within_supply{p in PLANTS}: sum{m in MARKETS} shipped[p,m] <= supply[p]; s.t. meets_demand{m in MARKETS}: sum{p in PLANTS} shipped[p,m] >= demand[m]; solve; data; set PLANTS := north south; set MARKETS := coast hills town; param supply := north 350 south 600; param demand := coast 325 hills 300 town 275; param distance : coast hills town := north 250 170 180 south 250 180 140; end;
+0 OPTIMAL$objective z 59$column <- --math f <- param comb{n in 0..7, k in 0..n}, integer, >= 1 := if k = 0 or k = n then 1 else comb[n-1,k-1] + comb[n-1,k]; check{n in 1..7}: sum{k in 0..n} comb[n,k] = 2**n; param d{1..3} default 8, >= 0; var x{i in 1..3} >= d[i]; minimize z: sum{i in 1..3} x[i]; s.t. r: x[2] >= comb[7,3] + d[1]; end;
 0 OPTIMAL$objective cost 420$column <- --math f <- set S := 1..2; set W := 1..2; set M := 1..3; var a{S,W} >= 0; var b{W,M} >= 0; minimize cost: sum{s in S, w in W} (s + 2*w)*a[s,w] + sum{w in W, m in M} abs(w - m)*b[w,m]; s.t. out{s in S}: sum{w in W} a[s,w] <= 40*s; s.t. through{w in W}: sum{s in S} a[s,w] = sum{m in M} b[w,m]; s.t. want{m in M}: sum{w in W} b[w,m] >= 20 + 5*m; end;
 ";
 
@@ -49,6 +54,10 @@ const FAULTS: &str = "\
 2 syntax fault: statement 2, line 3: Undeclared$ <- --math f <- var x;$$minimize z: x +$y;$end;
 2 syntax fault: statement 1, line 1: Unended$ <- --math f <- var x
 2 syntax fault: statement 1, line 1: Unsupported$ <- --math f <- var x integer; end;
+2 data fault: block 1, line 1: Unknown$ <- --math f <- var x; data; param q := 1; end;
+2 data fault: block 2, line 3: Twice$ <- --math f <- param p{1..2}; data;$param p := 1 5;$param p := 2 6 1 7; end;
+2 model fault: statement 3, line 2: CheckFailed$ <- --math f <- var x >= 1; minimize z: x;$check{i in 1..3}: i < 3; end;
+2 model fault: statement 3, line 1: Restriction$ <- --math f <- param p, > 1, default 1; var x; minimize z: p*x; end;
 2 model fault: statement 2, line 1: Nonlinear$ <- --math f <- var x; minimize z: x*x; end;
 2 model fault: statement 4, line 1: NoValue$ <- --math f --check <- param p; var x; minimize z: x; s.t. r: x >= p; s.t. q: x >= 0; end;
 2 model fault: statement 4, line 2: NoFit 100000000000000000000000000000000000000 * 10$ <- --math f <- param p := 10**38 * 10; var x; minimize z: x;$s.t. r: x >= p; end;

@@ -3,6 +3,7 @@ use Rattle.std.specs.Prelude.{ℕ, List, ◌++◌, codes}
 use Rattle.std.specs.Fmt.{decimal}
 use Rattle.fraction.specs.declared.frac.NoFit.{NoFit}
 use Rattle.gmpl_syntax.specs.declared.fault.SyntaxFault.{SyntaxFault}
+use Rattle.gmpl_data_input.specs.declared.fault.DataFault.{DataFault}
 use Rattle.gmpl_generate.specs.declared.fault.ModelFault.{ModelFault}
 use Rattle.model_text.specs.KindText.{kind_text}
 use Rattle.model_text.specs.declared.fault.FileFault.{FileFault}
@@ -11,23 +12,26 @@ use Rattle.certificate_lines.specs.declared.fault.FaultKind.TheVariants.{BadLine
 use Rattle.certificate_lines.specs.declared.fault.CertFault.{CertFault}
 use Rattle.cert_check.specs.declared.part.Part.{Part}
 use Rattle.cert_check.specs.declared.part.Part.TheVariants.{Size, Point, Value, Ray, DerivedRow, Node}
-use Rattle.solution_writer.specs.KindTexts.{operation_text, syntax_kind_text, model_kind_text}
+use Rattle.solution_writer.specs.KindTexts.{operation_text, syntax_kind_text, data_kind_text, model_kind_text}
 use Rattle.solution_writer.specs.declared.fault.Fault.{Fault}
-use Rattle.solution_writer.specs.declared.fault.Fault.TheVariants.{Usage, Missing, OpenFault, ReadFault, WriteFault, TooLong, Syntax, Model, File, Certificate, Overflow, UndecidedPivots, Refused, NoMemory}
+use Rattle.solution_writer.specs.declared.fault.Fault.TheVariants.{Usage, Missing, OpenFault, ReadFault, WriteFault, TooLong, Syntax, Data, Model, File, Certificate, Overflow, UndecidedPivots, Refused, NoMemory}
 
 abbrev pub named_line : List ℕ → List ℕ → List ℕ
 named_line what name = what ++ (codes ": " ++ (name ++ codes "\n"))
 
--- statements and lines count from 1
-abbrev pub statement_line : List ℕ → ℕ → ℕ → List ℕ → List ℕ
-statement_line what statement line kind =
-    what ++ (codes ": statement " ++ (decimal statement ++ (codes ", line " ++ (decimal line ++ (codes ": " ++ (kind ++ codes "\n"))))))
+-- statements, blocks and lines count from 1
+abbrev pub place_line : List ℕ → ℕ → ℕ → List ℕ → List ℕ
+place_line what number line kind =
+    what ++ (codes " " ++ (decimal number ++ (codes ", line " ++ (decimal line ++ (codes ": " ++ (kind ++ codes "\n"))))))
 
 abbrev pub syntax_line : SyntaxFault → List ℕ
-syntax_line f = statement_line (codes "syntax fault") f.statement f.line (syntax_kind_text f.kind)
+syntax_line f = place_line (codes "syntax fault: statement") f.statement f.line (syntax_kind_text f.kind)
+
+abbrev pub data_line : DataFault → List ℕ
+data_line f = place_line (codes "data fault: block") f.block f.line (data_kind_text f.kind)
 
 abbrev pub model_line : ModelFault → List ℕ
-model_line f = statement_line (codes "model fault") f.statement f.line (model_kind_text f.kind)
+model_line f = place_line (codes "model fault: statement") f.statement f.line (model_kind_text f.kind)
 
 abbrev pub file_line : FileFault → List ℕ
 file_line f = codes "file fault: line " ++ (decimal f.line ++ (codes ": " ++ (kind_text f.kind ++ codes "\n")))
@@ -74,6 +78,7 @@ fault_line (ReadFault name) = named_line (codes "read fault") name.now
 fault_line (WriteFault name) = named_line (codes "write fault") name.now
 fault_line (TooLong name) = named_line (codes "too long") name.now
 fault_line (Syntax f) = syntax_line f
+fault_line (Data f) = data_line f
 fault_line (Model f) = model_line f
 fault_line (File f) = file_line f
 fault_line (Certificate f) = certificate_line f

@@ -6,8 +6,12 @@ use Rattle.fraction.specs.declared.frac.Op.TheVariants.{Add, Sub, Mul, Div}
 use Rattle.fraction.specs.declared.frac.NoFit.{NoFit}
 use Rattle.gmpl_syntax.specs.declared.fault.SyntaxFaultKind.{SyntaxFaultKind}
 use Rattle.gmpl_syntax.specs.declared.fault.SyntaxFaultKind.TheVariants as syntax
+use Rattle.gmpl_data_input.specs.declared.fault.DataFaultKind.{DataFaultKind}
+use Rattle.gmpl_data_input.specs.declared.fault.DataFaultKind.TheVariants as given
 use Rattle.gmpl_fault.specs.declared.fault.EvalFault.{EvalFault}
 use Rattle.gmpl_fault.specs.declared.fault.EvalFault.TheVariants as eval
+use Rattle.gmpl_generate.specs.declared.fault.ModelFaultKind.{ModelFaultKind}
+use Rattle.gmpl_generate.specs.declared.fault.ModelFaultKind.TheVariants.{Evaluation, CheckFailed}
 
 abbrev pub operator_text : Op → List ℕ
 operator_text Add = codes "+"
@@ -34,17 +38,35 @@ syntax_kind_text syntax.Unsupported = codes "Unsupported"
 syntax_kind_text syntax.WrongKind = codes "WrongKind"
 syntax_kind_text syntax.WrongDimension = codes "WrongDimension"
 
--- of its execution; behind NoFit stands the operation
-abbrev pub model_kind_text : EvalFault → List ℕ
-model_kind_text eval.NoValue = codes "NoValue"
-model_kind_text eval.OutOfDomain = codes "OutOfDomain"
-model_kind_text eval.Restriction = codes "Restriction"
-model_kind_text eval.DivZero = codes "DivZero"
-model_kind_text eval.NotWhole = codes "NotWhole"
-model_kind_text eval.NotANumber = codes "NotANumber"
-model_kind_text eval.Nonlinear = codes "Nonlinear"
-model_kind_text eval.BadFormat = codes "BadFormat"
-model_kind_text eval.Depth = codes "Depth"
-model_kind_text eval.TooMany = codes "TooMany"
-model_kind_text (eval.NoFit f) = codes "NoFit " ++ operation_text f
-model_kind_text eval.NoMemory = codes "NoMemory"
+-- of a block of data
+abbrev pub data_kind_text : DataFaultKind → List ℕ
+data_kind_text given.BadByte = codes "BadByte"
+data_kind_text given.UnendedString = codes "UnendedString"
+data_kind_text given.UnendedComment = codes "UnendedComment"
+data_kind_text given.TooWide = codes "TooWide"
+data_kind_text given.BadForm = codes "BadForm"
+data_kind_text given.Unknown = codes "Unknown"
+data_kind_text given.HasExpression = codes "HasExpression"
+data_kind_text given.WrongDimension = codes "WrongDimension"
+data_kind_text given.Twice = codes "Twice"
+data_kind_text given.Unended = codes "Unended"
+
+-- why something has no value; behind NoFit stands the operation
+abbrev pub evaluation_text : EvalFault → List ℕ
+evaluation_text eval.NoValue = codes "NoValue"
+evaluation_text eval.OutOfDomain = codes "OutOfDomain"
+evaluation_text eval.Restriction = codes "Restriction"
+evaluation_text eval.DivZero = codes "DivZero"
+evaluation_text eval.NotWhole = codes "NotWhole"
+evaluation_text eval.NotANumber = codes "NotANumber"
+evaluation_text eval.Nonlinear = codes "Nonlinear"
+evaluation_text eval.BadFormat = codes "BadFormat"
+evaluation_text eval.Depth = codes "Depth"
+evaluation_text eval.TooMany = codes "TooMany"
+evaluation_text (eval.NoFit f) = codes "NoFit " ++ operation_text f
+evaluation_text eval.NoMemory = codes "NoMemory"
+
+-- of the execution of a model
+abbrev pub model_kind_text : ModelFaultKind → List ℕ
+model_kind_text (Evaluation fault) = evaluation_text fault
+model_kind_text CheckFailed = codes "CheckFailed"

@@ -1,11 +1,12 @@
 // The lines of faults.
 ghost use Rattle.std.specs.Prelude.{◌≡◌, IfOk, string_bytes};
-ghost use Rattle.solution_writer.specs.FaultLine.{named_line, statement_line, file_line, overflow_line, fault_line, certificate_kind_text, certificate_line, part_text, refused_line, syntax_line, model_line};
+ghost use Rattle.solution_writer.specs.FaultLine.{named_line, place_line, file_line, overflow_line, fault_line, certificate_kind_text, certificate_line, part_text, refused_line, syntax_line, data_line, model_line};
 
-use crate::kind_texts::{model_kind_text, operation_text, syntax_kind_text};
+use crate::kind_texts::{data_kind_text, model_kind_text, operation_text, syntax_kind_text};
 use cert_check::Part;
 use certificate_lines::{CertFault, FaultKind};
 use fraction::NoFit;
+use gmpl_data_input::DataFault;
 use gmpl_generate::ModelFault;
 use gmpl_syntax::SyntaxFault;
 use instance::Name;
@@ -29,6 +30,8 @@ pub enum Fault<'a> {
     TooLong(&'a Name),
     /// The MathProg text of the model has this fault.
     Syntax(SyntaxFault),
+    /// A block of data of the MathProg model has this fault.
+    Data(DataFault),
     /// A statement of the MathProg model has this fault.
     Model(ModelFault),
     /// The text of the model, in free MPS or CPLEX LP, has this fault.
@@ -57,6 +60,7 @@ pub fn fault_line(alloc: Global, fault: &Fault<'_>) -> Result<String, AllocError
         Fault::WriteFault(name) => named_line(alloc, "write fault", name),
         Fault::TooLong(name) => named_line(alloc, "too long", name),
         Fault::Syntax(fault) => syntax_line(alloc, *fault),
+        Fault::Data(fault) => data_line(alloc, *fault),
         Fault::Model(fault) => model_line(alloc, *fault),
         Fault::File(fault) => file_line(alloc, *fault),
         Fault::Certificate(fault) => certificate_line(alloc, *fault),
@@ -78,26 +82,46 @@ fn syntax_line(alloc: Global, fault: SyntaxFault) -> Result<String, AllocError>
     ensures { IfOk result (λ text. string_bytes text ≡ syntax_line fault) }
 {
     let kind = syntax_kind_text(fault.kind);
-    statement_line(alloc, "syntax fault", fault.statement, fault.line, kind)
+    place_line(
+        alloc,
+        "syntax fault: statement",
+        fault.statement,
+        fault.line,
+        kind,
+    )
+}
+
+fn data_line(alloc: Global, fault: DataFault) -> Result<String, AllocError>
+    ensures { IfOk result (λ text. string_bytes text ≡ data_line fault) }
+{
+    let kind = data_kind_text(fault.kind);
+    place_line(alloc, "data fault: block", fault.block, fault.line, kind)
 }
 
 fn model_line(alloc: Global, fault: ModelFault) -> Result<String, AllocError>
     ensures { IfOk result (λ text. string_bytes text ≡ model_line fault) }
 {
     let kind = model_kind_text(alloc, fault.kind)?;
-    statement_line(alloc, "model fault", fault.statement, fault.line, &kind)
+    place_line(
+        alloc,
+        "model fault: statement",
+        fault.statement,
+        fault.line,
+        &kind,
+    )
 }
 
-fn statement_line(
+// The place of a fault of a MathProg text: a statement or a block, with its number and line.
+fn place_line(
     alloc: Global,
     what: &str,
-    statement: usize,
+    number: usize,
     line: usize,
     kind: &str,
 ) -> Result<String, AllocError>
-    ensures { IfOk result (λ text. string_bytes text ≡ statement_line what.now statement line kind.now) }
+    ensures { IfOk result (λ text. string_bytes text ≡ place_line what.now number line kind.now) }
 {
-    format!(in alloc; "{what}: statement {statement}, line {line}: {kind}\n")
+    format!(in alloc; "{what} {number}, line {line}: {kind}\n")
 }
 
 fn file_line(alloc: Global, fault: FileFault) -> Result<String, AllocError>

@@ -1,9 +1,11 @@
 // The words of the kinds of faults that a MathProg model may have.
 ghost use Rattle.std.specs.Prelude.{◌≡◌, IfOk, string_bytes};
-ghost use Rattle.solution_writer.specs.KindTexts.{operator_text, operation_text, syntax_kind_text, model_kind_text};
+ghost use Rattle.solution_writer.specs.KindTexts.{operator_text, operation_text, syntax_kind_text, data_kind_text, evaluation_text, model_kind_text};
 
 use fraction::{NoFit, Op};
+use gmpl_data_input::DataFaultKind;
 use gmpl_fault::EvalFault;
+use gmpl_generate::ModelFaultKind;
 use gmpl_syntax::SyntaxFaultKind;
 use std::alloc::{AllocError, Global};
 
@@ -27,9 +29,37 @@ pub(crate) fn syntax_kind_text(kind: SyntaxFaultKind) -> &'static str
     }
 }
 
-/// The word of a kind of faults that the execution of a model may have; behind NoFit the operation.
-pub(crate) fn model_kind_text(alloc: Global, kind: EvalFault) -> Result<String, AllocError>
+/// The word of a kind of faults that a block of data may have.
+pub(crate) fn data_kind_text(kind: DataFaultKind) -> &'static str
+    ensures { result.now ≡ data_kind_text kind }
+{
+    match kind {
+        DataFaultKind::BadByte => "BadByte",
+        DataFaultKind::UnendedString => "UnendedString",
+        DataFaultKind::UnendedComment => "UnendedComment",
+        DataFaultKind::TooWide => "TooWide",
+        DataFaultKind::BadForm => "BadForm",
+        DataFaultKind::Unknown => "Unknown",
+        DataFaultKind::HasExpression => "HasExpression",
+        DataFaultKind::WrongDimension => "WrongDimension",
+        DataFaultKind::Twice => "Twice",
+        DataFaultKind::Unended => "Unended",
+    }
+}
+
+/// The word of a kind of faults that the execution of a model may have.
+pub(crate) fn model_kind_text(alloc: Global, kind: ModelFaultKind) -> Result<String, AllocError>
     ensures { IfOk result (λ text. string_bytes text ≡ model_kind_text kind) }
+{
+    match kind {
+        ModelFaultKind::Evaluation(fault) => evaluation_text(alloc, fault),
+        ModelFaultKind::CheckFailed => "CheckFailed".to_string(alloc),
+    }
+}
+
+// Why something has no value; behind NoFit the operation.
+fn evaluation_text(alloc: Global, kind: EvalFault) -> Result<String, AllocError>
+    ensures { IfOk result (λ text. string_bytes text ≡ evaluation_text kind) }
 {
     match kind {
         EvalFault::NoValue => "NoValue".to_string(alloc),
