@@ -4,9 +4,11 @@
 usage: bench/read_math.py
 
 Read alone, by the program of crate parse_bench (`rt ci parse_bench` builds it): 50,000 and 100,000 statements of one line, and
-one statement of 500,000 and 1,000,000 tokens. Read and executed, by `glpsol --math FILE --check`: models with 250 to 2,000
-columns (the bar is one of 100,000 columns and 1,000,000 entries under 10 s, which does not end in minutes so far). With a stack of 1 MB: 50 open parentheses, and 5,000 nested heads of `for`, which are read and then not
-supported.
+one statement of 500,000 and 1,000,000 tokens. Read and executed, by `glpsol --math FILE --check`: models with 2,000 to 100,000
+columns (the bar is one of 100,000 columns and 1,000,000 entries in under 10 s and 1 GB), a sum over 1,000,000 elements, a cross of
+1,000 by 1,000, 100,000 tuples looked up in a set of 100,000, `comb[60,30]` by its recursion, data sections with 1,000,000 numbers
+(the bar is 3 s and 600 MB), and a chain of 399 members. With a stack of 1 MB: 50 open parentheses, and 5,000 nested heads
+of `for`, which are read and then not supported.
 """
 import os
 import resource
@@ -39,6 +41,50 @@ def columns_and_entries(columns, rows):
     )
 
 
+def with_bound(declarations, bound):
+    return f"{declarations}\nvar x >= 0;\nminimize z: x;\ns.t. c: x >= {bound};\nend;\n"
+
+
+PAIRS = "set A := setof{i in 1..100000} (i, i mod 7);"
+ONE_ROW = (
+    ("a sum over 1000000 elements", with_bound("", "sum{i in 1..1000000} 1")),
+    ("a cross of 1000 by 1000", with_bound("set A := 1..1000; set B := 1..1000;", "card(A cross B)")),
+    ("100000 members over a set of 100000 tuples", with_bound(f"{PAIRS} param p{{(i,j) in A}} := i + j;", "sum{(i,j) in A} p[i,j]")),
+)
+
+
+RECURSION = (
+    ("comb[60,30]", with_bound("param comb{n in 0..60, k in 0..n} := if k = 0 or k = n then 1 else comb[n-1,k-1] + comb[n-1,k];", "comb[60,30]")),
+    ("a chain of 400 members", with_bound("param f{n in 0..400} := if n = 0 then 0 else f[n-1] + 1;", "f[399]")),
+)
+
+
+def with_data(data):
+    return f"param d{{1..1000, 1..1000}} default 0;\n{with_bound('', 'd[1,1] + d[1000,1000]')[:-5]}data;\n{data}end;\n"
+
+
+def number(i, j):
+    return (i * 7 + j * 13) % 997 + 1
+
+
+def as_tuples():
+    return "param d :=\n" + "".join(f"{i} {j} {number(i, j)}\n" for i in range(1, 1001) for j in range(1, 1001)) + ";\n"
+
+
+def as_table():
+    head = " ".join(str(j) for j in range(1, 1001))
+    rows = "".join(f"{i} {' '.join(str(number(i, j)) for j in range(1, 1001))}\n" for i in range(1, 1001))
+    return f"param d : {head} :=\n{rows};\n"
+
+
+def as_slices():
+    rows = "".join(f"[{i},*] {' '.join(f'{j} {number(i, j)}' for j in range(1, 1001))}\n" for i in range(1, 1001))
+    return f"param d :=\n{rows};\n"
+
+
+DATA = (("1000000 tuples of data", as_tuples), ("a table of 1000 by 1000", as_table), ("1000 slices of 1000", as_slices))
+
+
 def limit_stack(size):
     return lambda: resource.setrlimit(resource.RLIMIT_STACK, (size, size))
 
@@ -69,9 +115,13 @@ def main():
             show(f"one statement of {count} tokens", [PARSER, "FILE"], one_statement(count), folder, count)
         show("50 open parentheses, 1 MB of stack", [PARSER, "FILE"], "param p := " + "(" * 50 + "1" + ")" * 50 + ";\nend;\n", folder, stack=1 << 20)
         show("5000 heads of for, 1 MB of stack", [PARSER, "FILE"], "for{i in 1..1} " * 5000 + "check: 1 = 1;\nend;\n", folder, stack=1 << 20)
-        for columns, rows in ((250, 10), (500, 10), (1000, 10), (2000, 20)):
+        for columns, rows in ((2000, 20), (10_000, 100), (100_000, 1000)):
             entries = rows * 9 * (columns // rows)
             show(f"{columns} columns, {entries} entries", [PROGRAM, "--math", "FILE", "--check"], columns_and_entries(columns, rows), folder)
+        for what, text in ONE_ROW + RECURSION:
+            show(what, [PROGRAM, "--math", "FILE", "--check"], text, folder)
+        for what, data in DATA:
+            show(what, [PROGRAM, "--math", "FILE", "--check"], with_data(data()), folder)
 
 
 if __name__ == "__main__":
