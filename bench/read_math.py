@@ -7,7 +7,7 @@ Read alone, by the program of crate parse_bench (`rt ci parse_bench` builds it):
 one statement of 500,000 and 1,000,000 tokens. Read and executed, by `glpsol --math FILE --check`: models with 2,000 to 100,000
 columns (the bar is one of 100,000 columns and 1,000,000 entries in under 10 s and 1 GB), a sum over 1,000,000 elements, a cross of
 1,000 by 1,000, 100,000 tuples looked up in a set of 100,000, `comb[60,30]` by its recursion, data sections with 1,000,000 numbers
-(the bar is 3 s and 600 MB), and a chain of 399 members. With a stack of 1 MB: 50 open parentheses, and 5,000 nested heads
+(the bar is 3 s and 600 MB), and a chain of 400 members. With a stack of 1 MB: 50 open parentheses, and 5,000 nested heads
 of `for`, which are read and then not supported.
 """
 import os

@@ -1,11 +1,6 @@
 // Integer programs with their verdicts.
-ghost use Rattle.model_text.specs.Profile.{IsWithinInstance};
-
+use crate::rows::{Row, read_row, verdict_words};
 use branch_search::{SearchFault, search};
-use certificate::{Certificate, Verdict};
-use cplex_lp_reader::read_within;
-use instance::Instance;
-use model_text::{Profile, reader_profile};
 use std::alloc::{AllocError, Global};
 use std::process::Abort;
 use std::test::Fail;
@@ -53,60 +48,6 @@ const PROGRAMS: &str = "\
 1000 0 > steps ; max/ 3 x + 2 y/st/ r: 2 x + 2 y <= 5/bounds/ x <= 3/ y <= 3/general/ x y/end
 ";
 
-// The problem of a CPLEX LP text.
-fn problem_of(alloc: Global, model: &str) -> Result<Instance, Fail> {
-    let mut text = String::new(alloc);
-    for c in model.chars() {
-        text.push(if c == '/' { '\n' } else { c })?;
-    }
-    match read_within(alloc, &with_integers(), text.as_bytes()) {
-        Ok(problem) => Ok(problem),
-        Err(_) => Err("a problem".into()),
-    }
-}
-
-// The readers' profile, where integer columns are taken.
-fn with_integers() -> Profile
-    ensures { IsWithinInstance result }
-{
-    Profile {
-        takes_integers: true,
-        ..reader_profile()
-    }
-}
-
-// The verdict and its value, or why there is none.
-fn answer(
-    alloc: Global,
-    problem: &Instance,
-    splits: usize,
-    steps: u32,
-) -> Result<String, AllocError> {
-    match search(alloc, problem, splits, steps) {
-        Ok(certificate) => verdict_words(alloc, &certificate),
-        Err(fault) => fault_word(alloc, fault),
-    }
-}
-
-fn verdict_words(alloc: Global, certificate: &Certificate) -> Result<String, AllocError> {
-    let verdict = verdict_word(certificate.verdict());
-    match certificate.value() {
-        None => String::from_str(alloc, verdict),
-        Some(value) => {
-            let value = value.text(alloc)?;
-            format!(in alloc; "{verdict} {value}")
-        }
-    }
-}
-
-fn verdict_word(verdict: Verdict) -> &'static str {
-    match verdict {
-        Verdict::Optimal => "optimal",
-        Verdict::Infeasible => "infeasible",
-        Verdict::Unbounded => "unbounded",
-    }
-}
-
 fn fault_word(alloc: Global, fault: SearchFault) -> Result<String, AllocError> {
     match fault {
         SearchFault::NoFit(_) => String::from_str(alloc, "overflow"),
@@ -118,17 +59,16 @@ fn fault_word(alloc: Global, fault: SearchFault) -> Result<String, AllocError> {
 }
 
 fn check_row(rt: &impl Abort, alloc: Global, row: &str) -> Result<(), Fail> {
-    let Some((head, model)) = row.split_once(" ; ") else {
-        panic!(rt; "a model: {row}");
+    let Row {
+        splits,
+        steps,
+        wanted,
+        problem,
+    } = read_row(rt, alloc, row)?;
+    let found = match search(alloc, &problem, splits, steps) {
+        Ok(certificate) => verdict_words(alloc, &certificate)?,
+        Err(fault) => fault_word(alloc, fault)?,
     };
-    let Some((limits, wanted)) = head.split_once(" > ") else {
-        panic!(rt; "a verdict: {row}");
-    };
-    let (splits, steps) = limits.split_once(' ').unwrap_or((limits, ""));
-    let problem = problem_of(alloc, model)?;
-    let splits = splits.parse::<usize>().unwrap_or(0);
-    let steps = steps.parse::<u32>().unwrap_or(0);
-    let found = answer(alloc, &problem, splits, steps)?;
     assert_eq!(rt; found.as_str(), wanted, "at {row}");
     Ok(())
 }

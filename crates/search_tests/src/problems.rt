@@ -1,11 +1,6 @@
-// Problems with their verdicts.
-ghost use Rattle.model_text.specs.Profile.{IsWithinInstance};
-
-use certificate::{Certificate, Verdict};
-use cplex_lp_reader::read_within;
-use instance::Instance;
+// Problems of all kinds with their verdicts.
+use crate::rows::{Row, read_row, verdict_words};
 use mixed_solve::{VerdictFault, Wanted, solve};
-use model_text::{Profile, reader_profile};
 use std::alloc::{AllocError, Global};
 use std::process::Abort;
 use std::test::Fail;
@@ -48,60 +43,6 @@ const PROBLEMS: &str = "\
 1000 1000 > overflow ray ; max/ 3 x + 100000000000000000000000000000000000000 y/st/ r: 3 x - y = 0/general/ x y/end
 ";
 
-// The problem of a CPLEX LP text.
-fn problem_of(alloc: Global, model: &str) -> Result<Instance, Fail> {
-    let mut text = String::new(alloc);
-    for c in model.chars() {
-        text.push(if c == '/' { '\n' } else { c })?;
-    }
-    match read_within(alloc, &with_integers(), text.as_bytes()) {
-        Ok(problem) => Ok(problem),
-        Err(_) => Err("a problem".into()),
-    }
-}
-
-// The readers' profile, where integer columns are taken.
-fn with_integers() -> Profile
-    ensures { IsWithinInstance result }
-{
-    Profile {
-        takes_integers: true,
-        ..reader_profile()
-    }
-}
-
-// The verdict and its value, or why there is none.
-fn answer(
-    alloc: Global,
-    problem: &Instance,
-    splits: usize,
-    steps: u32,
-) -> Result<String, AllocError> {
-    match solve(alloc, problem, splits, steps) {
-        Ok(certificate) => verdict_words(alloc, &certificate),
-        Err(fault) => fault_words(alloc, fault),
-    }
-}
-
-fn verdict_words(alloc: Global, certificate: &Certificate) -> Result<String, AllocError> {
-    let verdict = verdict_word(certificate.verdict());
-    match certificate.value() {
-        None => String::from_str(alloc, verdict),
-        Some(value) => {
-            let value = value.text(alloc)?;
-            format!(in alloc; "{verdict} {value}")
-        }
-    }
-}
-
-fn verdict_word(verdict: Verdict) -> &'static str {
-    match verdict {
-        Verdict::Optimal => "optimal",
-        Verdict::Infeasible => "infeasible",
-        Verdict::Unbounded => "unbounded",
-    }
-}
-
 fn fault_words(alloc: Global, fault: VerdictFault) -> Result<String, AllocError> {
     match fault {
         VerdictFault::NoFit(wanted, _) => with_wanted(alloc, "overflow", wanted),
@@ -121,23 +62,22 @@ fn with_wanted(alloc: Global, word: &str, wanted: Wanted) -> Result<String, Allo
 }
 
 fn check_row(rt: &impl Abort, alloc: Global, row: &str) -> Result<(), Fail> {
-    let Some((head, model)) = row.split_once(" ; ") else {
-        panic!(rt; "a model: {row}");
+    let Row {
+        splits,
+        steps,
+        wanted,
+        problem,
+    } = read_row(rt, alloc, row)?;
+    let found = match solve(alloc, &problem, splits, steps) {
+        Ok(certificate) => verdict_words(alloc, &certificate)?,
+        Err(fault) => fault_words(alloc, fault)?,
     };
-    let Some((limits, wanted)) = head.split_once(" > ") else {
-        panic!(rt; "a verdict: {row}");
-    };
-    let (splits, steps) = limits.split_once(' ').unwrap_or((limits, ""));
-    let problem = problem_of(alloc, model)?;
-    let splits = splits.parse::<usize>().unwrap_or(0);
-    let steps = steps.parse::<u32>().unwrap_or(0);
-    let found = answer(alloc, &problem, splits, steps)?;
     assert_eq!(rt; found.as_str(), wanted, "at {row}");
     Ok(())
 }
 
 #[test]
-fn verdicts(rt: HostRuntime) -> Result<(), Fail> {
+fn problems(rt: HostRuntime) -> Result<(), Fail> {
     for row in PROBLEMS.lines() {
         if !row.starts_with('#') {
             check_row(&rt, rt.alloc(), row)?;
