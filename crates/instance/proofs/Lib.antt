@@ -3,4 +3,5 @@ mod Sums
 mod Meeting
 mod ByColumn
 mod Directions
+mod Continuous
 pub mod Laws

@@ -1,3 +1,4 @@
 pub mod WellFormed
 pub mod Sums
 pub mod ByColumn
+pub mod Continuous

@@ -1,9 +1,10 @@
 // Columns, rows and whole problems.
-ghost use Rattle.std.specs.Prelude.{◌≡◌, ◌<◌, [], length, IfOk};
+ghost use Rattle.std.specs.Prelude.{◌≡◌, ◌<◌, [], length, map, IfOk};
 ghost use Rattle.std.specs.List.{All};
 ghost use Rattle.milp.specs.Form.{Entry as FormEntry};
 ghost use Rattle.instance.specs.WellFormed.{IsWellFormed, IsWithinLimits};
 ghost use Rattle.instance.specs.ByColumn.{entries_in_column, AreByColumn};
+ghost use Rattle.instance.specs.Continuous as spec;
 
 use crate::by_column::EntriesByColumn;
 use crate::{ColumnEntry, Entries, Name};
@@ -76,6 +77,14 @@ impl Column {
     {
         let name = self.name.copy(alloc)?;
         Ok(Column::new(name, self.lower, self.upper, self.integer))
+    }
+
+    // The same column, which takes all numbers within its bounds.
+    fn continuous(&self, alloc: Global) -> Result<Self, AllocError>
+        ensures { IfOk result (λ column. column ≡ spec.continuous self.now) }
+    {
+        let name = self.name.copy(alloc)?;
+        Ok(Column::new(name, self.lower, self.upper, false))
     }
 }
 
@@ -245,6 +254,14 @@ impl Instance {
         self
     }
 
+    /// The same problem without integrality: each column takes all numbers within its bounds.
+    pub fn without_integrality(self, alloc: Global) -> Result<Self, AllocError>
+        ensures { IfOk result (λ relaxed. relaxed ≡ spec.without_integrality self) }
+    {
+        let columns = continuous_columns(alloc, &self.columns)?;
+        Ok(Instance { columns, ..self })
+    }
+
     /// The same problem.
     pub fn copy(&self, alloc: Global) -> Result<Self, AllocError>
         ensures { IfOk result (λ copy. copy ≡ self.now) }
@@ -303,6 +320,17 @@ fn copy_columns(alloc: Global, columns: &[Column]) -> Result<Vec<Column>, AllocE
         copy.push(column.copy(alloc)?)?;
     }
     Ok(copy)
+}
+
+// The columns, each of which takes all numbers within its bounds.
+fn continuous_columns(alloc: Global, columns: &[Column]) -> Result<Vec<Column>, AllocError>
+    ensures { IfOk result (λ made. made.items ≡ map spec.continuous columns.now) }
+{
+    let mut made = Vec::new(alloc);
+    for column in columns {
+        made.push(column.continuous(alloc)?)?;
+    }
+    Ok(made)
 }
 
 fn copy_rows(alloc: Global, rows: &[Row]) -> Result<Vec<Row>, AllocError>
