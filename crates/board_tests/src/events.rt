@@ -1,16 +1,14 @@
 // Events of a board, each a word with its operands, and the board's replies in words.
 ghost use Rattle.std.specs.Prelude.{[], IfOk, IfSome};
-ghost use Rattle.model_text.specs.Profile.{IsWithinInstance};
 ghost use Rattle.board_tests.specs.Trees.{MayStand};
 
 use crate::trees::{closed, divided, graft, may_be_offered, untouched};
 use crate::words::{column, cut, leaf_name, number, value_word};
 use cert_check::{Checked, check};
 use certificate::{Certificate, DerivedRows, Verdict};
-use cplex_lp_reader::read_within;
+use cplex_lp_reader::read_lp;
 use fraction::Frac;
 use instance::{Instance, Point};
-use model_text::{Profile, reader_profile};
 use search_tree::{Lease, Subtree};
 use std::alloc::{AllocError, Global};
 use std::test::Fail;
@@ -22,19 +20,9 @@ pub(crate) fn problem_of(alloc: Global, model: &str) -> Result<Instance, Fail> {
     for c in model.chars() {
         text.push(if c == '/' { '\n' } else { c })?;
     }
-    match read_within(alloc, &with_integers(), text.as_bytes()) {
+    match read_lp(alloc, text.as_bytes()) {
         Ok(problem) => Ok(problem),
         Err(_) => Err("a problem".into()),
-    }
-}
-
-// The readers' profile, where integer columns are taken.
-fn with_integers() -> Profile
-    ensures { IsWithinInstance result }
-{
-    Profile {
-        takes_integers: true,
-        ..reader_profile()
     }
 }
 

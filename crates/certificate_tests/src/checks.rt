@@ -1,12 +1,10 @@
 // Worked certificates that are accepted, and their twins that are refused at a part.
-ghost use Rattle.model_text.specs.Profile.{IsWithinInstance};
-
 use crate::rows::written;
 use cert_check::{CheckFault, Checked, check};
 use certificate_reader::{CertError, read};
-use cplex_lp_reader::read_within;
+use cplex_lp_reader::read_lp;
 use instance::Instance;
-use model_text::{FileFault, Profile, ReadError, reader_profile};
+use model_text::{FileFault, ReadError};
 use std::alloc::{AllocError, Global};
 use std::process::Abort;
 use std::test::Fail;
@@ -35,17 +33,7 @@ fn problem_of(alloc: Global, row: &str) -> Result<Instance, ReadError<FileFault>
     for c in row.chars() {
         text.push(if c == '/' { '\n' } else { c })?;
     }
-    read_within(alloc, &with_integers(), text.as_bytes())
-}
-
-// The readers' profile, where integer columns are taken.
-fn with_integers() -> Profile
-    ensures { IsWithinInstance result }
-{
-    Profile {
-        takes_integers: true,
-        ..reader_profile()
-    }
+    read_lp(alloc, text.as_bytes())
 }
 
 // Each row of a table is the answer that is wanted, and a text; a row after `#` says what the next one tries.
@@ -163,6 +151,29 @@ Refused:Value @bound r1:-2/5 r2:-1/5|end|
 fn best_points_with_a_constant(rt: HostRuntime) -> Result<(), Fail> {
     let problem = "max/ x + y + 10/st/ 2 x + y <= 4/ x + 3 y <= 5/end";
     check_table(&rt, rt.alloc(), problem, BEST_AND_TEN)
+}
+
+// Of the greatest x, where 2 x - 2 y is at most 1 and 2 x + 2 y at most 5, in whole numbers.
+const BEST_BY_A_TREE: &str = "\
+Accepted cert 1|size 2 2|verdict optimal|value 1|point 1 1|derived 0|tree|branch 1 1|bound c1:-1|empty r1:-1 r2:-1 c1:4|end|
+# A weight is wrong, and leaves -x.
+Refused:Node(3) cert 1|size 2 2|verdict optimal|value 1|point 1 1|derived 0|tree|branch 1 1|bound c1:-1|empty r1:-1 r2:-1 c1:3|end|
+# The sides are turned.
+Refused:Node(2) cert 1|size 2 2|verdict optimal|value 1|point 1 1|derived 0|tree|branch 1 1|empty r1:-1 r2:-1 c1:4|bound c1:-1|end|
+# On the high side x has no upper bound.
+Refused:Node(3) cert 1|size 2 2|verdict optimal|value 1|point 1 1|derived 0|tree|branch 1 1|bound c1:-1|bound c1:-1|end|
+# Without the branch only x <= 3/2 is shown.
+Refused:Node(1) cert 1|size 2 2|verdict optimal|value 1|point 1 1|derived 0|tree|bound r1:-1/4 r2:-1/4|end|
+# A worse point.
+Refused:Node(2) cert 1|size 2 2|verdict optimal|value 0|point 0 1|derived 0|tree|branch 1 1|bound c1:-1|empty r1:-1 r2:-1 c1:4|end|
+# The best point of the relaxation is not whole.
+Refused:Point cert 1|size 2 2|verdict optimal|value 3/2|point 3/2 1|derived 0|tree|bound r1:-1/4 r2:-1/4|end|
+";
+
+#[test]
+fn best_points_by_a_tree(rt: HostRuntime) -> Result<(), Fail> {
+    let problem = "max/ x/st/ 2 x - 2 y <= 1/ 2 x + 2 y <= 5/general/ x y/end";
+    check_table(&rt, rt.alloc(), problem, BEST_BY_A_TREE)
 }
 
 // Of the greatest whole x, at least 0.

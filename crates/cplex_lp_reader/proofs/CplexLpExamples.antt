@@ -1,11 +1,11 @@
 -- Worked examples of the definition.
-use Rattle.std.specs.Prelude.{◌≡◌, ℕ, refl, pos, Some, None, Ok, Err, codes, false, List, [], ◌∷◌, ◌++◌}
+use Rattle.std.specs.Prelude.{◌≡◌, ℕ, refl, pos, Some, None, Ok, Err, codes, true, false, List, [], ◌∷◌, ◌++◌}
 use Rattle.std.specs.Str.{is_utf8, chars}
 use Rattle.std.specs.Char.{encode_utf8}
 use Rattle.rational.specs.Rational.{zero_ℚ, one_ℚ, whole}
-use Rattle.milp.specs.declared.Direction.TheVariants.{Max}
+use Rattle.milp.specs.declared.Direction.TheVariants.{Min, Max}
 use Rattle.cplex_lp_reader.specs.CplexLp.{declared}
-use Rattle.model_text.specs.declared.fault.FaultKind.TheVariants.{BadLine, Twice, IntegersNotYet}
+use Rattle.model_text.specs.declared.fault.FaultKind.TheVariants.{BadLine, Twice}
 
 lines : List (List ℕ) → List ℕ
 lines [] = []
@@ -25,9 +25,19 @@ unsigned : declared (lines (codes "min" ∷ codes " 2 x 3 y" ∷ codes "st" ∷ 
 unfolding lines is_utf8 chars encode_utf8
 unsigned = refl
 
-general : declared (lines (codes "MIN x" ∷ codes "Subject To" ∷ codes "Generals x" ∷ codes "end" ∷ [])) ≡ Err (record { line = 3; kind = IntegersNotYet })
+-- a general column keeps its bounds, a binary one is from 0 to 1
+integers : declared (lines (codes "MIN x" ∷ codes "Subject To" ∷ codes "Generals x" ∷ codes "bin y" ∷ codes "end" ∷ [])) ≡ Ok (record {
+  columns =
+      record { name = codes "x"; lower = Some zero_ℚ; upper = None; integer = true }
+      ∷ record { name = codes "y"; lower = Some zero_ℚ; upper = Some one_ℚ; integer = true } ∷ [];
+  rows = [];
+  direction = Min;
+  objective_name = codes "obj";
+  objective = record { column = 0; coefficient = one_ℚ } ∷ [];
+  constant = zero_ℚ;
+})
 unfolding lines is_utf8 chars encode_utf8
-general = refl
+integers = refl
 
 -- 2e3x is 2000 x, and `free` and `=` set both bounds
 problem : declared (lines (codes "maximize" ∷ codes " profit: 2e3x" ∷ codes "s.t. \\ all rows" ∷ codes " c: 1 <= y" ∷ codes "+ x < 4" ∷ codes "bound" ∷ codes " x free 3 = y" ∷ [])) ≡ Ok (record {

@@ -1,2 +1,1 @@
 pub mod CplexLpExamples
-pub mod Continuous

@@ -1,9 +1,9 @@
 -- The problem that a CPLEX LP text declares, or its first fault.
-use Rattle.std.specs.Prelude.{ℕ, ◌+◌, Bool, List, [], ◌∷◌, length, not, Result, Ok, if◌then◌else◌}
+use Rattle.std.specs.Prelude.{ℕ, ◌+◌, Bool, List, [], ◌∷◌, length, Result, Ok, if◌then◌else◌}
 use Rattle.milp.specs.Problem.{Problem}
 use Rattle.milp.specs.declared.Direction.{Direction}
 use Rattle.milp.specs.declared.Direction.TheVariants.{Min, Max}
-use Rattle.model_text.specs.declared.fault.FaultKind.TheVariants.{BadLine, IntegersNotYet}
+use Rattle.model_text.specs.declared.fault.FaultKind.TheVariants.{BadLine}
 use Rattle.model_text.specs.declared.fault.FileFault.{FileFault}
 use Rattle.model_text.specs.declared.profile.Profile.{Profile}
 use Rattle.cplex_lp_tokens.specs.declared.token.TokenKind.{TokenKind}
@@ -29,25 +29,18 @@ use Rattle.cplex_lp_reader.specs.Bounds.{at_bound_start, at_bound_left, at_bound
 abbrev pub entered : Bool → Expecting → Declaration → Token → Result Declaration FileFault
 entered may next d t = if may then Ok (now_expecting next d) else misplaced t
 
--- the same of integer columns, where they are taken
-abbrev pub entered_integers : Profile → Expecting → Declaration → Token → Result Declaration FileFault
-entered_integers profile next d t =
-    if not (ends_section d.expecting) then misplaced t
-    else if profile.takes_integers then Ok (now_expecting next d)
-    else fault_at t.line IntegersNotYet
-
 -- the objective comes first
 abbrev pub directed : Direction → Declaration → Token → Result Declaration FileFault
 directed direction d t = if is_start d.expecting then Ok (record d { direction = direction; expecting = expecting.ObjectiveStart }) else misplaced t
 
-abbrev pub at_section : Section → Profile → Declaration → Token → Result Declaration FileFault
-at_section Minimize profile d t = directed Min d t
-at_section Maximize profile d t = directed Max d t
-at_section Constraints profile d t = entered (ends_objective d.expecting) expecting.RowStart d t
-at_section Bounds profile d t = entered (ends_section d.expecting) expecting.BoundStart d t
-at_section General profile d t = entered_integers profile expecting.Generals d t
-at_section Binary profile d t = entered_integers profile expecting.Binaries d t
-at_section End profile d t = entered (ends_section d.expecting) expecting.Ended d t
+abbrev pub at_section : Section → Declaration → Token → Result Declaration FileFault
+at_section Minimize d t = directed Min d t
+at_section Maximize d t = directed Max d t
+at_section Constraints d t = entered (ends_objective d.expecting) expecting.RowStart d t
+at_section Bounds d t = entered (ends_section d.expecting) expecting.BoundStart d t
+at_section General d t = entered (ends_section d.expecting) expecting.Generals d t
+at_section Binary d t = entered (ends_section d.expecting) expecting.Binaries d t
+at_section End d t = entered (ends_section d.expecting) expecting.Ended d t
 
 -- ---- tokens
 
@@ -75,7 +68,7 @@ in_section expecting.Binaries profile d t rest = at_binary t.kind profile d t
 in_section expecting.Ended profile d t rest = Ok d
 
 abbrev pub by_kind : TokenKind → Profile → Declaration → Token → List Token → Result Declaration FileFault
-by_kind (SectionWords section) profile d t rest = at_section section profile d t
+by_kind (SectionWords section) profile d t rest = at_section section d t
 by_kind kind profile d t rest = in_section d.expecting profile d t rest
 
 -- nothing after the end is read

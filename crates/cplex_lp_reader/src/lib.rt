@@ -5,11 +5,9 @@ mod bounds;
 mod columns;
 mod constraints;
 mod faults;
-mod laws;
 mod objective;
 mod read;
 mod sections;
 
-pub use laws::declared_problems_are_continuous;
 pub use model_text::{FaultKind, FileFault, ReadError};
 pub use read::{read_lp, read_within};

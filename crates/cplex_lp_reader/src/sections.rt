@@ -2,7 +2,7 @@
 ghost use Rattle.std.specs.Prelude.{◌≡◌};
 ghost use Rattle.model_text.specs.Profile.{IsWithinInstance};
 ghost use Rattle.model_text.specs.Follows.{Follows};
-ghost use Rattle.cplex_lp_reader.specs.CplexLp.{entered, entered_integers, directed, at_section, in_section, by_kind, with_token, at_end};
+ghost use Rattle.cplex_lp_reader.specs.CplexLp.{entered, directed, at_section, in_section, by_kind, with_token, at_end};
 
 use crate::bounds::{
     at_binary, at_bound_compared, at_bound_left, at_bound_name, at_bound_named, at_bound_relation,
@@ -38,25 +38,6 @@ fn enter(
     }
 }
 
-// The same of integer columns, where they are taken.
-fn enter_integers(
-    profile: &Profile,
-    draft: &mut Draft,
-    next: Expecting,
-    token: &Token,
-) -> Result<(), ReadError<FileFault>>
-    ensures { Follows result draft.new (entered_integers profile.now next draft.old token.now) }
-{
-    if !draft.expecting().ends_section() {
-        return Err(misplaced(token));
-    }
-    if !profile.takes_integers {
-        return Err(fault_at(token.line(), FaultKind::IntegersNotYet));
-    }
-    draft.set_expecting(next);
-    Ok(())
-}
-
 // The objective comes first.
 fn direct(
     draft: &mut Draft,
@@ -74,12 +55,11 @@ fn direct(
 }
 
 fn at_section(
-    profile: &Profile,
     draft: &mut Draft,
     section: Section,
     token: &Token,
 ) -> Result<(), ReadError<FileFault>>
-    ensures { Follows result draft.new (at_section section profile.now draft.old token.now) }
+    ensures { Follows result draft.new (at_section section draft.old token.now) }
 {
     match section {
         Section::Minimize => direct(draft, Direction::Min, token),
@@ -92,8 +72,14 @@ fn at_section(
             let may = draft.expecting().ends_section();
             enter(draft, may, Expecting::BoundStart, token)
         }
-        Section::General => enter_integers(profile, draft, Expecting::Generals, token),
-        Section::Binary => enter_integers(profile, draft, Expecting::Binaries, token),
+        Section::General => {
+            let may = draft.expecting().ends_section();
+            enter(draft, may, Expecting::Generals, token)
+        }
+        Section::Binary => {
+            let may = draft.expecting().ends_section();
+            enter(draft, may, Expecting::Binaries, token)
+        }
         Section::End => {
             let may = draft.expecting().ends_section();
             enter(draft, may, Expecting::Ended, token)
@@ -155,7 +141,7 @@ fn of_kind<'a>(
     ensures { Follows result draft.new (by_kind token.now.kind profile.now draft.old token.now rest.now) }
 {
     match token.kind() {
-        TokenKind::SectionWords(section) => at_section(profile, draft, section, token),
+        TokenKind::SectionWords(section) => at_section(draft, section, token),
         _ => in_section(alloc, profile, draft, token, rest),
     }
 }

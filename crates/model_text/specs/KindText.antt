@@ -1,7 +1,7 @@
 -- The words that name the kinds of a file's faults.
 use Rattle.std.specs.Prelude.{ℕ, List, codes}
 use Rattle.model_text.specs.declared.fault.FaultKind.{FaultKind}
-use Rattle.model_text.specs.declared.fault.FaultKind.TheVariants.{BadSection, BadLine, BadNumber, TooWide, Unknown, Twice, TooMany, NoEnd, IntegersNotYet}
+use Rattle.model_text.specs.declared.fault.FaultKind.TheVariants.{BadSection, BadLine, BadNumber, TooWide, Unknown, Twice, TooMany, NoEnd}
 
 abbrev pub kind_text : FaultKind → List ℕ
 kind_text BadSection = codes "BadSection"
@@ -12,4 +12,3 @@ kind_text Unknown = codes "Unknown"
 kind_text Twice = codes "Twice"
 kind_text TooMany = codes "TooMany"
 kind_text NoEnd = codes "NoEnd"
-kind_text IntegersNotYet = codes "IntegersNotYet"

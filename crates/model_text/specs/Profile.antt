@@ -1,5 +1,5 @@
 -- How far a reader of files goes.
-use Rattle.std.specs.Prelude.{◌≤◌, false}
+use Rattle.std.specs.Prelude.{◌≤◌}
 use Rattle.model_text.specs.declared.profile.Profile.{Profile}
 
 -- no limit passes what an instance holds
@@ -8,11 +8,10 @@ pub record IsWithinInstance (profile : Profile) : Type 0 where
   pub columns : profile.columns ≤ 100_000
   pub entries : profile.entries ≤ 2_000_000
 
--- today's reader: integer columns are not read
+-- today's reader
 abbrev pub reader_profile : Profile
 reader_profile = record {
   rows = 100_000;
   columns = 100_000;
   entries = 2_000_000;
-  takes_integers = false;
 }

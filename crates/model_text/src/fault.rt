@@ -23,8 +23,6 @@ pub enum FaultKind {
     TooMany,
     /// The text ends before its end is declared.
     NoEnd,
-    /// An integer column where integer columns aren't read.
-    IntegersNotYet,
 }
 
 impl FaultKind {
@@ -41,7 +39,6 @@ impl FaultKind {
             FaultKind::Twice => "Twice",
             FaultKind::TooMany => "TooMany",
             FaultKind::NoEnd => "NoEnd",
-            FaultKind::IntegersNotYet => "IntegersNotYet",
         }
     }
 }

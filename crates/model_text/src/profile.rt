@@ -2,14 +2,13 @@
 ghost use Rattle.std.specs.Prelude.{◌≡◌};
 ghost use Rattle.model_text.specs.Profile.{reader_profile, IsWithinInstance};
 
-/// Limits, and what isn't taken yet.
+/// The limits of a reader.
 #[derive(Clone, Copy)]
 pub struct Profile {
     // the most rows, columns and entries of rows
     pub rows: usize,
     pub columns: usize,
     pub entries: usize,
-    pub takes_integers: bool,
 }
 
 /// Today's reader.
@@ -21,6 +20,5 @@ pub fn reader_profile() -> Profile
         rows: 100_000,
         columns: 100_000,
         entries: 2_000_000,
-        takes_integers: false,
     }
 }

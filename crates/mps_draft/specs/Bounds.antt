@@ -31,17 +31,6 @@ has_value NoLower = false
 has_value NoUpper = false
 has_value Binary = false
 
-abbrev pub makes_integer : BoundKind → Bool
-makes_integer Lower = false
-makes_integer Upper = false
-makes_integer Fixed = false
-makes_integer IntegerLower = true
-makes_integer IntegerUpper = true
-makes_integer Unbounded = false
-makes_integer NoLower = false
-makes_integer NoUpper = false
-makes_integer Binary = true
-
 abbrev pub bounded : BoundKind → Rational → Column → Column
 bounded Lower v c = record c { lower = Some v }
 bounded Upper v c = record c { upper = Some v }

@@ -3,7 +3,7 @@ ghost use Rattle.std.specs.Prelude.{◌≡◌};
 ghost use Rattle.std.specs.Option.{option_map};
 ghost use Rattle.model_text.specs.Columns.{is_column_named};
 ghost use Rattle.mps_draft.specs.Declaration.{with_first_changed};
-ghost use Rattle.mps_draft.specs.Bounds.{bound_kind_of, bounded, has_value, makes_integer};
+ghost use Rattle.mps_draft.specs.Bounds.{bound_kind_of, bounded, has_value};
 
 use fraction::Frac;
 use model_text::{ColumnTable, DeclaredColumn};
@@ -62,21 +62,6 @@ impl BoundKind {
             | BoundKind::IntegerUpper => true,
             BoundKind::Unbounded | BoundKind::NoLower | BoundKind::NoUpper | BoundKind::Binary =>
                 false,
-        }
-    }
-
-    /// It makes its column an integer one.
-    pub fn makes_integer(self) -> bool
-        ensures { result ≡ makes_integer self }
-    {
-        match self {
-            BoundKind::IntegerLower | BoundKind::IntegerUpper | BoundKind::Binary => true,
-            BoundKind::Lower
-            | BoundKind::Upper
-            | BoundKind::Fixed
-            | BoundKind::Unbounded
-            | BoundKind::NoLower
-            | BoundKind::NoUpper => false,
         }
     }
 

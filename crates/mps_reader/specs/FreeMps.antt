@@ -62,7 +62,7 @@ data_line profile Rows d fields = row_line profile d fields
 data_line profile Columns d fields = column_line profile d fields
 data_line profile Rhs d fields = pair_line RhsPairs d fields
 data_line profile Ranges d fields = pair_line RangePairs d fields
-data_line profile Bounds d fields = bound_line profile d fields
+data_line profile Bounds d fields = bound_line d fields
 data_line profile Ended d fields = Ok d
 
 -- its first character is `*`

@@ -1,13 +1,12 @@
 -- What a line of RHS, RANGES or BOUNDS adds to the declaration, or the kind of its first fault: the number of fields first.
-use Rattle.std.specs.Prelude.{ℕ, pos, int_lt, ◌&&◌, not, Bool, true, false, List, [], ◌∷◌, Some, None, is_some, Result, Ok, Err, if◌then◌else◌}
+use Rattle.std.specs.Prelude.{ℕ, pos, int_lt, Bool, true, false, List, [], ◌∷◌, Some, None, is_some, Result, Ok, Err, if◌then◌else◌}
 use Rattle.std.specs.declared.option.Option.{Option}
 use Rattle.rational.specs.Rational.{Rational, zero_ℚ, abs_ℚ, neg_ℚ, ◌+ℚ◌, ◌-ℚ◌}
 use Rattle.fraction.specs.Fits.{sum_fits}
 use Rattle.fraction.specs.Literal.{read_of}
 use Rattle.fraction.specs.declared.read.ReadFault.{ReadFault}
 use Rattle.model_text.specs.declared.fault.FaultKind.{FaultKind}
-use Rattle.model_text.specs.declared.fault.FaultKind.TheVariants.{BadLine, TooWide, Unknown, Twice, IntegersNotYet}
-use Rattle.model_text.specs.declared.profile.Profile.{Profile}
+use Rattle.model_text.specs.declared.fault.FaultKind.TheVariants.{BadLine, TooWide, Unknown, Twice}
 use Rattle.mps_draft.specs.declared.row.RowKind.{RowKind}
 use Rattle.mps_draft.specs.declared.row.RowRange.{RowRange}
 use Rattle.mps_draft.specs.declared.row.RowKind.TheVariants.{Objective, Free, AtMost, AtLeast, Exactly}
@@ -18,7 +17,7 @@ use Rattle.model_text.specs.Columns.{is_column_named}
 use Rattle.mps_draft.specs.Declaration.{is_free, DeclaredRow, Declaration, row_named, with_row, is_column, with_first_changed}
 use Rattle.mps_draft.specs.Sets.{mixes_sets, is_of_first_set, with_set}
 use Rattle.mps_draft.specs.Rows.{rhs_of, rhs_added, range_added}
-use Rattle.mps_draft.specs.Bounds.{bound_kind_of, has_value, makes_integer, bounded}
+use Rattle.mps_draft.specs.Bounds.{bound_kind_of, has_value, bounded}
 use Rattle.model_text.specs.Steps.{then_do}
 use Rattle.mps_reader.specs.Steps.{with_number}
 
@@ -129,27 +128,25 @@ abbrev pub bound_value : Option (List ℕ) → Result Rational ReadFault
 bound_value None = Ok zero_ℚ
 bound_value (Some v) = read_of v
 
--- the column's bound changed, where integer columns are taken if it makes one
-abbrev pub with_bound : Profile → Declaration → BoundKind → List ℕ → Rational → Result Declaration FaultKind
-with_bound profile d kind column value =
-    if makes_integer kind && not profile.takes_integers then Err IntegersNotYet
-    else Ok (record d { columns = with_first_changed (is_column_named column) (bounded kind value) d.columns })
+-- the column's bound changed
+abbrev pub with_bound : Declaration → BoundKind → List ℕ → Rational → Declaration
+with_bound d kind column value = record d { columns = with_first_changed (is_column_named column) (bounded kind value) d.columns }
 
-abbrev pub bound_on_column : Profile → Declaration → BoundKind → BoundFields → Result Declaration FaultKind
-bound_on_column profile d kind b =
-    if is_column d b.column then with_number (with_bound profile d kind b.column) (bound_value b.number) else Err Unknown
+abbrev pub bound_on_column : Declaration → BoundKind → BoundFields → Result Declaration FaultKind
+bound_on_column d kind b =
+    if is_column d b.column then with_number (λ value. Ok (with_bound d kind b.column value)) (bound_value b.number) else Err Unknown
 
-abbrev pub bound_with_fields : Profile → Declaration → BoundKind → Option BoundFields → Result Declaration FaultKind
-bound_with_fields profile d kind None = Err BadLine
-bound_with_fields profile d kind (Some b) =
+abbrev pub bound_with_fields : Declaration → BoundKind → Option BoundFields → Result Declaration FaultKind
+bound_with_fields d kind None = Err BadLine
+bound_with_fields d kind (Some b) =
     if mixes_sets d.first_set b.set then Err BadLine
-    else if is_of_first_set d.first_set b.set then bound_on_column profile (with_set b.set d) kind b
+    else if is_of_first_set d.first_set b.set then bound_on_column (with_set b.set d) kind b
     else Ok d
 
-abbrev pub bound_of_kind : Profile → Declaration → Option BoundKind → List (List ℕ) → Result Declaration FaultKind
-bound_of_kind profile d None fields = Err BadLine
-bound_of_kind profile d (Some kind) fields = bound_with_fields profile d kind (bound_fields (has_value kind) fields)
+abbrev pub bound_of_kind : Declaration → Option BoundKind → List (List ℕ) → Result Declaration FaultKind
+bound_of_kind d None fields = Err BadLine
+bound_of_kind d (Some kind) fields = bound_with_fields d kind (bound_fields (has_value kind) fields)
 
-abbrev pub bound_line : Profile → Declaration → List (List ℕ) → Result Declaration FaultKind
-bound_line profile d [] = Err BadLine
-bound_line profile d (kind ∷ fields) = bound_of_kind profile d (bound_kind_of kind) fields
+abbrev pub bound_line : Declaration → List (List ℕ) → Result Declaration FaultKind
+bound_line d [] = Err BadLine
+bound_line d (kind ∷ fields) = bound_of_kind d (bound_kind_of kind) fields

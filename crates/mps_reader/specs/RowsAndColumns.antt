@@ -5,7 +5,7 @@ use Rattle.std.specs.Str.{bytes_eq}
 use Rattle.rational.specs.Rational.{Rational}
 use Rattle.fraction.specs.Literal.{read_of}
 use Rattle.model_text.specs.declared.fault.FaultKind.{FaultKind}
-use Rattle.model_text.specs.declared.fault.FaultKind.TheVariants.{BadLine, Unknown, Twice, TooMany, IntegersNotYet}
+use Rattle.model_text.specs.declared.fault.FaultKind.TheVariants.{BadLine, Unknown, Twice, TooMany}
 use Rattle.model_text.specs.declared.profile.Profile.{Profile}
 use Rattle.mps_draft.specs.declared.row.RowKind.{RowKind}
 use Rattle.mps_draft.specs.declared.row.RowKind.TheVariants.{Objective}
@@ -59,19 +59,15 @@ abbrev pub is_marker : Declaration → List (List ℕ) → Bool
 is_marker d [] = false
 is_marker d (word ∷ fields) = bytes_eq word (codes "'MARKER'") && (begins_with_marker fields || not (is_row d word))
 
--- integer columns begin, where they are taken
-abbrev pub with_integers : Profile → Declaration → Result Declaration FaultKind
-with_integers profile d = if profile.takes_integers then Ok (record d { current = None; in_integers = true }) else Err IntegersNotYet
-
 -- an open INTORG is followed by INTEND and the other way round; no column's lines go on over a marker
-abbrev pub turned : Profile → Declaration → Option Bool → List (List ℕ) → Result Declaration FaultKind
-turned profile d None fields = Err BadLine
-turned profile d (Some true) fields = if d.in_integers then Err BadLine else then_do (with_integers profile) (at_end fields d)
-turned profile d (Some false) fields = if d.in_integers then at_end fields (record d { current = None; in_integers = false }) else Err BadLine
+abbrev pub turned : Declaration → Option Bool → List (List ℕ) → Result Declaration FaultKind
+turned d None fields = Err BadLine
+turned d (Some true) fields = if d.in_integers then Err BadLine else at_end fields (record d { current = None; in_integers = true })
+turned d (Some false) fields = if d.in_integers then at_end fields (record d { current = None; in_integers = false }) else Err BadLine
 
-abbrev pub marker_line : Profile → Declaration → List (List ℕ) → Result Declaration FaultKind
-marker_line profile d (word ∷ marker ∷ fields) = turned profile d (marker_of marker) fields
-marker_line profile d fields = Err BadLine
+abbrev pub marker_line : Declaration → List (List ℕ) → Result Declaration FaultKind
+marker_line d (word ∷ marker ∷ fields) = turned d (marker_of marker) fields
+marker_line d fields = Err BadLine
 
 -- a new name begins a column, and the name of the current one goes on with it
 abbrev pub at_column : Profile → Declaration → List ℕ → Result Declaration FaultKind
@@ -119,5 +115,5 @@ at_entries profile fields d = then_do (at_second_entry profile (after_pair field
 abbrev pub column_line : Profile → Declaration → List (List ℕ) → Result Declaration FaultKind
 column_line profile d [] = Err BadLine
 column_line profile d (name ∷ fields) =
-    if is_marker d fields then marker_line profile d fields
+    if is_marker d fields then marker_line d fields
     else then_do (at_entries profile fields) (at_column profile d name)

@@ -3,55 +3,51 @@ ghost use Rattle.std.specs.Prelude.{◌≡◌, map, None, Some};
 ghost use Rattle.std.specs.Option.{option_map};
 ghost use Rattle.model_text.specs.Follows.{Follows};
 ghost use Rattle.mps_reader.specs.Follows.{number_or_fault};
-ghost use Rattle.mps_reader.specs.RhsRangesBounds.{bound_line, bound_of_kind, bound_with_fields, bound_on_column, bound_value, with_bound};
+ghost use Rattle.mps_reader.specs.RhsRangesBounds.{bound_line, bound_of_kind, bound_with_fields, bound_on_column, bound_value};
 
 use crate::literal::read_number;
 use fraction::Frac;
-use model_text::{FaultKind, Profile, ReadError};
+use model_text::{FaultKind, ReadError};
 use mps_draft::{BoundKind, Draft};
 
 // `UP|LO|FX|LI|UI [set] col v` and `FR|MI|PL|BV [set] col`, or with four fields a number that isn't used
 pub(crate) fn bound_line<'a>(
-    profile: &Profile,
     draft: &mut Draft<'a>,
     fields: &[&'a str],
 ) -> Result<(), ReadError<FaultKind>>
-    ensures { Follows result draft.new (bound_line profile.now draft.old (map (λ f. f.now) fields.now)) }
+    ensures { Follows result draft.new (bound_line draft.old (map (λ f. f.now) fields.now)) }
 {
     match fields {
         [] => Err(ReadError::Fault(FaultKind::BadLine)),
         [word, rest @ ..] => match BoundKind::of_word(word) {
             None => Err(ReadError::Fault(FaultKind::BadLine)),
-            Some(kind) => bound_of_kind(profile, draft, kind, rest),
+            Some(kind) => bound_of_kind(draft, kind, rest),
         },
     }
 }
 
 // The fields after the kind.
 fn bound_of_kind<'a>(
-    profile: &Profile,
     draft: &mut Draft<'a>,
     kind: BoundKind,
     fields: &[&'a str],
 ) -> Result<(), ReadError<FaultKind>>
-    ensures { Follows result draft.new (bound_of_kind profile.now draft.old (Some kind) (map (λ f. f.now) fields.now)) }
+    ensures { Follows result draft.new (bound_of_kind draft.old (Some kind) (map (λ f. f.now) fields.now)) }
 {
     match fields {
-        [set, column, number] => {
-            bound_in_set(profile, draft, kind, Some(set), column, Some(number))
-        }
+        [set, column, number] => { bound_in_set(draft, kind, Some(set), column, Some(number)) }
         [first, second] => {
             if kind.has_value() {
-                bound_in_set(profile, draft, kind, None, first, Some(second))
+                bound_in_set(draft, kind, None, first, Some(second))
             } else {
-                bound_in_set(profile, draft, kind, Some(first), second, None)
+                bound_in_set(draft, kind, Some(first), second, None)
             }
         }
         [column] => {
             if kind.has_value() {
                 Err(ReadError::Fault(FaultKind::BadLine))
             } else {
-                bound_in_set(profile, draft, kind, None, column, None)
+                bound_in_set(draft, kind, None, column, None)
             }
         }
         _ => Err(ReadError::Fault(FaultKind::BadLine)),
@@ -60,14 +56,13 @@ fn bound_of_kind<'a>(
 
 // A bound of a set, which counts where it is the section's first.
 fn bound_in_set<'a>(
-    profile: &Profile,
     draft: &mut Draft<'a>,
     kind: BoundKind,
     set: Option<&'a str>,
     column: &str,
     number: Option<&str>,
 ) -> Result<(), ReadError<FaultKind>>
-    ensures { Follows result draft.new (bound_with_fields profile.now draft.old kind (Some (record { set = option_map (λ s. s.now) set.entry; column = column.now; number = option_map (λ n. n.now) number.entry }))) }
+    ensures { Follows result draft.new (bound_with_fields draft.old kind (Some (record { set = option_map (λ s. s.now) set.entry; column = column.now; number = option_map (λ n. n.now) number.entry }))) }
 {
     if draft.mixes_sets(set) {
         return Err(ReadError::Fault(FaultKind::BadLine));
@@ -75,23 +70,23 @@ fn bound_in_set<'a>(
     if !draft.takes_set(set) {
         return Ok(());
     }
-    bound_on_column(profile, draft, kind, column, number)
+    bound_on_column(draft, kind, column, number)
 }
 
 fn bound_on_column(
-    profile: &Profile,
     draft: &mut Draft,
     kind: BoundKind,
     column: &str,
     number: Option<&str>,
 ) -> Result<(), ReadError<FaultKind>>
-    ensures { Follows result draft.new (bound_on_column profile.now draft.old kind (record { set = None; column = column.now; number = option_map (λ n. n.now) number.entry })) }
+    ensures { Follows result draft.new (bound_on_column draft.old kind (record { set = None; column = column.now; number = option_map (λ n. n.now) number.entry })) }
 {
     if !draft.has_column(column) {
         return Err(ReadError::Fault(FaultKind::Unknown));
     }
     let value = bound_value(number)?;
-    with_bound(profile, draft, kind, column, value)
+    draft.bound(column, kind, value);
+    Ok(())
 }
 
 // A number that isn't there isn't used.
@@ -102,21 +97,4 @@ fn bound_value(number: Option<&str>) -> Result<Frac, ReadError<FaultKind>>
         None => Ok(Frac::zero()),
         Some(number) => read_number(number),
     }
-}
-
-// The column's bound changed, where integer columns are taken if it makes one.
-fn with_bound(
-    profile: &Profile,
-    draft: &mut Draft,
-    kind: BoundKind,
-    column: &str,
-    value: Frac,
-) -> Result<(), ReadError<FaultKind>>
-    ensures { Follows result draft.new (with_bound profile.now draft.old kind column.now value) }
-{
-    if kind.makes_integer() && !profile.takes_integers {
-        return Err(ReadError::Fault(FaultKind::IntegersNotYet));
-    }
-    draft.bound(column, kind, value);
-    Ok(())
 }

@@ -6,7 +6,7 @@ ghost use Rattle.model_text.specs.Follows.{Follows};
 ghost use Rattle.model_text.specs.Steps.{then_do};
 ghost use Rattle.mps_reader.specs.Steps.{with_number};
 ghost use Rattle.fraction.specs.Literal.{read_of};
-ghost use Rattle.mps_reader.specs.RowsAndColumns.{marker_of, begins_with_marker, is_marker, with_integers, turned, marker_line, at_column, with_entry, at_value, at_row, at_entry, after_pair, at_second_entry, at_entries, column_line};
+ghost use Rattle.mps_reader.specs.RowsAndColumns.{marker_of, begins_with_marker, is_marker, turned, marker_line, at_column, with_entry, at_value, at_row, at_entry, after_pair, at_second_entry, at_entries, column_line};
 
 use crate::literal::read_number;
 use fraction::Frac;
@@ -38,7 +38,7 @@ fn named_line<'a>(
     ensures { Follows result draft.new (column_line profile.now draft.old (name.now ∷ map (λ f. f.now) fields.now)) }
 {
     if is_marker(draft, fields) {
-        marker_line(profile, draft, fields)
+        marker_line(draft, fields)
     } else {
         entry_line(profile, draft, name, fields)
     }
@@ -93,36 +93,24 @@ fn is_marker(draft: &Draft, fields: &[&str]) -> bool
     }
 }
 
-fn marker_line(
-    profile: &Profile,
-    draft: &mut Draft,
-    fields: &[&str],
-) -> Result<(), ReadError<FaultKind>>
-    ensures { Follows result draft.new (marker_line profile.now draft.old (map (λ f. f.now) fields.now)) }
+fn marker_line(draft: &mut Draft, fields: &[&str]) -> Result<(), ReadError<FaultKind>>
+    ensures { Follows result draft.new (marker_line draft.old (map (λ f. f.now) fields.now)) }
 {
     match fields {
         [_, marker, rest @ ..] => match marker_of(marker) {
             None => Err(ReadError::Fault(FaultKind::BadLine)),
-            Some(begins) => turn(profile, draft, begins, rest),
+            Some(begins) => turn(draft, begins, rest),
         },
         _ => Err(ReadError::Fault(FaultKind::BadLine)),
     }
 }
 
 // An open INTORG is followed by INTEND and the other way round.
-fn turn(
-    profile: &Profile,
-    draft: &mut Draft,
-    begins: bool,
-    rest: &[&str],
-) -> Result<(), ReadError<FaultKind>>
-    ensures { Follows result draft.new (turned profile.now draft.old (Some begins) (map (λ f. f.now) rest.now)) }
+fn turn(draft: &mut Draft, begins: bool, rest: &[&str]) -> Result<(), ReadError<FaultKind>>
+    ensures { Follows result draft.new (turned draft.old (Some begins) (map (λ f. f.now) rest.now)) }
 {
     if draft.in_integers() == begins || !rest.is_empty() {
         return Err(ReadError::Fault(FaultKind::BadLine));
-    }
-    if begins && !profile.takes_integers {
-        return Err(ReadError::Fault(FaultKind::IntegersNotYet));
     }
     draft.turn(begins);
     Ok(())

@@ -3,7 +3,6 @@
 
 mod bounds_section;
 mod columns_section;
-mod laws;
 mod line;
 mod lines;
 mod literal;
@@ -12,6 +11,5 @@ mod read;
 mod rows_section;
 mod sense_section;
 
-pub use laws::declared_problems_are_continuous;
 pub use model_text::{FaultKind, FileFault, ReadError};
 pub use read::{read_mps, read_within};

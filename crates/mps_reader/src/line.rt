@@ -148,7 +148,7 @@ fn data_line<'a>(
         Section::Columns => column_line(profile, draft, fields),
         Section::Rhs => pair_line(PairSection::RhsPairs, draft, fields),
         Section::Ranges => pair_line(PairSection::RangePairs, draft, fields),
-        Section::Bounds => bound_line(profile, draft, fields),
+        Section::Bounds => bound_line(draft, fields),
         Section::Ended => Ok(()),
     }
 }

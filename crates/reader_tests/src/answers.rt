@@ -1,21 +1,9 @@
 // What a reader answers, in the words of the tables.
-ghost use Rattle.model_text.specs.Profile.{IsWithinInstance};
-
 use fraction::Frac;
 use instance::{Column, Entry, Instance, Row};
 use milp::Direction;
-use model_text::{FileFault, Profile, ReadError, reader_profile};
+use model_text::{FileFault, ReadError};
 use std::alloc::{AllocError, Global};
-
-/// The readers' profile, where integer columns are taken.
-pub(crate) fn with_integers() -> Profile
-    ensures { IsWithinInstance result }
-{
-    Profile {
-        takes_integers: true,
-        ..reader_profile()
-    }
-}
 
 fn bound_text(alloc: Global, bound: Option<Frac>) -> Result<String, AllocError> {
     match bound {

@@ -1,7 +1,7 @@
 // Texts with the problems that they declare, or with their first faults.
 ghost use Rattle.model_text.specs.Profile.{IsWithinInstance};
 
-use crate::answers::{answer_text, with_integers};
+use crate::answers::answer_text;
 use cplex_lp_reader::{read_lp, read_within};
 use model_text::{FaultKind, Profile, ReadError, reader_profile};
 use std::alloc::{AllocError, Global};
@@ -64,6 +64,22 @@ min obj 0 0:1 1:1 2:1 | c 1 - 0:3 1:-1 2:1; a 0 -; b 0 -; d 0 - <- min a + b + d
 min obj 0 0:1 | r.1 1 - 2:1; y 0 -; z 0 7; x 0 - <- min y + 0 z/st/ x >= 1/bounds/ z <= 7
 ";
 
+// General columns keep their bounds; binary ones are from 0 to 1, until another bound comes.
+const INTEGERS: &str = "\
+min obj 0 0:1; x 0 - int; y 0 1 int <- min x/st/general/ x/binary/ y/end
+min obj 0; x 0 1 int; y 3 - int <- min/st/bounds/ x >= 3 y >= 3/bin x/int/ y y/bounds
+min obj 0; a 0 - int; b 0 - int; c 0 - int; d 0 - int; e 0 - int; f 0 - int <- min/st/general a/GENERALS b/gen c/ Integer d/integers e/INT f
+min obj 0; a 0 1 int; b 0 1 int; c 0 1 int <- min/st/binary a/ BINARIES b/bin c
+min obj 0 0:1 | r.1 1 - 0:1; x 0 - <- min x/st/ x >= 1/Binaries
+min obj 0 0:1; x 0 - <- min x/st/bounds/ x/ gen
+min obj 0 | r.1 - 5 0:1 1:1; x 0 - int; y 0 -; z 0 - int <- min/st/ x + y <= 5/general/ x/ z
+min obj 0; x - - int; y 0 -2 int <- min/st/bounds/ x free/ y <= -2/general/ y x
+min obj 0; x 0 3 int; y - 1 int <- min/st/bin x/general/ y/bounds/ x <= 3 -inf <= y <= 1
+min obj 0; x 0 1 int; y 0 1 int <- min/st/binary x/general x y/binary y
+min obj 0; x 1/2 5/2 int <- min/st/general x/bounds/ 0.5 <= x <= 2.5
+min obj 0; inf 0 - int; free 0 1 int <- min/st/general inf/binary free
+";
+
 const FAULTS: &str = "\
 1 BadLine <-\x20
 2 BadLine <- min
@@ -124,6 +140,11 @@ const FAULTS: &str = "\
 4 BadLine <- min/st/bounds/ inf free
 4 BadLine <- min/st/bounds/ semis/ x
 4 BadLine <- min/st/bounds/ Semi >= 1
+2 BadLine <- min x/general/ x
+4 BadLine <- min x/st/binary/st
+4 BadLine <- min x/st/general/ 3 x
+4 BadLine <- min x/st/binary/ x free >= 1
+5 BadLine <- min x/st/general/ x/ semi/ y
 5 BadLine <- min/st/bounds/ x/ SOS
 5 BadLine <- min/st/bounds/ x/sos1
 5 BadLine <- min/st/bounds/ x/ sos2
@@ -138,10 +159,6 @@ const FAULTS: &str = "\
 4 TooWide <- min/st/ 1e38 x/ + 1e38 x >= 1/ ^
 3 TooWide <- min/st/ x >= 1e39
 4 TooWide <- min/st/bounds/ x >= -1e39
-3 IntegersNotYet <- min x/st/general/ x
-3 IntegersNotYet <- min x/st/ INT x
-4 IntegersNotYet <- min x/st/ x >= 1/Binaries
-5 IntegersNotYet <- min x/st/bounds/ x/ gen
 ";
 
 // At most two rows, columns and entries of rows.
@@ -151,16 +168,9 @@ min obj 0 | r.1 1 - 0:1 1:1 | r.2 1 -; x 0 -; y 0 - <- min/st/ x + y >= 1/ x - x
 5 Twice <- min/st/ a: x >= 1/ b: x >= 1/ a: x >= 1
 1 TooMany <- min x + y + z/st
 4 TooMany <- min x + y/st/bounds/ z
+4 TooMany <- min x + y/st/general/ z
+3 TooMany <- min x + y/st/binary x z
 4 TooMany <- min/st/ x + y >= 1/ c:/ x >= 1
-";
-
-const WITH_INTEGERS: &str = "\
-min obj 0 0:1; x 0 - int; y 0 1 int <- min x/st/general/ x/binary/ y/end
-min obj 0; x 0 1 int; y 3 - int <- min/st/bounds/ x >= 3 y >= 3/bin x/int/ y y/bounds
-2 BadLine <- min x/general/ x
-4 BadLine <- min x/st/general/ 3 x
-4 BadLine <- min x/st/binary/ x free >= 1
-5 BadLine <- min x/st/general/ x/ semi/ y
 ";
 
 // ---- the tables are true
@@ -213,8 +223,8 @@ fn texts_past_limits(rt: HostRuntime) -> Result<(), Fail> {
 }
 
 #[test]
-fn texts_with_integers(rt: HostRuntime) -> Result<(), Fail> {
-    check_table(&rt, rt.alloc(), &with_integers(), WITH_INTEGERS)
+fn integer_columns(rt: HostRuntime) -> Result<(), Fail> {
+    check_table(&rt, rt.alloc(), &reader_profile(), INTEGERS)
 }
 
 // A comment holds any bytes, and nothing else does.

@@ -5,11 +5,11 @@ use model_text::{FaultKind, FileFault};
 fn names_its_kind(rt: HostRuntime) {
     let fault = FileFault {
         line: 3,
-        kind: FaultKind::IntegersNotYet,
+        kind: FaultKind::TooWide,
     };
-    assert!(rt; fault.kind.as_str() == "IntegersNotYet");
+    assert!(rt; fault.kind.as_str() == "TooWide");
     let Ok(text) = format!(in rt.alloc(); "file fault: line {}: {}", fault.line, fault.kind) else {
         panic!(rt; "memory for a line");
     };
-    assert!(rt; text.as_str() == "file fault: line 3: IntegersNotYet");
+    assert!(rt; text.as_str() == "file fault: line 3: TooWide");
 }

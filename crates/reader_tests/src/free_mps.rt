@@ -1,7 +1,7 @@
 // Texts with the problems that they declare, and texts with their first faults.
 ghost use Rattle.model_text.specs.Profile.{IsWithinInstance};
 
-use crate::answers::{answer_text, with_integers};
+use crate::answers::answer_text;
 use model_text::{FaultKind, Profile, ReadError, reader_profile};
 use mps_reader::{read_mps, read_within};
 use std::alloc::{AllocError, Global};
@@ -59,6 +59,8 @@ const FAULTS: &str = "\
 9 BadLine <- @ M 'MARKER' 'OTHER'
 9 BadLine <- @ M 'MARKER' 'INTEND'
 9 BadLine <- @ M 'MARKER' 'INTORG' more
+10 BadLine <- @ M 'MARKER' 'INTORG'/ N 'MARKER' 'INTORG'
+11 BadLine <- @ M 'MARKER' 'INTORG'/ N 'MARKER' 'INTEND'/ N 'MARKER' 'INTEND'
 10 BadLine <- @RHS/ c
 10 BadLine <- @RHS/ R c 1 d 2 more
 11 BadLine <- @RHS/ R c 1/ d 1
@@ -75,6 +77,10 @@ const FAULTS: &str = "\
 10 BadLine <- @BOUNDS/ UP x
 10 BadLine <- @BOUNDS/ FR
 10 BadLine <- @BOUNDS/ UP b x 1 more
+10 BadLine <- @BOUNDS/ BV
+10 BadLine <- @BOUNDS/ LI x
+10 BadLine <- @BOUNDS/ UI x
+10 BadLine <- @BOUNDS/ BV b x 1 more
 9 BadNumber <- @ y c 1a
 9 BadNumber <- @ y c .
 9 BadNumber <- @ y c 1,5
@@ -85,6 +91,8 @@ const FAULTS: &str = "\
 10 BadNumber <- @RANGES/ R c 1e
 10 BadNumber <- @BOUNDS/ UP b x one
 10 BadNumber <- @BOUNDS/ FR b x none
+10 BadNumber <- @BOUNDS/ BV b x one
+10 BadNumber <- @BOUNDS/ UI x one
 9 TooWide <- @ y c 1e39
 10 TooWide <- @RHS/ R c 1e39
 12 TooWide <- @RHS/ R d 1e38/RANGES/ R d 1e38
@@ -103,11 +111,14 @@ const FAULTS: &str = "\
 10 Unknown <- @RANGES/ R g 1
 10 Unknown <- @BOUNDS/ UP b y 1
 10 Unknown <- @BOUNDS/ FR y
+10 Unknown <- @BOUNDS/ BV y
+10 Unknown <- @BOUNDS/ LI b y 1
 3 BadLine <- ROWS/ N cost/ E e more
 3 Twice <- ROWS/ N cost/ N cost
 3 Twice <- ROWS/ N cost/ L cost
 4 Twice <- ROWS/ N cost/ L c/ G c
 10 Twice <- @ y c 1/ x d 1
+10 Twice <- @ M 'MARKER' 'INTORG'/ x d 1
 9 Twice <- @ x c 3
 9 Twice <- @ x cost 0
 9 Twice <- @ y c 1 c 2
@@ -119,17 +130,6 @@ const FAULTS: &str = "\
 2 NoEnd <- NAME
 9 NoEnd <- @
 11 NoEnd <- @BOUNDS/ UP b x 1
-9 IntegersNotYet <- @ M 'MARKER' 'INTORG'
-10 IntegersNotYet <- @BOUNDS/ BV b x
-10 IntegersNotYet <- @BOUNDS/ BV x
-10 IntegersNotYet <- @BOUNDS/ LI b x 1
-10 IntegersNotYet <- @BOUNDS/ UI x 1
-";
-
-const FAULTS_WITH_INTEGERS: &str = "\
-10 Twice <- @ M 'MARKER' 'INTORG'/ x d 1
-10 BadLine <- @ M 'MARKER' 'INTORG'/ N 'MARKER' 'INTORG'
-11 BadLine <- @ M 'MARKER' 'INTORG'/ N 'MARKER' 'INTEND'/ N 'MARKER' 'INTEND'
 ";
 
 // At most two rows, columns and entries of rows.
@@ -158,9 +158,15 @@ min obj 0 0:3 1:2 | r.1 - 4 0:1 1:1 | r.2 - 6 0:1 1:3; x 0 3; y 0 - <- ROWS/ N o
 min cost 0 0:1 | c1 3 5 0:1 | c2 1 3/2 | c3 -3 0 | c4 0 2 | c5 - -; x 0 - <- ROWS/ N cost/ E c1/ G c2/ L c3/ E c4/ N c5/COLUMNS/ x cost 1 c1 1/RHS/ R c1 5 c2 1/ R c5 7/RANGES/ G c1 -2 c2 -.5/ G c3 3 c4 2/ENDATA/
 ";
 
-// As GLPK writes a problem, with integer columns.
-const PROBLEM_WITH_INTEGERS: &str = "\
+// The columns between the markers, and those of BV, LI and UI; the first text is as GLPK writes a problem.
+const INTEGERS: &str = "\
 min cost -10 0:1 | c1 3 - 0:2; x 0 - int; y - - <- * Problem:    small/NAME small/ROWS/ N cost/ G c1/COLUMNS/ M0001 'MARKER' 'INTORG'/ x cost 1 c1 2/ M0002 'MARKER' 'INTEND'/ y cost 0/RHS/ RHS1 cost 10 c1 3/BOUNDS/ FR BND1 y/ENDATA/
+min z 0 0:1 1:2 2:3 3:4; x 0 -; y 0 - int; v 0 - int; w 0 - <- ROWS/ N z/COLUMNS/ x z 1/ M 'MARKER' 'INTORG'/ y z 2/ v z 3/ M 'MARKER' 'INTEND'/ w z 4/ENDATA/
+min z 0; x 0 -; y 0 - int; v 0 -; w 0 - int <- ROWS/ N z/COLUMNS/ x z 0/ A 'MARKER' 'INTORG'/ y z 0/ B 'MARKER' 'INTEND'/ v z 0/ A 'MARKER' 'INTORG'/ w z 0/ B 'MARKER' 'INTEND'/ENDATA/
+min z 0; x 0 1 int; y 2 - int; v 0 5 int; w 0 - <- ROWS/ N z/COLUMNS/ x z 0/ y z 0/ v z 0/ w z 0/BOUNDS/ BV b x/ LI b y 2/ UI b v 5/ENDATA/
+min z 0; x 0 1 int; y -2 - int; v 0 -5/2 int <- ROWS/ N z/COLUMNS/ x z 0/ y z 0/ v z 0/BOUNDS/ BV x/ LI y -2/ UI v -2.5/ENDATA/
+min z 0; x 0 1 int; y 3 4 int; v 0 6 int <- ROWS/ N z/COLUMNS/ x z 0/ y z 0/ v z 0/BOUNDS/ FX b x 7/ BV b x 7/ LI b y 3/ UI b y 4/ BV b v/ UP b v 6/ENDATA/
+min z 0; x - - int; y - 9 int; v 0 - <- ROWS/ N z/COLUMNS/ M 'MARKER' 'INTORG'/ x z 0/ y z 0/ M 'MARKER' 'INTEND'/ v z 0/BOUNDS/ FR b x/ MI b y/ UP b y 9/ BV c v/ LI c v 2/ENDATA/
 ";
 
 // ---- the tables are true
@@ -198,11 +204,6 @@ fn first_faults(rt: HostRuntime) -> Result<(), Fail> {
 }
 
 #[test]
-fn first_faults_with_integers(rt: HostRuntime) -> Result<(), Fail> {
-    check_table(&rt, rt.alloc(), &with_integers(), FAULTS_WITH_INTEGERS)
-}
-
-#[test]
 fn first_faults_past_limits(rt: HostRuntime) -> Result<(), Fail> {
     let within_two = Profile {
         rows: 2,
@@ -219,8 +220,8 @@ fn declared_problems(rt: HostRuntime) -> Result<(), Fail> {
 }
 
 #[test]
-fn problems_with_integers(rt: HostRuntime) -> Result<(), Fail> {
-    check_table(&rt, rt.alloc(), &with_integers(), PROBLEM_WITH_INTEGERS)
+fn integer_columns(rt: HostRuntime) -> Result<(), Fail> {
+    check_table(&rt, rt.alloc(), &reader_profile(), INTEGERS)
 }
 
 // A comment holds any bytes, and no other line does.

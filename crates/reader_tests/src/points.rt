@@ -1,6 +1,5 @@
 // Points of a problem, and its entries by column.
-use crate::answers::with_integers;
-use cplex_lp_reader::read_within;
+use cplex_lp_reader::read_lp;
 use fraction::Frac;
 use instance::{Instance, Point, activity, meets, value};
 use milp::Direction;
@@ -13,7 +12,7 @@ const PROBLEM: &str =
     "max\n profit: 3 x + y + 10\nst\n r: 1 <= x + 2 y <= 5\n s: x - y <= 2\nbounds\n x <= 4\ngeneral\n x\n";
 
 fn problem(rt: &impl Abort, alloc: Global) -> Instance {
-    let Ok(problem) = read_within(alloc, &with_integers(), PROBLEM.as_bytes()) else {
+    let Ok(problem) = read_lp(alloc, PROBLEM.as_bytes()) else {
         panic!(rt; "a problem");
     };
     problem

@@ -1,10 +1,7 @@
 // Rows of problems, and the words of their verdicts.
-ghost use Rattle.model_text.specs.Profile.{IsWithinInstance};
-
 use certificate::{Certificate, Verdict};
-use cplex_lp_reader::read_within;
+use cplex_lp_reader::read_lp;
 use instance::Instance;
-use model_text::{Profile, reader_profile};
 use std::alloc::{AllocError, Global};
 use std::process::Abort;
 use std::test::Fail;
@@ -41,19 +38,9 @@ fn problem_of(alloc: Global, model: &str) -> Result<Instance, Fail> {
     for c in model.chars() {
         text.push(if c == '/' { '\n' } else { c })?;
     }
-    match read_within(alloc, &with_integers(), text.as_bytes()) {
+    match read_lp(alloc, text.as_bytes()) {
         Ok(problem) => Ok(problem),
         Err(_) => Err("a problem".into()),
-    }
-}
-
-// The readers' profile, where integer columns are taken.
-fn with_integers() -> Profile
-    ensures { IsWithinInstance result }
-{
-    Profile {
-        takes_integers: true,
-        ..reader_profile()
     }
 }
 

@@ -1,5 +1,5 @@
 // Candidates for a verdict, wrong ones and right ones, handed on in place of what the search proposes.
-ghost use Rattle.std.specs.Prelude.{IfOk};
+ghost use Rattle.std.specs.Prelude.{◌≡◌, false, IfOk};
 ghost use Rattle.branch_solve.specs.Root.{NoneInteger};
 
 use branch_solve::{SolveFault, solve_with};
@@ -7,7 +7,7 @@ use candidate::{Candidate, ProposedOptimum, ProposedRay};
 use certificate::{Item, Items, Weights};
 use certificate_writer::text;
 use fraction::Frac;
-use instance::{Instance, Point};
+use instance::{Column, Instance, Point};
 use mps_reader::read_mps;
 use search_node::Basis;
 use std::alloc::Global;
@@ -26,15 +26,29 @@ const DECIDED: &str =
 const PROPOSED: &str =
     "cert 1\nsize 0 2\nverdict optimal\nvalue 2\npoint 2 1\nderived 0\ntree\nbound c1:1\nend\n";
 
-/// The problem that a free MPS text declares.
+/// The problem without integer columns that a free MPS text declares.
 pub(crate) fn problem_of(alloc: Global, text: &str) -> Result<Instance, Fail>
     ensures { IfOk result (λ p. NoneInteger p.columns) }
 {
-    mps_reader::declared_problems_are_continuous();
-    match read_mps(alloc, text.as_bytes()) {
-        Ok(problem) => Ok(problem),
-        Err(_) => Err("no model".into()),
+    let Ok(problem) = read_mps(alloc, text.as_bytes()) else {
+        return Err("no model".into());
+    };
+    if has_integer(problem.columns()) {
+        return Err("an integer column".into());
     }
+    Ok(problem)
+}
+
+// Whether a column takes whole numbers alone.
+fn has_integer(columns: &[Column]) -> bool
+    ensures { result ≡ false → NoneInteger columns.now }
+{
+    for column in columns {
+        if column.integer() {
+            return true;
+        }
+    }
+    false
 }
 
 fn point_of(alloc: Global, numbers: &[u32]) -> Result<Point, Fail> {
