@@ -22,8 +22,6 @@ use Rattle.gmpl_resolved.specs.declared.statement.Numbered.{Numbered as Resolved
 use Rattle.gmpl_resolved.specs.declared.statement.Statements.{Statements as ResolvedStatements}
 use Rattle.gmpl_names.specs.Names.{Name, has}
 use Rattle.gmpl_names.specs.Expressions.{Outcome, Pass, and_then, beside, expr}
-use Rattle.gmpl_statement_names.specs.declared.sort.Sort.{Sort}
-use Rattle.gmpl_statement_names.specs.declared.sort.Sort.TheVariants as sort
 use Rattle.gmpl_statement_names.specs.declared.resolved.Resolved.{Resolved}
 use Rattle.gmpl_statement_names.specs.declared.resolved.Resolved.TheVariants as made
 use Rattle.gmpl_statement_names.specs.Statements.{Judged, optional_indexing, optional_side, head, attributes, declaration, constraint, objective, check, alone, declaring, declaring_by, refused, told_as, statement, makes_something, behind_solve, statement_behind, is_solve, none, with_statement, behind, statements_from}
@@ -46,10 +44,10 @@ then_of P (Err fault) go Q p h = tt
 head_kept : (os : List Name) (h : Head) (scope : List Name) → IfOk (head os h scope) (λ r. r.0.name ≡ h.name)
 head_kept os h scope = then_any (optional_indexing os h.domain scope) _ _ (λ domain after. refl)
 
-declaration_kept : (os : List Name) (which : Sort) (d : Declaration) (scope : List Name) → IfOk (declaration os which d scope) (λ r. r.0.head.name ≡ d.head.name)
-declaration_kept os which d scope =
+declaration_kept : (os : List Name) (d : Declaration) (scope : List Name) → IfOk (declaration os d scope) (λ r. r.0.head.name ≡ d.head.name)
+declaration_kept os d scope =
     then_of (λ made. made.name ≡ d.head.name) (head os d.head scope) _ _ (head_kept os d.head scope)
-    (λ made after same. then_any (attributes os which d.attributes after) _ _ (λ _ _. same))
+    (λ made after same. then_any (attributes os d.attributes after) _ _ (λ _ _. same))
 
 constraint_kept : (os : List Name) (x : Constraint) (scope : List Name) → IfOk (constraint os x scope) (λ r. r.0.head.name ≡ x.head.name)
 constraint_kept os x scope =
@@ -115,9 +113,9 @@ module _ (P : List ℕ → Type 0) (rest : Type 0) (objects : List Name) where
   check_alone (Err fault) h = tt
 
   pub statement_declares : (x : Statement) → HeadThen P x rest → IfOk (statement x objects) Declares
-  statement_declares (s.Set d) h = told rs.Set d.head.name (λ os. declaration os sort.Set d) h (λ os. declaration_kept os sort.Set d [])
-  statement_declares (s.Param d) h = told rs.Param d.head.name (λ os. declaration os sort.Param d) h (λ os. declaration_kept os sort.Param d [])
-  statement_declares (s.Var d) h = told rs.Var d.head.name (λ os. declaration os sort.Var d) h (λ os. declaration_kept os sort.Var d [])
+  statement_declares (s.Set d) h = told rs.Set d.head.name (λ os. declaration os d) h (λ os. declaration_kept os d [])
+  statement_declares (s.Param d) h = told rs.Param d.head.name (λ os. declaration os d) h (λ os. declaration_kept os d [])
+  statement_declares (s.Var d) h = told rs.Var d.head.name (λ os. declaration os d) h (λ os. declaration_kept os d [])
   statement_declares (s.Constraint x) h = told rs.Constraint x.head.name (λ os. constraint os x) h (λ os. constraint_kept os x [])
   statement_declares (s.Objective x) h = told rs.Objective x.head.name (λ os. objective os x) h (λ os. objective_kept os x [])
   statement_declares (s.TableInput t) h = refused_all _

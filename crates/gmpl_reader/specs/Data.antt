@@ -1,5 +1,5 @@
--- What the data section behind a model gives to its objects (GNU MathProg Language Reference, chapter on model data).
-use Rattle.std.specs.Prelude.{◌≡◌, ℕ, ◌+◌, Bool, true, false, if◌then◌else◌, List, [], ◌∷◌, ◌++◌, Option, Some, None, Result, Ok, Err}
+-- What data files, or the data section behind a model, give to its objects (GNU MathProg Language Reference, chapter on model data).
+use Rattle.std.specs.Prelude.{◌≡◌, ℕ, ◌+◌, Bool, true, false, if◌then◌else◌, List, [], ◌∷◌, ◌++◌, map, Option, Some, None, Result, Err}
 use Rattle.model_text.specs.declared.error.ReadError.{ReadError}
 use Rattle.model_text.specs.declared.error.ReadError.TheVariants.{Fault, NoMemory}
 use Rattle.gmpl_resolved.specs.declared.statement.Attribute.{Attribute}
@@ -13,6 +13,7 @@ use Rattle.gmpl_kinds.specs.declared.shape.Sort.TheVariants as sort
 use Rattle.gmpl_kinds.specs.Demands.{or_one}
 use Rattle.gmpl_parse.specs.declared.model.Model.{Model as Parsed}
 use Rattle.gmpl_object_names.specs.Names.{names_of}
+use Rattle.gmpl_token.specs.Token.{Tokens}
 use Rattle.gmpl_data_tokens.specs.Tokens.{data_tokens}
 use Rattle.gmpl_data_input.specs.declared.fault.DataFault.{DataFault}
 use Rattle.gmpl_load.specs.declared.objects.DataObject.{DataObject}
@@ -56,19 +57,31 @@ data_objects (x ∷ xs) (o ∷ os) = data_object x o ∷ data_objects xs os
 abbrev pub with_name : List (List ℕ) → List ℕ → List (List ℕ)
 with_name names name = names ++ name ∷ []
 
+-- ---- the texts of the data
+
+-- the data of a model's own section, which begins behind this place of its text; none, where there is no section
+abbrev pub section_tokens : List ℕ → Option ℕ → List Tokens
+section_tokens text None = []
+section_tokens text (Some at) = data_tokens (at + 1) text ∷ []
+
+-- a file of data is data from its first byte on
+abbrev pub file_tokens : List ℕ → Tokens
+file_tokens file = data_tokens 0 file
+
+-- the files in order, or else the section behind the model: where there are files, it does not count
+abbrev pub texts_of_data : List ℕ → Option ℕ → List (List ℕ) → List Tokens
+texts_of_data text section [] = section_tokens text section
+texts_of_data text section (file ∷ files) = map file_tokens (file ∷ files)
+
 -- ---- what is given
 
--- by the data behind so many bytes of a text
-unfoldable pub given_behind : List ℕ → Parsed → ℕ → Result Tables DataFault
-given_behind text model start = all_tables (names_of model.statements) (data_objects model.statements model.objects) (data_tokens start text ∷ [])
+-- what these texts give to the objects of a model
+unfoldable pub given_by : Parsed → List Tokens → Result Tables DataFault
+given_by model texts = all_tables (names_of model.statements) (data_objects model.statements model.objects) texts
 
-abbrev pub given_by : List ℕ → Parsed → Option ℕ → Result Tables DataFault
-given_by text model None = Ok []
-given_by text model (Some at) = given_behind text model (at + 1)
-
--- by the section behind the model: nothing, where there is none
-abbrev pub given : List ℕ → Parsed → Result Tables DataFault
-given text model = given_by text model model.data_at
+-- what the data give to the objects of a model: its text, and the files of data
+abbrev pub given : List ℕ → List (List ℕ) → Parsed → Result Tables DataFault
+given text data_files model = given_by model (texts_of_data text model.data_at data_files)
 
 -- the call's fault is the definition's; want of memory is free
 abbrev pub IsNoData : Result Tables DataFault → ReadError MathProgFault → Type 0

@@ -1,5 +1,5 @@
--- The problem that a MathProg text declares (GNU MathProg Language Reference): its tokens, its statements with their names and
--- kinds, what its data section gives, and their execution; or the first fault of these, in this order.
+-- The problem that a MathProg text with files of data declares (GNU MathProg Language Reference): its tokens, its statements with
+-- their names and kinds, what the data give, and their execution; or the first fault of these, in this order.
 use Rattle.std.specs.Prelude.{◌≡◌, ℕ, List, Result, Ok, Err}
 use Rattle.milp.specs.Problem.{Problem}
 use Rattle.model_text.specs.declared.error.ReadError.{ReadError}
@@ -37,13 +37,13 @@ abbrev pub of_data : Parsed → Result Tables DataFault → Result Problem MathP
 of_data model (Ok tables) = executed model tables
 of_data model (Err fault) = Err (Data fault)
 
-abbrev pub of_model : List ℕ → Result Parsed SyntaxFault → Result Problem MathProgFault
-of_model text (Ok model) = of_data model (given text model)
-of_model text (Err fault) = Err (Syntax fault)
+abbrev pub of_model : List ℕ → List (List ℕ) → Result Parsed SyntaxFault → Result Problem MathProgFault
+of_model text data_files (Ok model) = of_data model (given text data_files model)
+of_model text data_files (Err fault) = Err (Syntax fault)
 
--- the problem that a text declares, or its first fault
-abbrev pub declared : List ℕ → Result Problem MathProgFault
-declared text = of_model text (model_in text)
+-- the problem that a text declares with the texts of the data files in order, or the first fault
+abbrev pub declared : List ℕ → List (List ℕ) → Result Problem MathProgFault
+declared text data_files = of_model text data_files (model_in text)
 
 -- the call's fault is the definition's; want of memory is free
 abbrev pub IsReadingFault : Result Problem MathProgFault → ReadError MathProgFault → Type 0

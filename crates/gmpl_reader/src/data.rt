@@ -1,6 +1,5 @@
-// What the data section behind a model gives.
-ghost use Rattle.std.specs.Prelude.{◌≡◌, [], ◌∷◌, IfOk, IfErr, Ok};
-ghost use Rattle.gmpl_data_tokens.specs.Tokens.{data_tokens};
+// What data give to the objects of a model.
+ghost use Rattle.std.specs.Prelude.{◌≡◌, map, IfOk, IfErr, Ok};
 ghost use Rattle.gmpl_object_names.specs.Names.{object_name, names_of};
 ghost use Rattle.gmpl_reader.specs.Data as spec;
 ghost use Rattle.gmpl_reader.specs.Data.{IsNoData};
@@ -121,53 +120,83 @@ fn names_of(alloc: Global, statements: &[Numbered]) -> Result<Names<'_>, AllocEr
     Ok(names)
 }
 
-// ---- what is given
+// ---- the texts of the data
 
-// The data behind so many bytes of a text, as a list of one text.
-fn one_text(alloc: Global, text: &[u8], start: usize) -> Result<Vec<Tokens<'_>>, AllocError>
-    ensures { IfOk result (λ texts. texts.items ≡ data_tokens start text.now ∷ []) }
+// The data of a model's own section, which begins behind this place of its text. A place that has none behind it, which no text
+// reaches, counts as want of memory.
+fn section_tokens(
+    alloc: Global,
+    text: &[u8],
+    section: Option<usize>,
+) -> Result<Vec<Tokens<'_>>, AllocError>
+    ensures { IfOk result (λ texts. texts.items ≡ spec.section_tokens text.now section) }
 {
     let mut texts = Vec::new(alloc);
-    texts.push(read_data_tokens(alloc, text, start)?)?;
+    if let Some(at) = section {
+        let start = at.checked_add(1).ok_or(AllocError)?;
+        texts.push(read_data_tokens(alloc, text, start)?)?;
+    }
     Ok(texts)
 }
 
-// What the data behind so many bytes of a text give.
-fn given_behind(
+// The files in order.
+fn files_tokens(alloc: Global, data_texts: &[Vec<u8>]) -> Result<Vec<Tokens<'_>>, AllocError>
+    ensures { IfOk result (λ texts. texts.items ≡ map spec.file_tokens (map (λ file. file.items) data_texts.now)) }
+{
+    let mut texts = Vec::new(alloc);
+    for file in data_texts {
+        texts.push(read_data_tokens(alloc, file.as_slice(), 0)?)?;
+    }
+    Ok(texts)
+}
+
+// The files, or else the section behind the model.
+fn texts_of_data<'a>(
     alloc: Global,
-    text: &[u8],
+    text: &'a [u8],
+    section: Option<usize>,
+    data_texts: &'a [Vec<u8>],
+) -> Result<Vec<Tokens<'a>>, AllocError>
+    ensures { IfOk result (λ texts. texts.items ≡ spec.texts_of_data text.now section (map (λ file. file.items) data_texts.now)) }
+{
+    match data_texts {
+        [] => section_tokens(alloc, text, section),
+        [_, ..] => files_tokens(alloc, data_texts),
+    }
+}
+
+// ---- what is given
+
+// What these texts give to the objects of a model.
+fn given_by(
+    alloc: Global,
     model: &Model,
-    start: usize,
+    texts: &[Tokens<'_>],
 ) -> Result<DataTables, ReadError<MathProgFault>>
-    ensures tables { IfOk result (λ given. spec.given_behind text.now model.now start ≡ Ok given.objects) }
-    ensures fault { IfErr result (IsNoData (spec.given_behind text.now model.now start)) }
+    ensures tables { IfOk result (λ given. spec.given_by model.now texts.now ≡ Ok given.objects) }
+    ensures fault { IfErr result (IsNoData (spec.given_by model.now texts.now)) }
 {
     let statements = model.statements.as_slice();
     let names = names_of(alloc, statements)?;
     let objects = data_objects(alloc, statements, model.objects.as_slice())?;
-    let texts = one_text(alloc, text, start)?;
-    match load(alloc, &names, &objects, &texts) {
+    match load(alloc, &names, &objects, texts) {
         Ok(given) => Ok(given),
         Err(LoadError::Fault(fault)) => Err(ReadError::Fault(MathProgFault::Data(fault))),
         Err(LoadError::NoMemory) => Err(ReadError::NoMemory),
     }
 }
 
-/// What the data section behind a model gives to its objects; nothing, where there is none. A place of a text that has no place
-/// behind it, which no text reaches, counts as want of memory.
+/// What the data give to the objects of a model: the data files in order, or the section behind the model where there are no files.
+/// A place of a text that has no place behind it, which no text reaches, counts as want of memory.
 pub(crate) fn given(
     alloc: Global,
     text: &[u8],
+    data_texts: &[Vec<u8>],
     model: &Model,
 ) -> Result<DataTables, ReadError<MathProgFault>>
-    ensures tables { IfOk result (λ given. spec.given text.now model.now ≡ Ok given.objects) }
-    ensures fault { IfErr result (IsNoData (spec.given text.now model.now)) }
+    ensures tables { IfOk result (λ given. spec.given text.now (map (λ file. file.items) data_texts.now) model.now ≡ Ok given.objects) }
+    ensures fault { IfErr result (IsNoData (spec.given text.now (map (λ file. file.items) data_texts.now) model.now)) }
 {
-    match model.data_at {
-        None => Ok(DataTables::empty(alloc)),
-        Some(at) => match at.checked_add(1) {
-            Some(start) => given_behind(alloc, text, model, start),
-            None => Err(ReadError::NoMemory),
-        },
-    }
+    let texts = texts_of_data(alloc, text, model.data_at, data_texts)?;
+    given_by(alloc, model, &texts)
 }

@@ -1,14 +1,14 @@
-// What is wrong with a MathProg text.
+// What is wrong with a MathProg text or its data.
 use gmpl_data_input::DataFault;
 use gmpl_generate::ModelFault;
 use gmpl_syntax::SyntaxFault;
 
-/// The first fault of a MathProg text.
+/// The first fault of a MathProg text with its data.
 #[derive(Clone, Copy, Drop)]
 pub enum MathProgFault {
     /// The text is no model: its first bad statement.
     Syntax(SyntaxFault),
-    /// A block of the data section behind it is bad.
+    /// A block of the data is bad; blocks are counted from 1 over all texts, the line is that of the block's own text.
     Data(DataFault),
     /// A statement of the model can't be executed.
     Model(ModelFault),

@@ -1,11 +1,9 @@
-//! Reads MathProg texts.
+//! Reads MathProg texts with their data.
 #![tactic(auto)]
 
 mod data;
 mod fault;
-mod laws;
 mod read;
 
 pub use fault::MathProgFault;
-pub use laws::declared_problems_are_continuous;
 pub use read::read_math_prog;

@@ -1,5 +1,5 @@
 // From a text to a problem.
-ghost use Rattle.std.specs.Prelude.{◌≡◌, IfOk, IfErr, Ok, Err};
+ghost use Rattle.std.specs.Prelude.{◌≡◌, map, IfOk, IfErr, Ok, Err};
 ghost use Rattle.gmpl_load.specs.Tables.{Tables};
 ghost use Rattle.gmpl_reader.specs.Data as spec_data;
 ghost use Rattle.gmpl_reader.specs.MathProg as spec;
@@ -18,15 +18,20 @@ use instance::Instance;
 use model_text::ReadError;
 use std::alloc::Global;
 
-/// The problem that a MathProg text declares, or its first fault: of its tokens and statements, or else of its data section, or
-/// else of their execution.
+/// The problem that a MathProg text declares with these texts of data files, in their order, or the first fault: of the text's
+/// tokens and statements, or else of the data, or else of the execution. Where there are no files, the data section of the text
+/// counts, and else it is passed over.
 /// `Fault` comes exactly where the definition of the language has that fault first; `NoMemory` may come anywhere.
-pub fn read_math_prog(alloc: Global, text: &[u8]) -> Result<Instance, ReadError<MathProgFault>>
-    ensures problem { IfOk result (λ problem. declared text.now ≡ Ok problem) }
-    ensures fault { IfErr result (IsReadingFault (declared text.now)) }
+pub fn read_math_prog(
+    alloc: Global,
+    text: &[u8],
+    data_texts: &[Vec<u8>],
+) -> Result<Instance, ReadError<MathProgFault>>
+    ensures problem { IfOk result (λ problem. declared text.now (map (λ file. file.items) data_texts.now) ≡ Ok problem) }
+    ensures fault { IfErr result (IsReadingFault (declared text.now (map (λ file. file.items) data_texts.now))) }
 {
     match model_in(alloc, text) {
-        Ok(model) => with_data(alloc, text, model),
+        Ok(model) => with_data(alloc, text, data_texts, model),
         Err(error) => Err(error),
     }
 }
@@ -46,13 +51,18 @@ fn model_in(alloc: Global, text: &[u8]) -> Result<Model, ReadError<MathProgFault
     }
 }
 
-// The problem that a model with the data section behind it means.
-fn with_data(alloc: Global, text: &[u8], model: Model) -> Result<Instance, ReadError<MathProgFault>>
+// The problem that a model means with its data, which are those of the files or of the section behind it.
+fn with_data(
+    alloc: Global,
+    text: &[u8],
+    data_texts: &[Vec<u8>],
+    model: Model,
+) -> Result<Instance, ReadError<MathProgFault>>
     requires { (tables : Tables) → AreObjects (all_declared (loaded model tables)) }
-    ensures problem { IfOk result (λ problem. spec.of_data model (spec_data.given text.now model) ≡ Ok problem) }
-    ensures fault { IfErr result (IsReadingFault (spec.of_data model (spec_data.given text.now model))) }
+    ensures problem { IfOk result (λ problem. spec.of_data model (spec_data.given text.now (map (λ file. file.items) data_texts.now) model) ≡ Ok problem) }
+    ensures fault { IfErr result (IsReadingFault (spec.of_data model (spec_data.given text.now (map (λ file. file.items) data_texts.now) model))) }
 {
-    match given(alloc, text, &model) {
+    match given(alloc, text, data_texts, &model) {
         Ok(tables) => executed(alloc, model, tables),
         Err(error) => Err(error),
     }

@@ -2,6 +2,10 @@
 #![tactic(auto)]
 
 #[cfg(test)]
+mod data_files;
+#[cfg(test)]
+mod integers;
+#[cfg(test)]
 mod models;
 #[cfg(test)]
 mod words;

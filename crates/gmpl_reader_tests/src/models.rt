@@ -1,8 +1,7 @@
 // Small texts with the problems that they declare, or their first faults. A row has a problem and a text. A problem has its
 // objective with the constant, its rows but for `|`, and its columns; a row has its bounds and its form, a column its bounds. `|` in
 // a text ends a line.
-use crate::words::answer_word;
-use gmpl_reader::read_math_prog;
+use crate::words::{answer, check_table};
 use std::process::Abort;
 use std::test::Fail;
 
@@ -89,23 +88,14 @@ check: 10**20 + 1 - 10**20 = 1; end;
 
 #[test]
 fn problems_of_models(rt: HostRuntime) -> Result<(), Fail> {
-    let alloc = rt.alloc();
-    for row in MODELS.lines() {
-        let Some((want, text)) = row.split_once(" => ") else {
-            panic!(rt; "a problem and a text: {row}");
-        };
-        let text = text.replace(alloc, "|", "\n")?;
-        let found = answer_word(alloc, read_math_prog(alloc, text.as_bytes()))?;
-        assert_eq!(rt; found.as_str(), want, "at {row}");
-    }
-    Ok(())
+    check_table(&rt, rt.alloc(), MODELS)
 }
 
 #[test]
 fn numbers_are_exact(rt: HostRuntime) -> Result<(), Fail> {
     let alloc = rt.alloc();
     for text in EXACT.lines() {
-        let found = answer_word(alloc, read_math_prog(alloc, text.as_bytes()))?;
+        let found = answer(alloc, text)?;
         assert_eq!(rt; found.as_str(), "min obj + 0 |", "at {text}");
     }
     Ok(())

@@ -1,10 +1,12 @@
 // How the tables write problems and faults.
 use fraction::Frac;
-use gmpl_reader::MathProgFault;
+use gmpl_reader::{MathProgFault, read_math_prog};
 use instance::{Column, Direction, Entry, Instance, Name, Row};
 use model_text::ReadError;
 use solution_writer::{Fault, fault_line};
 use std::alloc::{AllocError, Global};
+use std::process::Abort;
+use std::test::Fail;
 
 fn column_name(columns: &[Column], place: u32) -> &str {
     match columns.get(place as usize) {
@@ -120,8 +122,8 @@ fn fault_word(alloc: Global, fault: MathProgFault) -> Result<String, AllocError>
     line.as_str().trim().to_string(alloc)
 }
 
-/// The problem of a text, or why there is none.
-pub(crate) fn answer_word(
+// The problem of a text, or why there is none.
+fn answer_word(
     alloc: Global,
     answer: Result<Instance, ReadError<MathProgFault>>,
 ) -> Result<String, AllocError> {
@@ -130,4 +132,47 @@ pub(crate) fn answer_word(
         Err(ReadError::Fault(fault)) => fault_word(alloc, fault),
         Err(ReadError::NoMemory) => "no memory".to_string(alloc),
     }
+}
+
+// ---- rows
+
+// A text of a row, with its line ends.
+fn with_lines(alloc: Global, text: &str) -> Result<Vec<u8>, AllocError> {
+    Ok(text.replace(alloc, "|", "\n")?.into_bytes())
+}
+
+// The files behind a model.
+fn files_in(alloc: Global, texts: &str) -> Result<Vec<Vec<u8>>, AllocError> {
+    let mut files = Vec::new(alloc);
+    for text in texts.split(" <-").skip(1) {
+        files.push(with_lines(alloc, text)?)?;
+    }
+    Ok(files)
+}
+
+fn model_in(texts: &str) -> &str {
+    match texts.split_once(" <-") {
+        Some((model, _)) => model,
+        None => texts,
+    }
+}
+
+/// The problem of a model with its files of data, or why there is none.
+pub(crate) fn answer(alloc: Global, texts: &str) -> Result<String, AllocError> {
+    let model = with_lines(alloc, model_in(texts))?;
+    let files = files_in(alloc, texts)?;
+    answer_word(alloc, read_math_prog(alloc, &model, &files))
+}
+
+/// A row has a problem or a fault, and behind ` => ` a model with its files of data, each behind ` <- `; `|` in these texts ends a
+/// line.
+pub(crate) fn check_table(rt: &impl Abort, alloc: Global, table: &str) -> Result<(), Fail> {
+    for row in table.lines() {
+        let Some((want, texts)) = row.split_once(" => ") else {
+            panic!(rt; "a problem and its texts: {row}");
+        };
+        let found = answer(alloc, texts)?;
+        assert_eq!(rt; found.as_str(), want, "at {row}");
+    }
+    Ok(())
 }

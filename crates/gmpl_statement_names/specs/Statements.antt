@@ -41,18 +41,10 @@ use Rattle.gmpl_names.specs.declared.error.NamesError.TheVariants.{Fault, NoMemo
 use Rattle.gmpl_names.specs.Names.{Name, has, with_name}
 use Rattle.gmpl_names.specs.Meanings.{Or_fault, used}
 use Rattle.gmpl_names.specs.Expressions.{Outcome, Pass, ◌>>=◌, pure, ◌<$>◌, beside, all, expr, exprs, indexing}
-use Rattle.gmpl_statement_names.specs.declared.sort.Sort.{Sort}
-use Rattle.gmpl_statement_names.specs.declared.sort.Sort.TheVariants as sort
 use Rattle.gmpl_statement_names.specs.declared.resolved.Resolved.{Resolved}
 use Rattle.gmpl_statement_names.specs.declared.resolved.Resolved.TheVariants as made
 
--- ---- what is supported so far
-
--- variables of whole numbers are not
-abbrev pub supports_attribute : Sort → Attribute → Bool
-supports_attribute sort.Var a.Integer = false
-supports_attribute sort.Var a.Binary = false
-supports_attribute _ _ = true
+-- ---- passes over parts
 
 abbrev pub known : {A : Type 0} → Or_fault A → Or_fault (Unit {0})
 known (Ok a) = Ok tt
@@ -88,28 +80,22 @@ module _ (objects : List Name) where
   abbrev pub head : Head → Pass ResolvedHead
   head h = (λ d. record { name = h.name; domain = d }) <$> optional_indexing h.domain
 
-  abbrev pub attribute_of : Attribute → Pass ResolvedAttribute
-  attribute_of (a.Dimension n) = pure (ra.Dimension n)
-  attribute_of (a.Restriction relation x) = ra.Restriction relation <$> expr objects x
-  attribute_of (a.Assigned x) = ra.Assigned <$> expr objects x
-  attribute_of (a.Default x) = ra.Default <$> expr objects x
-  attribute_of a.Integer = pure ra.Integer
-  attribute_of a.Binary = pure ra.Binary
-  attribute_of a.Symbolic = pure ra.Symbolic
+  abbrev pub attribute : Attribute → Pass ResolvedAttribute
+  attribute (a.Dimension n) = pure (ra.Dimension n)
+  attribute (a.Restriction relation x) = ra.Restriction relation <$> expr objects x
+  attribute (a.Assigned x) = ra.Assigned <$> expr objects x
+  attribute (a.Default x) = ra.Default <$> expr objects x
+  attribute a.Integer = pure ra.Integer
+  attribute a.Binary = pure ra.Binary
+  attribute a.Symbolic = pure ra.Symbolic
 
-  -- the expression of an attribute, then the attribute
-  abbrev pub attribute : Sort → Attribute → Pass ResolvedAttribute
-  attribute sort x = do
-    found ← attribute_of x
-    beside (if supports_attribute sort x then Ok found else Err Unsupported)
+  abbrev pub attributes : List Attribute → Pass (List ResolvedAttribute)
+  attributes xs = all (map attribute xs)
 
-  abbrev pub attributes : Sort → List Attribute → Pass (List ResolvedAttribute)
-  attributes sort xs = all (map (attribute sort) xs)
-
-  abbrev pub declaration : Sort → Declaration → Pass ResolvedDeclaration
-  declaration sort d = do
+  abbrev pub declaration : Declaration → Pass ResolvedDeclaration
+  declaration d = do
     h ← head d.head
-    xs ← attributes sort d.attributes
+    xs ← attributes d.attributes
     pure (record { head = h; attributes = xs })
 
   abbrev pub constraint : Constraint → Pass ResolvedConstraint
@@ -232,8 +218,8 @@ declaring_by pass (Err fault) = Err fault
 abbrev pub declaring : {A : Type 0} → Name → (List Name → Pass A) → List Name → Judged A
 declaring name pass objects = declaring_by pass (declare name objects)
 
-abbrev pub declared : Sort → Declaration → List Name → Judged ResolvedDeclaration
-declared sort d = declaring d.head.name (λ os. declaration os sort d)
+abbrev pub declared : Declaration → List Name → Judged ResolvedDeclaration
+declared d = declaring d.head.name (λ os. declaration os d)
 
 abbrev pub declared_constraint : Constraint → List Name → Judged ResolvedConstraint
 declared_constraint x = declaring x.head.name (λ os. constraint os x)
@@ -263,9 +249,9 @@ told_as make (Ok r) = Ok (made.Declaration (make r.0), r.1)
 told_as make (Err fault) = Err fault
 
 abbrev pub statement : Statement → List Name → Judged Resolved
-statement (s.Set d) objects = told_as rs.Set (declared sort.Set d objects)
-statement (s.Param d) objects = told_as rs.Param (declared sort.Param d objects)
-statement (s.Var d) objects = told_as rs.Var (declared sort.Var d objects)
+statement (s.Set d) objects = told_as rs.Set (declared d objects)
+statement (s.Param d) objects = told_as rs.Param (declared d objects)
+statement (s.Var d) objects = told_as rs.Var (declared d objects)
 statement (s.Constraint x) objects = told_as rs.Constraint (declared_constraint x objects)
 statement (s.Objective x) objects = told_as rs.Objective (declared_objective x objects)
 statement (s.TableInput t) objects = refused_table t objects

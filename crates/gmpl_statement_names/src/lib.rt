@@ -7,7 +7,6 @@
 mod parts;
 mod refused;
 mod resolved;
-mod sort;
 mod statements;
 
 pub use statements::resolve_statements;

@@ -3,12 +3,9 @@ ghost use Rattle.gmpl_names.specs.Expressions.{Follows};
 ghost use Rattle.gmpl_statement_names.specs.Statements as spec;
 
 use crate::resolved::Resolved;
-use crate::sort::{Sort, supports_attribute};
 use gmpl_names::{Names, NamesError, resolve_expr, resolve_indexing};
 use gmpl_resolved as resolved;
-use gmpl_syntax::{
-    Attribute, Constraint, Declaration, Expr, Head, Indexing, Objective, SyntaxFaultKind,
-};
+use gmpl_syntax::{Attribute, Constraint, Declaration, Expr, Head, Indexing, Objective};
 use sqlite_items::Items;
 use std::alloc::Global;
 
@@ -55,13 +52,13 @@ fn head(
     })
 }
 
-fn attribute_of(
+fn attribute(
     alloc: Global,
     objects: &Names,
     scope: &mut Names,
     whole: &Attribute,
 ) -> Result<resolved::Attribute, NamesError>
-    ensures { Follows (spec.attribute_of objects.now whole.now scope.old) result scope.new }
+    ensures { Follows (spec.attribute objects.now whole.now scope.old) result scope.new }
 {
     match whole {
         Attribute::Dimension(dimension) => Ok(resolved::Attribute::Dimension(*dimension)),
@@ -81,35 +78,17 @@ fn attribute_of(
     }
 }
 
-fn attribute(
-    alloc: Global,
-    objects: &Names,
-    scope: &mut Names,
-    sort: Sort,
-    whole: &Attribute,
-) -> Result<resolved::Attribute, NamesError>
-    ensures { Follows (spec.attribute objects.now sort whole.now scope.old) result scope.new }
-{
-    let made = attribute_of(alloc, objects, scope, whole)?;
-    if supports_attribute(sort, whole) {
-        Ok(made)
-    } else {
-        Err(NamesError::Fault(SyntaxFaultKind::Unsupported))
-    }
-}
-
 fn attributes(
     alloc: Global,
     objects: &Names,
     scope: &mut Names,
-    sort: Sort,
     all: &[Attribute],
 ) -> Result<Items<resolved::Attribute>, NamesError>
-    ensures { Follows (spec.attributes objects.now sort all.now scope.old) result scope.new }
+    ensures { Follows (spec.attributes objects.now all.now scope.old) result scope.new }
 {
     let mut made = Items::new(alloc);
     for one in all {
-        made.push(attribute(alloc, objects, scope, sort, one)?)?;
+        made.push(attribute(alloc, objects, scope, one)?)?;
     }
     Ok(made)
 }
@@ -119,13 +98,12 @@ pub(crate) fn declaration(
     alloc: Global,
     objects: &Names,
     scope: &mut Names,
-    sort: Sort,
     whole: &Declaration,
 ) -> Result<resolved::Declaration, NamesError>
-    ensures { Follows (spec.declaration objects.now sort whole.now scope.old) result scope.new }
+    ensures { Follows (spec.declaration objects.now whole.now scope.old) result scope.new }
 {
     let head = head(alloc, objects, scope, &whole.head)?;
-    let attributes = attributes(alloc, objects, scope, sort, whole.attributes.as_slice())?;
+    let attributes = attributes(alloc, objects, scope, whole.attributes.as_slice())?;
     Ok(resolved::Declaration { head, attributes })
 }
 

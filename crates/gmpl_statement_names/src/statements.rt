@@ -7,7 +7,6 @@ ghost use Rattle.gmpl_statement_names.specs.Statements.{Declares, Judges};
 use crate::parts::{check, constraint, declaration, objective};
 use crate::refused::{action, table_input};
 use crate::resolved::{Resolved, none, stopped, with_statement};
-use crate::sort::Sort;
 use gmpl_names::{Names, NamesError};
 use gmpl_resolved as resolved;
 use gmpl_syntax::{
@@ -30,14 +29,13 @@ fn declare(alloc: Global, objects: &mut Names, name: &Text) -> Result<(), NamesE
 fn declared(
     alloc: Global,
     objects: &mut Names,
-    sort: Sort,
     whole: &Declaration,
 ) -> Result<resolved::Declaration, NamesError>
-    ensures { Judges (spec.declared sort whole.now objects.old) result objects.new }
+    ensures { Judges (spec.declared whole.now objects.old) result objects.new }
 {
     declare(alloc, objects, &whole.head.name)?;
     let mut scope = Names::new(alloc);
-    declaration(alloc, objects, &mut scope, sort, whole)
+    declaration(alloc, objects, &mut scope, whole)
 }
 
 fn declared_constraint(
@@ -106,22 +104,13 @@ fn statement(alloc: Global, objects: &mut Names, whole: &Statement) -> Result<Re
 {
     match whole {
         Statement::Set(whole) => Ok(Resolved::Declaration(resolved::Statement::Set(declared(
-            alloc,
-            objects,
-            Sort::Set,
-            whole,
+            alloc, objects, whole,
         )?))),
         Statement::Param(whole) => Ok(Resolved::Declaration(resolved::Statement::Param(declared(
-            alloc,
-            objects,
-            Sort::Param,
-            whole,
+            alloc, objects, whole,
         )?))),
         Statement::Var(whole) => Ok(Resolved::Declaration(resolved::Statement::Var(declared(
-            alloc,
-            objects,
-            Sort::Var,
-            whole,
+            alloc, objects, whole,
         )?))),
         Statement::Constraint(whole) => Ok(Resolved::Declaration(resolved::Statement::Constraint(
             declared_constraint(alloc, objects, whole)?,

@@ -5,4 +5,4 @@ use Rattle.gmpl_statement_names.specs.Statements.{attribute, attributes}
 use Rattle.gmpl_statement_names.proofs.parts.attributes.Given as goal
 
 abbrev pub invariant-loop-one : goal.invariant-loop-one
-invariant-loop-one l = attributes l.objects l.sort l.all l.fn.scope ≡ all_from l.made (map (attribute l.objects l.sort) (drop l.one-index l.all)) l.scope
+invariant-loop-one l = attributes l.objects l.all l.fn.scope ≡ all_from l.made (map (attribute l.objects) (drop l.one-index l.all)) l.scope

@@ -2,20 +2,18 @@ use Rattle.std.proofs.Common.{◌∙◌, ap, subst, Ok, Err}
 use Rattle.gmpl_object_names.specs.Names.{names_of}
 use Rattle.gmpl_load.specs.Texts.{all_tables, IsFault}
 use Rattle.gmpl_reader.proofs.Given.{is_given, same_objects}
-use Rattle.gmpl_reader.proofs.data.given_behind.Goals as goal
+use Rattle.gmpl_reader.proofs.data.given_by.Goals as goal
 
 pub returns-in-Ok-clause-tables : goal.returns-in-Ok-clause-tables
 returns-in-Ok-clause-tables c =
-    is_given c.args.text.now c.args.model.now c.args.start c.in_ok-names.names c.deref.result.now c.deref-2.result.now (Ok c.in-Ok.given.objects)
+    is_given c.args.model.now c.in_ok-names.names c.deref.result.now c.args.texts.now (Ok c.in-Ok.given.objects)
     (c.in_ok-names.ensures ∙ ap names_of c.as_slice-statements.ensures)
     (c.deref.ensures.value ∙ (c.in_ok-objects.ensures ∙ same_objects _ _ _ _ c.as_slice-statements.ensures c.as_slice.ensures))
-    (c.deref-2.ensures.value ∙ c.in_ok-texts.ensures)
     c.in-Ok.ensures.tables
 
 pub returns-in-Err-Fault-clause-fault : goal.returns-in-Err-Fault-clause-fault
 returns-in-Err-Fault-clause-fault c =
-    is_given c.args.text.now c.args.model.now c.args.start c.in_ok-names.names c.deref.result.now c.deref-2.result.now (Err c.in-Err-Fault.fault)
+    is_given c.args.model.now c.in_ok-names.names c.deref.result.now c.args.texts.now (Err c.in-Err-Fault.fault)
     (c.in_ok-names.ensures ∙ ap names_of c.as_slice-statements.ensures)
     (c.deref.ensures.value ∙ (c.in_ok-objects.ensures ∙ same_objects _ _ _ _ c.as_slice-statements.ensures c.as_slice.ensures))
-    (c.deref-2.ensures.value ∙ c.in_ok-texts.ensures)
-    (subst (λ e. IsFault (all_tables c.in_ok-names.names c.deref.result.now c.deref-2.result.now) e) c.in-Err-Fault.field-0-is c.in-Err-Fault.ensures.fault)
+    (subst (λ e. IsFault (all_tables c.in_ok-names.names c.deref.result.now c.args.texts.now) e) c.in-Err-Fault.field-0-is c.in-Err-Fault.ensures.fault)
