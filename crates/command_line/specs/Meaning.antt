@@ -1,12 +1,12 @@
 -- Which words are a command, and what it asks for.
-use Rattle.std.specs.Prelude.{ℕ, Bool, true, false, nat_le, ◌&&◌, List, Some, None, codes, if◌then◌else◌}
+use Rattle.std.specs.Prelude.{ℕ, Bool, true, false, nat_le, ◌&&◌, List, [], ◌∷◌, Some, None, unwrap_or, codes, if◌then◌else◌}
 use Rattle.std.specs.declared.option.Option.{Option}
 use Rattle.std.specs.Option.{option_map_or}
 use Rattle.std.specs.Str.{bytes_eq}
 use Rattle.std.specs.Char.{is_ascii_digit}
 use Rattle.std.specs.List.{list_all}
 use Rattle.std.specs.Str.Parse.{digits_value}
-use Rattle.clap.specs.Words.{Row, Text, first_of}
+use Rattle.clap.specs.Words.{Row, Text, all_of, first_of}
 use Rattle.milp.specs.declared.Direction.{Direction}
 use Rattle.milp.specs.declared.Direction.TheVariants.{Min, Max}
 use Rattle.command_line.specs.Options.{given, is_taken}
@@ -16,6 +16,11 @@ use Rattle.command_line.specs.declared.settings.Outputs.{Outputs}
 use Rattle.command_line.specs.declared.settings.Settings.{Settings}
 use Rattle.command_line.specs.declared.settings.Task.{Task}
 use Rattle.command_line.specs.declared.settings.Task.TheVariants.{Solve, Translate, CheckCertificate}
+
+infixl 10 ◌>>=◌
+abbrev pub ◌>>=◌ : {A B : Type 0} → Option A → (A → Option B) → Option B
+(Some x) >>= f = f x
+None >>= f = None
 
 -- the flag stands among the words
 abbrev pub stands : Text → List Row → Bool
@@ -33,6 +38,19 @@ source_by _ _ _ _ _ = None
 abbrev pub source_in : List Row → Option (Language × Text)
 source_in rows =
     source_by (stands (codes "math") rows) (stands (codes "freemps") rows) (stands (codes "lp") rows) (first_of (codes "FILE") rows) (first_of (codes "model") rows)
+
+-- the values of an option that may stand any number of times, in order
+abbrev pub values_of : Text → List Row → List Text
+values_of id rows = unwrap_or (all_of id rows) []
+
+abbrev pub data_by : Language → List Text → Option (List Text)
+data_by MathProg files = Some files
+data_by _ [] = Some []
+data_by _ (file ∷ files) = None
+
+-- the data files: the values of `--data`, which stands with MathProg alone
+abbrev pub data_in : Language → List Row → Option (List Text)
+data_in language rows = data_by language (values_of (codes "data") rows)
 
 abbrev pub direction_by : Bool → Bool → Option (Option Direction)
 direction_by true true = None
@@ -65,35 +83,50 @@ task_by true (Some file) outputs = None
 abbrev pub task_in : List Row → Option Task
 task_in rows = task_by (stands (codes "check") rows) (first_of (codes "checkcert") rows) (outputs_in rows)
 
--- a limit from 1 to 1,000,000
-abbrev pub limit_within : ℕ → Option ℕ
-limit_within n = if nat_le 1 n && nat_le n 1000000 then Some n else None
+abbrev pub limit_within : ℕ → ℕ → ℕ → Option ℕ
+limit_within least greatest n = if nat_le least n && nat_le n greatest then Some n else None
+
+-- decimal digits alone, one at least
+abbrev pub is_numeral : Text → Bool
+is_numeral [] = false
+is_numeral (c ∷ cs) = list_all is_ascii_digit (c ∷ cs)
 
 -- a limit in decimal digits, without sign
-abbrev pub limit_of : Text → Option ℕ
-limit_of word = if list_all is_ascii_digit word then limit_within (digits_value 10 word) else None
+abbrev pub limit_of : ℕ → ℕ → Text → Option ℕ
+limit_of least greatest word = if is_numeral word then limit_within least greatest (digits_value 10 word) else None
 
-abbrev pub pivot_limit_by : Option Text → Option ℕ
-pivot_limit_by None = Some 100000
-pivot_limit_by (Some word) = limit_of word
+-- the value of an option that is a limit, where it is given
+abbrev pub limit_by : ℕ → ℕ → ℕ → Option Text → Option ℕ
+limit_by least greatest absent None = Some absent
+limit_by least greatest absent (Some word) = limit_of least greatest word
+
+-- the most splits of a search: the value of `--nodlim`, or 10,000
+abbrev pub split_limit_in : List Row → Option ℕ
+split_limit_in rows = limit_by 0 1000000 10000 (first_of (codes "nodlim") rows)
 
 -- the most steps of the simplex method at a node: the value of `--pivlim`, or 100,000
 abbrev pub pivot_limit_in : List Row → Option ℕ
-pivot_limit_in rows = pivot_limit_by (first_of (codes "pivlim") rows)
-
-abbrev pub settings_by : Option (Language × Text) → Option (Option Direction) → Option ℕ → Option Task → Option Settings
-settings_by (Some source) (Some direction) (Some pivot_limit) (Some task) = Some (record {
-  language = source.0;
-  model = source.1;
-  direction = direction;
-  pivot_limit = pivot_limit;
-  task = task;
-})
-settings_by _ _ _ _ = None
+pivot_limit_in rows = limit_by 1 1000000 100000 (first_of (codes "pivlim") rows)
 
 -- what the options ask for: each part must be there
 abbrev pub settings_in : List Row → Option Settings
-settings_in rows = settings_by (source_in rows) (direction_in rows) (pivot_limit_in rows) (task_in rows)
+settings_in rows = do
+  source ← source_in rows
+  files ← data_in source.0 rows
+  direction ← direction_in rows
+  split_limit ← split_limit_in rows
+  pivot_limit ← pivot_limit_in rows
+  task ← task_in rows
+  Some (record {
+    language = source.0;
+    model = source.1;
+    data_files = files;
+    direction = direction;
+    relaxed = stands (codes "nomip") rows;
+    split_limit = split_limit;
+    pivot_limit = pivot_limit;
+    task = task;
+  })
 
 -- what the words ask for, where they are a command
 abbrev pub settings_of : List Text → Option Settings

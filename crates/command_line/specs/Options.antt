@@ -3,7 +3,7 @@ use Rattle.std.specs.Prelude.{ℕ, Bool, true, List, [], ◌∷◌, Some, codes}
 use Rattle.clap.specs.Words.{App, Row, Rule, Text, fault_of, found_of, matches_of, new_rule, rows_of}
 use Rattle.clap.specs.Simple.{new_shape}
 use Rattle.clap.specs.Walk.{is_empty}
-use Rattle.clap.specs.declared.builder.action.ArgAction.TheVariants.{SetTrue}
+use Rattle.clap.specs.declared.builder.action.ArgAction.TheVariants.{Append, SetTrue}
 use Rattle.clap.specs.declared.parser.matches.ArgMatches.{ArgMatches}
 
 -- the one word that is no option and no option's value
@@ -22,20 +22,27 @@ option_rule name = record (new_rule name) { long = Some name }
 abbrev pub lettered_rule : Text → ℕ → Rule
 lettered_rule name letter = record (option_rule name) { short = Some letter }
 
--- what may stand among the words; 109 is the letter m, 111 the letter o
+-- the same, any number of times
+abbrev pub repeated_rule : Text → ℕ → Rule
+repeated_rule name letter = record (lettered_rule name letter) { action = Some Append }
+
+-- what may stand among the words; 100 is the letter d, 109 is the letter m, 111 the letter o
 abbrev pub rules : List Rule
 rules = file_rule
     ∷ flag_rule (codes "math")
     ∷ flag_rule (codes "freemps")
     ∷ flag_rule (codes "lp")
     ∷ lettered_rule (codes "model") 109
+    ∷ repeated_rule (codes "data") 100
     ∷ flag_rule (codes "check")
     ∷ flag_rule (codes "min")
     ∷ flag_rule (codes "max")
+    ∷ flag_rule (codes "nomip")
     ∷ flag_rule (codes "exact")
     ∷ lettered_rule (codes "output") 111
     ∷ option_rule (codes "cert")
     ∷ option_rule (codes "checkcert")
+    ∷ option_rule (codes "nodlim")
     ∷ option_rule (codes "pivlim")
     ∷ []
 
@@ -50,7 +57,7 @@ command = record {
   subs = [];
 }
 
--- each word is an option, an option's value or FILE, each at most once, and each option has its value
+-- each word is an option, an option's value or FILE, each but `--data` at most once, and each option has its value
 unfoldable pub is_taken : List Text → Bool
 is_taken words = is_empty (fault_of command words)
 

@@ -1,7 +1,7 @@
 // The options of the program, as `clap` takes them.
 ghost use Rattle.std.specs.Prelude.{◌≡◌, IfOk, IfErr, map, string_bytes, true, false};
 ghost use Rattle.clap.specs.Words.{app_of, kind_of, rule_of};
-ghost use Rattle.command_line.specs.Options.{command, file_rule, flag_rule, given, given_in, is_taken, lettered_rule, option_rule};
+ghost use Rattle.command_line.specs.Options.{command, file_rule, flag_rule, given, given_in, is_taken, lettered_rule, option_rule, repeated_rule};
 ghost use Rattle.clap.specs.declared.error.kind.ErrorKind.TheVariants.{OutOfMemory};
 ghost use Rattle.command_line.specs.declared.settings.WordsFault.TheVariants.{Usage};
 
@@ -33,13 +33,16 @@ fn command<'a>(alloc: Global) -> Result<Command<'a>, AllocError>
         .arg(flag(alloc, "freemps"))?
         .arg(flag(alloc, "lp"))?
         .arg(lettered(alloc, "model", 'm'))?
+        .arg(repeated(alloc, "data", 'd'))?
         .arg(flag(alloc, "check"))?
         .arg(flag(alloc, "min"))?
         .arg(flag(alloc, "max"))?
+        .arg(flag(alloc, "nomip"))?
         .arg(flag(alloc, "exact"))?
         .arg(lettered(alloc, "output", 'o'))?
         .arg(option(alloc, "cert"))?
         .arg(option(alloc, "checkcert"))?
+        .arg(option(alloc, "nodlim"))?
         .arg(option(alloc, "pivlim"))
 }
 
@@ -65,6 +68,14 @@ fn lettered<'a>(alloc: Global, name: &'a str, letter: char) -> Arg<'a>
     ensures local { result.global ≡ false }
 {
     Arg::new(alloc, name).long(name).short(letter)
+}
+
+/// `--name VALUE`, and `-l VALUE` for its letter, any number of times.
+fn repeated<'a>(alloc: Global, name: &'a str, letter: char) -> Arg<'a>
+    ensures rule { rule_of result ≡ repeated_rule name.entry.now letter }
+    ensures local { result.global ≡ false }
+{
+    lettered(alloc, name, letter).action(ArgAction::Append)
 }
 
 impl From<Error> for WordsFault {

@@ -4,19 +4,19 @@ ghost use Rattle.std.specs.List.{list_all};
 ghost use Rattle.std.specs.Str.Parse.{digits_value};
 ghost use Rattle.std.specs.Prelude.{◌≡◌, true, IfOk, IfErr, Some, None, map, string_bytes, option_map, codes, ℕ, List};
 ghost use Rattle.command_line.specs.Options.{given_in};
-ghost use Rattle.command_line.specs.Meaning.{settings_of, settings_in, source_in, source_by, direction_in, pivot_limit_in, limit_of, limit_within, task_in, task_by, alone, outputs_in, stands};
-ghost use Rattle.clap.specs.Words.{first_of};
+ghost use Rattle.command_line.specs.Meaning.{settings_of, settings_in, source_in, source_by, data_in, data_by, values_of, direction_in, split_limit_in, pivot_limit_in, limit_by, limit_of, is_numeral, limit_within, task_in, task_by, alone, outputs_in, stands};
+ghost use Rattle.clap.specs.Words.{all_of, first_of};
 ghost use Rattle.command_line.specs.declared.settings.WordsFault.TheVariants.{Usage};
 
 use crate::options::matches_on;
-use crate::{Language, Outputs, Settings, Task, WordsFault};
+use crate::{DataFiles, Language, Outputs, Settings, Task, WordsFault};
 use clap::ArgMatches;
 use instance::{Direction, Name};
 use std::alloc::{AllocError, Global};
 
 /// What the words after the program's name ask for. Which words are a command is `settings_of`'s to say: `clap`'s
-/// rules for a command with plain flags, options with one value and one positional, and a few rules on which of them
-/// stand together.
+/// rules for a command with plain flags, options with one value, one of which may stand any number of times, and one
+/// positional, and a few rules on which of them stand together.
 ///
 /// # Errors
 ///
@@ -34,13 +34,19 @@ fn settings_in(alloc: Global, matches: &ArgMatches<'_>) -> Result<Settings, Word
     ensures none { IfErr result (λ fault. fault ≡ Usage → settings_in (given_in matches.now) ≡ None) }
 {
     let (language, model) = source_in(alloc, matches)?;
+    let data_files = data_in(alloc, language, matches)?;
     let direction = direction_in(matches).ok_or(WordsFault::Usage)?;
+    let relaxed = stands(matches, "nomip");
+    let split_limit = split_limit_in(matches).ok_or(WordsFault::Usage)?;
     let pivot_limit = pivot_limit_in(matches).ok_or(WordsFault::Usage)?;
     let task = task_in(alloc, matches)?;
     Ok(Settings {
         language,
         model,
+        data_files,
         direction,
+        relaxed,
+        split_limit,
         pivot_limit,
         task,
     })
@@ -75,6 +81,35 @@ fn source_by(
         (false, false, true, Some(file), None) => Some((Language::CplexLp, file)),
         (false, false, false, None, Some(model)) => Some((Language::MathProg, model)),
         _ => None,
+    }
+}
+
+// The data files, which stand with MathProg alone.
+fn data_in(
+    alloc: Global,
+    language: Language,
+    matches: &ArgMatches<'_>,
+) -> Result<DataFiles, WordsFault>
+    ensures some { IfOk result (λ files. data_in language (given_in matches.now) ≡ Some files) }
+    ensures none { IfErr result (λ fault. fault ≡ Usage → data_in language (given_in matches.now) ≡ None) }
+{
+    let files = names_in(alloc, matches, "data")?;
+    let files = data_by(language, files).ok_or(WordsFault::Usage)?;
+    Ok(files)
+}
+
+fn data_by(language: Language, files: DataFiles) -> Option<DataFiles>
+    ensures { result ≡ data_by language files }
+{
+    match language {
+        Language::MathProg => Some(files),
+        Language::FreeMps | Language::CplexLp => {
+            if files.as_slice().is_empty() {
+                Some(files)
+            } else {
+                None
+            }
+        }
     }
 }
 
@@ -120,23 +155,42 @@ fn alone(outputs: Outputs, task: Task) -> Option<Task>
     }
 }
 
+fn split_limit_in(matches: &ArgMatches<'_>) -> Option<u32>
+    ensures { result ≡ split_limit_in (given_in matches.now) }
+{
+    match value_in(matches, "nodlim") {
+        Some(word) => limit_of(0, 1_000_000, word),
+        None => Some(10_000),
+    }
+}
+
 fn pivot_limit_in(matches: &ArgMatches<'_>) -> Option<u32>
     ensures { result ≡ pivot_limit_in (given_in matches.now) }
 {
     match value_in(matches, "pivlim") {
-        Some(word) => limit_of(word),
+        Some(word) => limit_of(1, 1_000_000, word),
         None => Some(100_000),
     }
 }
 
 // A limit in decimal digits, without sign.
-fn limit_of(word: &str) -> Option<u32>
-    ensures { result ≡ limit_of word.now }
+fn limit_of(least: u32, greatest: u32, word: &str) -> Option<u32>
+    ensures { result ≡ limit_of least greatest word.now }
 {
-    if are_digits(word.as_bytes()) {
-        limit_in_digits(word)
+    if is_numeral(word.as_bytes()) {
+        limit_in_digits(least, greatest, word)
     } else {
         None
+    }
+}
+
+// Decimal digits alone, one at least.
+fn is_numeral(word: &[u8]) -> bool
+    ensures { result ≡ is_numeral word.now }
+{
+    match word {
+        [] => false,
+        word => are_digits(word),
     }
 }
 
@@ -147,20 +201,20 @@ fn are_digits(word: &[u8]) -> bool
 }
 
 // The number of the digits, where it is a limit.
-fn limit_in_digits(word: &str) -> Option<u32>
-    requires { list_all is_ascii_digit word.now ≡ true }
-    ensures { result ≡ limit_within (digits_value 10 word.now) }
+fn limit_in_digits(least: u32, greatest: u32, word: &str) -> Option<u32>
+    requires { is_numeral word.now ≡ true }
+    ensures { result ≡ limit_within least greatest (digits_value 10 word.now) }
 {
     match word.parse::<u32>() {
-        Ok(number) => limit_within(number),
+        Ok(number) => limit_within(least, greatest, number),
         Err(_) => None,
     }
 }
 
-fn limit_within(number: u32) -> Option<u32>
-    ensures { result ≡ limit_within number }
+fn limit_within(least: u32, greatest: u32, number: u32) -> Option<u32>
+    ensures { result ≡ limit_within least greatest number }
 {
-    if 1 <= number && number <= 1_000_000 {
+    if least <= number && number <= greatest {
         Some(number)
     } else {
         None
@@ -190,6 +244,32 @@ fn value_in<'a>(matches: &ArgMatches<'a>, id: &str) -> Option<&'a str>
     ensures { option_map (λ text. text.now) result ≡ first_of id.now (given_in matches.now) }
 {
     matches.get_str(id)
+}
+
+/// The values of an option that may stand any number of times, in order.
+fn names_in(alloc: Global, matches: &ArgMatches<'_>, id: &str) -> Result<DataFiles, AllocError>
+    ensures { IfOk result (λ names. names ≡ values_of id.now (given_in matches.now)) }
+{
+    match values_in(matches, id) {
+        Some(texts) => names_of(alloc, texts),
+        None => Ok(DataFiles::new(alloc)),
+    }
+}
+
+fn values_in<'m, 'a>(matches: &'m ArgMatches<'a>, id: &str) -> Option<&'m [&'a str]>
+    ensures { option_map (λ texts. map (λ text. text.now) texts.now) result ≡ all_of id.now (given_in matches.now) }
+{
+    matches.get_strs(id)
+}
+
+fn names_of(alloc: Global, texts: &[&str]) -> Result<DataFiles, AllocError>
+    ensures { IfOk result (λ names. names ≡ map (λ text. text.now) texts.now) }
+{
+    let mut names = DataFiles::new(alloc);
+    for text in texts {
+        names.push(Name::new(alloc, text)?)?;
+    }
+    Ok(names)
 }
 
 /// Whether the flag stands among the words.

@@ -2,6 +2,7 @@
 ghost use Rattle.std.specs.Prelude.{◌≡◌};
 ghost use Rattle.command_line.specs.declared.settings.WordsFault.TheVariants.{NoMemory as WordsNoMemory};
 
+use crate::DataFiles;
 use instance::{Direction, Name};
 use std::alloc::AllocError;
 use thiserror::Error;
@@ -13,8 +14,14 @@ pub struct Settings {
     pub language: Language,
     /// The model's file.
     pub model: Name,
+    /// The data files of a MathProg model; none of the other languages has any.
+    pub data_files: DataFiles,
     /// The direction of the objective, where it takes the place of the model's own.
     pub direction: Option<Direction>,
+    /// Integer columns are taken as continuous ones.
+    pub relaxed: bool,
+    /// The most splits of a search, up to 1,000,000.
+    pub split_limit: u32,
     /// The most steps of the simplex method at a node, from 1 to 1,000,000.
     pub pivot_limit: u32,
     /// What is to be done with the model.

@@ -14,7 +14,7 @@ use Rattle.cert_check.specs.declared.part.Part.{Part}
 use Rattle.cert_check.specs.declared.part.Part.TheVariants.{Size, Point, Value, Ray, DerivedRow, Node}
 use Rattle.solution_writer.specs.KindTexts.{operation_text, syntax_kind_text, data_kind_text, model_kind_text}
 use Rattle.solution_writer.specs.declared.fault.Fault.{Fault}
-use Rattle.solution_writer.specs.declared.fault.Fault.TheVariants.{Usage, Missing, OpenFault, ReadFault, WriteFault, TooLong, Syntax, Data, Model, File, Certificate, Overflow, UndecidedPivots, Refused, NoMemory}
+use Rattle.solution_writer.specs.declared.fault.Fault.TheVariants.{Usage, Missing, OpenFault, ReadFault, WriteFault, TooLong, Syntax, Data, Model, File, Certificate, Overflow, UndecidedNodes, UndecidedPivots, Refused, NoMemory}
 
 abbrev pub named_line : List ℕ → List ℕ → List ℕ
 named_line what name = what ++ (codes ": " ++ (name ++ codes "\n"))
@@ -57,6 +57,9 @@ part_text (Node k) = codes "node " ++ decimal k
 abbrev pub refused_line : Part → List ℕ
 refused_line part = codes "refused: " ++ (part_text part ++ codes "\n")
 
+abbrev pub undecided_nodes_line : List ℕ
+undecided_nodes_line = codes "UNDECIDED nodes\n"
+
 abbrev pub undecided_pivots_line : List ℕ
 undecided_pivots_line = codes "UNDECIDED pivots\n"
 
@@ -83,6 +86,7 @@ fault_line (Model f) = model_line f
 fault_line (File f) = file_line f
 fault_line (Certificate f) = certificate_line f
 fault_line (Overflow f) = overflow_line f
+fault_line UndecidedNodes = undecided_nodes_line
 fault_line UndecidedPivots = undecided_pivots_line
 fault_line (Refused part) = refused_line part
 fault_line NoMemory = no_memory_line

@@ -40,6 +40,8 @@ pub enum Fault<'a> {
     Certificate(CertFault),
     /// The result of this operation does not fit.
     Overflow(NoFit),
+    /// The search has not ended within its limit of splits.
+    UndecidedNodes,
     /// The simplex method has not ended within its limit of steps.
     UndecidedPivots,
     /// This part of the certificate does not hold.
@@ -65,6 +67,7 @@ pub fn fault_line(alloc: Global, fault: &Fault<'_>) -> Result<String, AllocError
         Fault::File(fault) => file_line(alloc, *fault),
         Fault::Certificate(fault) => certificate_line(alloc, *fault),
         Fault::Overflow(fault) => overflow_line(alloc, *fault),
+        Fault::UndecidedNodes => "UNDECIDED nodes\n".to_string(alloc),
         Fault::UndecidedPivots => "UNDECIDED pivots\n".to_string(alloc),
         Fault::Refused(part) => refused_line(alloc, *part),
         Fault::NoMemory => "no memory\n".to_string(alloc),
