@@ -92,6 +92,11 @@ fn median<R: Clock + Print>(
     for _ in 0..TIMES {
         times.push(tenths(rt, operation, samples)?)?;
     }
+    middle(times)
+}
+
+/// The median of some times, or 0 where there are none.
+pub fn middle(mut times: Vec<u128>) -> io::Result<u128> {
     times.sort()?;
     Ok(times.get(times.len() / 2).copied().unwrap_or(0))
 }

@@ -186,7 +186,7 @@ fn fused_text(alloc: Global, q: Frac, a: Frac, b: Frac) -> Result<String, AllocE
 }
 
 // A number that a table holds.
-fn number(rt: &impl Abort, text: &str) -> Frac {
+pub fn number(rt: &impl Abort, text: &str) -> Frac {
     let Ok(value) = Frac::read_canonical(text) else {
         panic!(rt; "a number: {text}");
     };

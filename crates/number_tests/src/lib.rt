@@ -2,6 +2,8 @@
 #![tactic(auto)]
 
 #[cfg(test)]
+mod decimal_texts;
+#[cfg(test)]
 mod fractions;
 #[cfg(test)]
 mod wide_numbers;

@@ -1,0 +1,5 @@
+pub mod Rounding
+pub mod Fits
+pub mod Digits
+pub mod Significand
+pub mod Decimals
