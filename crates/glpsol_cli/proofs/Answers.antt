@@ -1,12 +1,12 @@
 -- What a stop and what is found give of the answer: its cause, and what is written with it.
-use Rattle.std.proofs.Common.{◌≡◌, ℕ, List, [], ◌∷◌, Some, refl, subst}
+use Rattle.std.proofs.Common.{◌≡◌, ℕ, List, [], ◌∷◌, length, take, Some, refl, subst}
 use Rattle.std.specs.Prelude.{Err}
 use Rattle.milp.specs.Problem.{Problem}
 use Rattle.verdicts.specs.Certificate.{Certificate, Verdict}
 use Rattle.verdicts.specs.Certificate as kind
 use Rattle.outside.specs.declared.store.LoadFault.{LoadFault}
 use Rattle.outside.specs.declared.store.LoadFault.TheVariants.{Missing as LoadMissing, Open, Read, TooLong as LoadTooLong, NoMemory as LoadNoMemory}
-use Rattle.branch_solve.specs.declared.fault.SolveFault.TheVariants.{NoFit as SolveNoFit, PivotLimit, NoMemory as SolveNoMemory}
+use Rattle.mixed_solve.specs.declared.fault.VerdictFault.TheVariants.{NoFit as SearchNoFit, PivotLimit, SplitLimit, RayNoFit, NoMemory as SearchNoMemory}
 use Rattle.command_line.specs.declared.settings.Settings.{Settings}
 use Rattle.command_line.specs.declared.settings.WordsFault.TheVariants.{Usage as WordsUsage, NoMemory as WordsNoMemory}
 use Rattle.glpsol_cli.specs.Asked.{ToldNames, OfTexts, AreTexts, IsInTurn, names_read}
@@ -22,7 +22,7 @@ use Rattle.glpsol_cli.specs.declared.found.Finding.TheVariants.{Size, Acceptance
 use Rattle.glpsol_cli.specs.declared.answer.Reached.{Reached}
 use Rattle.glpsol_cli.specs.declared.answer.Reached.TheVariants.{Size as SizeReached, Acceptance as AcceptanceReached, Verdict as VerdictReached}
 use Rattle.glpsol_cli.specs.declared.stop.Stop.{Stop}
-use Rattle.glpsol_cli.specs.declared.stop.Stop.TheVariants.{Words, File, Work}
+use Rattle.glpsol_cli.specs.declared.stop.Stop.TheVariants.{Words, File, Work, NoMemory as StopNoMemory}
 use Rattle.glpsol_cli.specs.declared.stop.Unfound.{Unfound}
 use Rattle.glpsol_cli.specs.declared.stop.Unfound.TheVariants.{Text, Solve, Check}
 use Rattle.glpsol_cli.specs.declared.stop.TextStop.TheVariants.{Fault as TextHas, NoMemory as TextNoMemory}
@@ -40,15 +40,15 @@ module _ (told : ToldNames) (P : List Piece → Type 0) where
   -- nothing is written while a text in these languages is executed
   done_in : (s : Settings) (texts : List (List ℕ)) → AreTexts told (names_read s) texts → P [] → HasDone P s texts
   done_in s [] read p = absurd read
-  done_in s (text ∷ others) read p = record { meaning = record { done = []; end = end_of s.direction (declared_in s.language text) }; means = refl; has = p }
+  done_in s (text ∷ others) read p = record { meaning = record { done = []; end = end_of s (declared_in s.language text (take (length s.data_files) others)) }; means = refl; has = p }
 
   found_in : (r : Reached) (pieces : List Piece) (p : Problem) (s : Settings) (texts : List (List ℕ)) → AreTexts told (names_read s) texts → IsAsked s texts p → found_pieces s.task p r ≡ Some pieces → P pieces → HasFound r P s texts
   found_in r pieces p s [] read asked are has = absurd read
   found_in r pieces p s (text ∷ others) read asked are has = record {
-    meaning = record { done = []; end = end_of s.direction (declared_in s.language text) };
+    meaning = record { done = []; end = end_of s (declared_in s.language text (take (length s.data_files) others)) };
     means = refl;
     problem = p;
-    end = same (end_of s.direction (declared_in s.language text)) (Declared p) asked;
+    end = same (end_of s (declared_in s.language text (take (length s.data_files) others))) (Declared p) asked;
     found = pieces;
     are = are;
     has = has;
@@ -73,9 +73,11 @@ module _ (words : List (List ℕ)) (told : ToldNames) (files_rose out_rose : Typ
   unfound_cause : (unfound : Unfound) → OfTexts words told (IsUnfound unfound) → Cause words told files_rose out_rose (unfound_answer unfound)
   unfound_cause (Text (TextHas fault)) h = h
   unfound_cause (Text TextNoMemory) h = tt
-  unfound_cause (Solve (SolveNoFit site)) h = h
-  unfound_cause (Solve (PivotLimit bases)) h = h
-  unfound_cause (Solve SolveNoMemory) h = executed words told (IsUnfound (Solve SolveNoMemory)) (λ done. Unit {0}) h tt
+  unfound_cause (Solve (SearchNoFit wanted site)) h = h
+  unfound_cause (Solve (RayNoFit e)) h = h
+  unfound_cause (Solve (PivotLimit wanted bases)) h = h
+  unfound_cause (Solve (SplitLimit wanted)) h = h
+  unfound_cause (Solve SearchNoMemory) h = executed words told (IsUnfound (Solve SearchNoMemory)) (λ done. Unit {0}) h tt
   unfound_cause (Check (BadText fault)) h = h
   unfound_cause (Check (CheckRefused part)) h = h
   unfound_cause (Check (CheckNoFit f)) h = h
@@ -86,6 +88,7 @@ module _ (words : List (List ℕ)) (told : ToldNames) (files_rose out_rose : Typ
   stop_cause (Words WordsNoMemory) h = tt
   stop_cause (File u) h = unread_cause u.name u.fault h
   stop_cause (Work unfound) h = unfound_cause unfound h
+  stop_cause StopNoMemory h = tt
 
 module _ (words : List (List ℕ)) (old new : Outside) (files_rose : Type 0) where
   unread_written : (name : List ℕ) (fault : LoadFault) → IsWrittenInPart Out (line_of (unread_answer name fault)) old new → Written words old new (unread_answer name fault)
@@ -105,9 +108,11 @@ module _ (words : List (List ℕ)) (old new : Outside) (files_rose : Type 0) whe
   unfound_written : (unfound : Unfound) → OfTexts words old.told (IsUnfound unfound) → IsWrittenInPart Out (line_of (unfound_answer unfound)) old new → Written words old new (unfound_answer unfound)
   unfound_written (Text (TextHas fault)) h line = line_alone (IsUnfound (Text (TextHas fault))) (line_of (unfound_answer (Text (TextHas fault)))) h line
   unfound_written (Text TextNoMemory) h line = (old, nothing old, line)
-  unfound_written (Solve (SolveNoFit site)) h line = line_alone (IsUnfound (Solve (SolveNoFit site))) (line_of (unfound_answer (Solve (SolveNoFit site)))) h line
-  unfound_written (Solve (PivotLimit bases)) h line = line_alone (IsUnfound (Solve (PivotLimit bases))) (line_of (unfound_answer (Solve (PivotLimit bases)))) h line
-  unfound_written (Solve SolveNoMemory) h line = some_line_alone (IsUnfound (Solve SolveNoMemory)) (line_of (unfound_answer (Solve SolveNoMemory))) h line
+  unfound_written (Solve (SearchNoFit wanted site)) h line = line_alone (IsUnfound (Solve (SearchNoFit wanted site))) (line_of (unfound_answer (Solve (SearchNoFit wanted site)))) h line
+  unfound_written (Solve (RayNoFit e)) h line = line_alone (IsUnfound (Solve (RayNoFit e))) (line_of (unfound_answer (Solve (RayNoFit e)))) h line
+  unfound_written (Solve (PivotLimit wanted bases)) h line = line_alone (IsUnfound (Solve (PivotLimit wanted bases))) (line_of (unfound_answer (Solve (PivotLimit wanted bases)))) h line
+  unfound_written (Solve (SplitLimit wanted)) h line = line_alone (IsUnfound (Solve (SplitLimit wanted))) (line_of (unfound_answer (Solve (SplitLimit wanted)))) h line
+  unfound_written (Solve SearchNoMemory) h line = some_line_alone (IsUnfound (Solve SearchNoMemory)) (line_of (unfound_answer (Solve SearchNoMemory))) h line
   unfound_written (Check (BadText fault)) h line = line_alone (IsUnfound (Check (BadText fault))) (line_of (unfound_answer (Check (BadText fault)))) h line
   unfound_written (Check (CheckRefused part)) h line = line_alone (IsUnfound (Check (CheckRefused part))) (line_of (unfound_answer (Check (CheckRefused part)))) h line
   unfound_written (Check (CheckNoFit f)) h line = line_alone (IsUnfound (Check (CheckNoFit f))) (line_of (unfound_answer (Check (CheckNoFit f)))) h line
@@ -118,6 +123,7 @@ module _ (words : List (List ℕ)) (old new : Outside) (files_rose : Type 0) whe
   stop_written (Words WordsNoMemory) h line = (old, nothing old, line)
   stop_written (File u) h line = unread_written u.name u.fault line
   stop_written (Work unfound) h line = unfound_written unfound h line
+  stop_written StopNoMemory h line = (old, nothing old, line)
 
 -- ---- what is found
 

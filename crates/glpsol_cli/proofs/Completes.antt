@@ -1,5 +1,5 @@
 -- Where nothing stands in the way: what the words ask for is what is answered.
-use Rattle.std.proofs.Common.{◌≡◌, ◌∙◌, ◌<◌, ◌≤◌, ℕ, List, [], ◌∷◌, ◌++◌, length, Some, None, refl, sym, subst, arith}
+use Rattle.std.proofs.Common.{◌≡◌, ◌∙◌, ◌<◌, ◌≤◌, ℕ, zero, suc, List, [], ◌∷◌, ◌++◌, length, take, Some, None, refl, sym, ap, subst, arith}
 use Rattle.std.specs.Prelude.{Result, Ok, Err}
 use Rattle.milp.specs.Problem.{Problem}
 use Rattle.fraction.specs.declared.frac.NoFit.{NoFit}
@@ -16,13 +16,15 @@ use Rattle.command_line.specs.Meaning.{settings_of}
 use Rattle.command_line.specs.declared.settings.Settings.{Settings}
 use Rattle.command_line.specs.declared.settings.Task.{Task}
 use Rattle.command_line.specs.declared.settings.Task.TheVariants.{Solve, Translate, CheckCertificate}
-use Rattle.glpsol_cli.specs.Asked.{ToldNames, OfTexts, AreTexts, IsInTurn, IsSolve, names_read}
-use Rattle.glpsol_cli.specs.Meaning.{Declared, Faulty, IsAsked, IsRefused}
+use Rattle.glpsol_cli.specs.Asked.{ToldNames, OfTexts, AreTexts, IsInTurn, Solves, IsSolve, names_read}
+use Rattle.glpsol_cli.specs.Meaning.{Declared, Faulty, declared_in, end_of, IsAsked, IsRefused}
 use Rattle.glpsol_cli.specs.Cause.{Cause, OfCertificate, IsAccepted, IsNoCertificate, IsRefusedAt, IsCheckOverflow, IsUndecided, IsTranslated, IsProved, IsOverflow, RoseAt}
 use Rattle.glpsol_cli.specs.Complete.{AreTold, IsComplete, IsVerdictOrNoMemory, IsRecheck, IsAcceptedOrFault}
 use Rattle.glpsol_cli.specs.declared.answer.Answer.{Answer}
 use Rattle.glpsol_cli.specs.declared.answer.Answer.TheVariants.{Optimal, Infeasible, Unbounded, Translated, Accepted, Usage, Missing, OpenFault, ReadFault, WriteFault, TooLong, BadText, BadCertificate, Overflow, Undecided, Refused, NoMemory}
-use Rattle.glpsol_cli.specs.declared.answer.OverflowSite.TheVariants.{AtNode, InPart}
+use Rattle.glpsol_cli.specs.declared.answer.Limit.{Limit}
+use Rattle.glpsol_cli.specs.declared.answer.Limit.TheVariants.{Pivots, Splits}
+use Rattle.glpsol_cli.specs.declared.answer.OverflowSite.TheVariants.{AtNode, InRay, InPart}
 use Rattle.glpsol_cli.specs.declared.answer.OverflowSite.{OverflowSite}
 use Rattle.glpsol_cli.specs.declared.answer.Target.{Target}
 use Rattle.glpsol_cli.specs.declared.answer.Target.TheVariants.{Out, File}
@@ -117,10 +119,6 @@ module _ (words : List (List ℕ)) (told : ToldNames) (files_rose out_rose : Typ
   checks_none : (P : Problem → List ℕ → Type 0) → OfTexts words told (OfCertificate P) → ⊥
   checks_none P of = let c = said (OfCertificate P) of in solve_checks k.settings.task c.name k.solves c.checks
 
-  overflow_none : (at : OverflowSite) (e : NoFit) → IsOverflow at e k.settings k.texts → ⊥
-  overflow_none (AtNode node) e h = k.fits node e h
-  overflow_none (InPart part) e h = solve_checks k.settings.task h.name k.solves h.checks
-
   not_risen : (target : Target) → RoseAt target files_rose out_rose → ⊥
   not_risen Out h = k.out_held h
   not_risen (File name) h = k.files_held h
@@ -139,8 +137,8 @@ module _ (words : List (List ℕ)) (told : ToldNames) (files_rose out_rose : Typ
   complete (TooLong name) h = not_long words told k.settings k.texts k.asks k.has name h.0 h.2
   complete (BadText fault) h = not_refused words told k.settings k.texts k.asks k.has k.problem fault k.asked (said (IsRefused fault) h)
   complete (BadCertificate fault) h = checks_none (IsNoCertificate fault) h
-  complete (Overflow at e) h = overflow_none at e (said (IsOverflow at e) h)
-  complete (Undecided bases) h = k.ends bases (said (IsUndecided bases) h)
+  complete (Overflow at e) h = k.fits at e (said (IsOverflow at e) h)
+  complete (Undecided limit) h = k.ends limit (said (IsUndecided limit) h)
   complete (Refused part) h = checks_none (IsRefusedAt part) h
   complete (NoMemory reached) h = tt
 
@@ -166,17 +164,40 @@ ok_same c d e = cc
 ok_err : (c : Certificate) (f : CertFault) → ◌≡◌ {A = Result Certificate CertFault} (Ok c) (Err f) → ⊥
 ok_err c f e = cc
 
+told_many : (told : ToldNames) (names texts : List (List ℕ)) → AreTold told names texts → length texts ≡ length names
+told_many told [] [] h = refl
+told_many told [] (text ∷ texts) h = absurd h
+told_many told (name ∷ names) [] h = absurd h
+told_many told (name ∷ names) (text ∷ texts) h = ap suc (told_many told names texts h.2)
+
+snoc_length : (xs : List (List ℕ)) (x : List ℕ) → length (xs ++ x ∷ []) ≡ suc (length xs)
+snoc_length [] x = refl
+snoc_length (y ∷ xs) x = ap suc (snoc_length xs x)
+
+taken_first : (n : ℕ) (xs more : List (List ℕ)) → length xs ≡ n → take n (xs ++ more) ≡ take n xs
+taken_first zero xs more e = refl
+taken_first (suc n) [] more e = absurd (omega (arith, e))
+taken_first (suc n) (x ∷ xs) more e = ap (λ ys. x ∷ ys) (taken_first n xs more (omega (arith, e)))
+
 -- other words on the same texts, and one more, ask about the same problem
-asked_again : (s : Settings) (task : Task) (texts more : List (List ℕ)) (p : Problem) → IsAsked s texts p → IsAsked (record s { task = task }) (texts ++ more) p
-asked_again s task [] more p a = none_there p a
-  where
-    none_there : (p : Problem) → None ≡ Some (Declared p) → IsAsked (record s { task = task }) more p
-    none_there p e = cc
-asked_again s task (text ∷ texts) more p a = a
+asked_again : (s : Settings) (task : Task) (texts more : List (List ℕ)) (p : Problem) → length texts ≡ suc (length s.data_files) → IsAsked s texts p → IsAsked (record s { task = task }) (texts ++ more) p
+asked_again s task [] more p n a = absurd (omega (arith, n))
+asked_again s task (text ∷ others) more p n a = ap (λ ds. Some (end_of s (declared_in s.language text ds))) (taken_first (length s.data_files) others more (omega (arith, n))) ∙ a
+
+undecided_solves : (limit : Limit) (s : Settings) (texts : List (List ℕ)) → IsUndecided limit s texts → Solves s
+undecided_solves (Pivots wanted bases) s texts h = h.solves
+undecided_solves (Splits wanted) s texts h = h.solves
 
 module _ (c : Certificate) (again : List (List ℕ)) (told : ToldNames) (files_rose out_rose : Type 0) (k : IsRecheck c again told) (read_back : read_of (certificate_text c) ≡ Ok c) where
+  as_many : length k.texts ≡ suc (length k.settings.data_files)
+  as_many =
+      let all : length (k.texts ++ certificate_text c ∷ []) ≡ suc (length (k.settings.data_files ++ k.name ∷ [])) = told_many told (k.settings.model ∷ (k.settings.data_files ++ k.name ∷ [])) (k.texts ++ certificate_text c ∷ []) k.has in
+      let texts = snoc_length k.texts (certificate_text c) in
+      let names = snoc_length k.settings.data_files k.name in
+      omega (arith, all, texts, names)
+
   asked : IsAsked (record k.settings { task = CheckCertificate k.name }) (k.texts ++ certificate_text c ∷ []) k.found.problem
-  asked = asked_again k.settings (CheckCertificate k.name) k.texts (certificate_text c ∷ []) k.found.problem k.found.asked
+  asked = asked_again k.settings (CheckCertificate k.name) k.texts (certificate_text c ∷ []) k.found.problem as_many k.found.asked
 
   says : (P : Settings → List (List ℕ) → Type 0) → OfTexts again told P → P (record k.settings { task = CheckCertificate k.name }) (k.texts ++ certificate_text c ∷ [])
   says P of = holds_of again told (record k.settings { task = CheckCertificate k.name }) (k.texts ++ certificate_text c ∷ []) k.asks k.has P of
@@ -205,7 +226,8 @@ module _ (c : Certificate) (again : List (List ℕ)) (told : ToldNames) (files_r
       no_fault part e h = cc
 
   overflow_where : (at : OverflowSite) (e : NoFit) → IsOverflow at e (record k.settings { task = CheckCertificate k.name }) (k.texts ++ certificate_text c ∷ []) → ⊥
-  overflow_where (AtNode node) e h = h.solves
+  overflow_where (AtNode wanted node) e h = h.solves
+  overflow_where InRay e h = h.solves
   overflow_where (InPart part) e h = overflows part e (of_text (IsCheckOverflow part e) h)
 
   pub rechecked : (answer : Answer) → Cause again told files_rose out_rose answer → IsAcceptedOrFault answer
@@ -223,6 +245,6 @@ module _ (c : Certificate) (again : List (List ℕ)) (told : ToldNames) (files_r
   rechecked (BadText fault) h = not_refused again told (record k.settings { task = CheckCertificate k.name }) (k.texts ++ certificate_text c ∷ []) k.asks k.has k.found.problem fault asked (says (IsRefused fault) h)
   rechecked (BadCertificate fault) h = bad_text fault (of_text (IsNoCertificate fault) (says (OfCertificate (IsNoCertificate fault)) h))
   rechecked (Overflow at e) h = overflow_where at e (says (IsOverflow at e) h)
-  rechecked (Undecided bases) h = (says (IsUndecided bases) h).solves
+  rechecked (Undecided limit) h = undecided_solves limit (record k.settings { task = CheckCertificate k.name }) (k.texts ++ certificate_text c ∷ []) (says (IsUndecided limit) h)
   rechecked (Refused part) h = refused part (of_text (IsRefusedAt part) (says (OfCertificate (IsRefusedAt part)) h))
   rechecked (NoMemory reached) h = tt

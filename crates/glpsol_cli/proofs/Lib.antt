@@ -8,4 +8,5 @@ pub mod Carried
 pub mod Verdicts
 pub mod Completes
 mod OneColumn
+mod OneNode
 mod WorkedExample

@@ -1,5 +1,5 @@
--- The least x from 2 to 5: Bland's run ends where it starts, and no operation of the work on it fails to fit.
-use Rattle.std.proofs.Common.{◌≡◌, ◌∙◌, ℕ, zero, suc, ◌<◌, List, [], ◌∷◌, ◌++◌, length, false, Option, Some, None, Result, Ok, Err, refl, sym, ap, subst, arith, inl, inr}
+-- The least whole x from 2 to 5: Bland's run ends where it starts, and no operation of the work on it fails to fit.
+use Rattle.std.proofs.Common.{◌≡◌, ◌∙◌, ℕ, zero, suc, ◌<◌, List, [], ◌∷◌, ◌++◌, length, true, Option, Some, None, Result, Ok, Err, refl, sym, ap, subst, arith, inl, inr}
 use Rattle.std.specs.Prelude.{pos, ◌*ℤ◌, ◌<ℤ◌, codes, IsOk}
 use Rattle.std.proofs.lemmas.Int.{ints}
 use Rattle.integer.specs.Gcd.{gcd, gcd_within}
@@ -24,12 +24,11 @@ use Rattle.basis.proofs.Laws.{neg_above, start_is_dictionary, same_gains}
 use Rattle.cert_check.specs.Parts.{point_answer, node_answer}
 use Rattle.cert_check.specs.Parts as of
 use Rattle.simplex.specs.Run.{IsLimited}
-use Rattle.branch_solve.specs.Leaves.{node_setting}
-use Rattle.branch_solve.specs.Solved.{IsWorkFault}
+use Rattle.search_tree.specs.Work.{IsWorkFault, node_setting}
 
 abbrev pub problem : Problem
 problem = record {
-  columns = record { name = codes "x"; lower = Some (whole (pos 2)); upper = Some (whole (pos 5)); integer = false } ∷ [];
+  columns = record { name = codes "x"; lower = Some (whole (pos 2)); upper = Some (whole (pos 5)); integer = true } ∷ [];
   rows = [];
   direction = Min;
   objective_name = codes "cost";

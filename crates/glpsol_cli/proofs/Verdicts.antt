@@ -53,7 +53,7 @@ module _ (words : List (List ℕ)) (told : ToldNames) (c : Certificate) (right :
   carried files_rose out_rose (BadText fault) e h = absurd (executed_carried e)
   carried files_rose out_rose (BadCertificate fault) e h = absurd (executed_carried e)
   carried files_rose out_rose (Overflow at fault) e h = absurd (executed_carried e)
-  carried files_rose out_rose (Undecided bases) e h = absurd (executed_carried e)
+  carried files_rose out_rose (Undecided limit) e h = absurd (executed_carried e)
   carried files_rose out_rose (Refused part) e h = absurd (executed_carried e)
   carried files_rose out_rose (NoMemory r) e h = of_reached r e h
 

@@ -1,50 +1,60 @@
 -- The worked example: what its words and its text stand for, and that nothing stands in the way of its verdict.
-use Rattle.std.proofs.Common.{◌≡◌, ◌∙◌, List, [], ◌∷◌, Some, None, Ok, refl, sym, ap, subst, arith}
+use Rattle.std.proofs.Common.{◌≡◌, ◌∙◌, ℕ, List, [], ◌∷◌, Some, Ok, refl, sym, ap, subst, arith}
 use Rattle.std.specs.Prelude.{codes}
 use Rattle.std.specs.Str.{is_utf8, chars}
 use Rattle.std.specs.Char.{encode_utf8}
 use Rattle.milp.specs.Problem.{Problem}
-use Rattle.verdicts.specs.Certificate.{Derived, Side}
 use Rattle.fraction.specs.declared.frac.NoFit.{NoFit}
-use Rattle.basis.specs.Node.{system_of}
-use Rattle.basis.specs.declared.Place.{Place}
-use Rattle.search_node.specs.Sides.{sides_of}
-use Rattle.search_node.specs.declared.node.Node.{Node}
-use Rattle.simplex.specs.Run.{IsLimited}
-use Rattle.branch_solve.specs.Solved.{IsWorkFault}
+use Rattle.milp.specs.Points.{IsImprovingRay}
+use Rattle.branch_search.specs.Faults.{IsStuckAt, IsRunTooLong, IsOutOfSplits}
+use Rattle.mixed_solve.specs.declared.fault.Wanted.{Wanted}
+use Rattle.mixed_solve.specs.declared.fault.Wanted.TheVariants.{Best, Any}
 use Rattle.mps_reader.specs.FreeMps.{declared}
 use Rattle.outside.specs.Told.{Has}
 use Rattle.command_line.proofs.Laws.{plain_settings, plain_words}
+use Rattle.command_line.specs.declared.settings.Settings.{Settings}
+use Rattle.command_line.specs.declared.settings.Task.TheVariants.{CheckCertificate}
 use Rattle.glpsol_cli.specs.Asked.{ToldNames}
 use Rattle.glpsol_cli.specs.Meaning.{end_of, told_as, IsAsked}
 use Rattle.glpsol_cli.specs.declared.answer.TextFault.TheVariants.{File}
-use Rattle.glpsol_cli.specs.Cause.{IsNodeOverflow, IsUndecided}
+use Rattle.glpsol_cli.specs.Cause.{OfSearch, IsOverflow, IsUndecided}
 use Rattle.glpsol_cli.specs.Complete.{IsComplete}
 use Rattle.glpsol_cli.specs.WorkedExample.{example_words, example_text}
 use Rattle.glpsol_cli.proofs.Completes.{declared_same}
-use Rattle.glpsol_cli.proofs.OneColumn.{problem, no_fault, never_limited}
+use Rattle.glpsol_cli.specs.declared.answer.Limit.{Limit}
+use Rattle.glpsol_cli.specs.declared.answer.Limit.TheVariants.{Pivots, Splits}
+use Rattle.glpsol_cli.specs.declared.answer.OverflowSite.{OverflowSite}
+use Rattle.glpsol_cli.specs.declared.answer.OverflowSite.TheVariants.{AtNode, InRay, InPart}
+use Rattle.glpsol_cli.proofs.OneColumn.{problem}
+use Rattle.glpsol_cli.proofs.OneNode.{never_stuck, never_too_long, never_out_of_splits, no_ray}
 
 declares : declared example_text ≡ Ok problem
 unfolding is_utf8 chars encode_utf8
 declares = refl
 
 asked : IsAsked plain_settings (example_text ∷ []) problem
-asked = ap (λ r. Some (end_of None (told_as File r))) declares
+asked = ap (λ r. Some (end_of plain_settings (told_as File r))) declares
 
 -- a problem that is asked about is this one
 same_problem : (p : Problem) → IsAsked plain_settings (example_text ∷ []) p → p ≡ problem
 same_problem p h = declared_same p problem (sym h ∙ asked)
 
--- what holds of the work on it, at the root, holds of this problem alone
-at_root : (P : Problem → List Derived → List Side → Type 0) (p : Problem) (ds : List Derived) (node : Node) → p ≡ problem → ds ≡ [] → node ≡ record { root_basis = None; splits = [] } → P p ds (sides_of node.splits) → P problem [] []
-at_root P p ds node e f g h =
-    subst (λ (n : Node). P problem [] (sides_of n.splits)) g (subst (λ l. P problem l (sides_of node.splits)) f (subst (λ q. P q ds (sides_of node.splits)) e h))
+-- what is searched is this problem, for no ray improves it
+never_searched : (wanted : Wanted) (P : Problem → Settings → Type 0) → ¬ (P problem plain_settings) → ¬ (OfSearch wanted P plain_settings (example_text ∷ []))
+never_searched Best P none h = none (subst (λ p. P p plain_settings) (same_problem h.problem h.asked) h.holds)
+never_searched Any P none h = no_ray h.is_wanted.0 (subst (λ p. IsImprovingRay p h.is_wanted.0) (same_problem h.problem h.asked) h.is_wanted.1)
 
-fits : (node : Node) (e : NoFit) → ¬ (IsNodeOverflow node e plain_settings (example_text ∷ []))
-fits node e h = no_fault e (at_root (λ p ds sides. IsWorkFault p ds sides e) h.problem h.derived node (same_problem h.problem h.asked) h.work.none h.work.root h.operation)
+fits : (at : OverflowSite) (e : NoFit) → ¬ (IsOverflow at e plain_settings (example_text ∷ []))
+fits (AtNode wanted node) e h = never_searched wanted (λ p settings. IsStuckAt p [] settings.split_limit (record { node = node; fault = e })) (never_stuck 10000 (record { node = node; fault = e })) h
+fits InRay e h = no_ray h.operation.ray (subst (λ p. IsImprovingRay p h.operation.ray) (same_problem h.problem h.asked) h.operation.improving)
+fits (InPart part) e h = solves_only h.name h.checks
+  where
+    solves_only : (name : List ℕ) → plain_settings.task ≡ CheckCertificate name → ⊥
+    solves_only name e = cc
 
-ends : (bases : List (List Place)) → ¬ (IsUndecided bases plain_settings (example_text ∷ []))
-ends bases h = never_limited 100000 bases (at_root (λ p ds sides. IsLimited (system_of p ds sides) 100000 bases) h.problem h.derived h.node (same_problem h.problem h.asked) h.work.none h.work.root h.limit)
+ends : (limit : Limit) → ¬ (IsUndecided limit plain_settings (example_text ∷ []))
+ends (Pivots wanted bases) h = never_searched wanted (λ p settings. IsRunTooLong p [] settings.split_limit settings.pivot_limit bases) (never_too_long 10000 100000 bases) h
+ends (Splits wanted) h = never_searched wanted (λ p settings. IsOutOfSplits p [] settings.split_limit) (never_out_of_splits 10000 (omega arith)) h
 
 pub is_complete : (told : ToldNames) (files_rose out_rose : Type 0) → Has (told (codes "model")) example_text → (files_rose → ⊥) → (out_rose → ⊥) → IsComplete example_words told files_rose out_rose
 is_complete told files_rose out_rose has files_held out_held = record {

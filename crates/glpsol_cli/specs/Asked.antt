@@ -45,9 +45,9 @@ names_checked (Solve outputs) = []
 names_checked Translate = []
 names_checked (CheckCertificate name) = name ∷ []
 
--- the names of the files that are read, in order
+-- the names of the files that are read, in order: the model, the data files, and the certificate that is to be checked
 abbrev pub names_read : Settings → List (List ℕ)
-names_read s = s.model ∷ names_checked s.task
+names_read s = s.model ∷ (s.data_files ++ names_checked s.task)
 
 -- a file isn't told missing, and its text, where it is told, isn't too long
 pub record IsThere (told : Option (Option (List ℕ))) : Type 0 where

@@ -5,15 +5,13 @@ use Rattle.milp.specs.Points.{IsOptimal, Feasible, IsUnbounded, objective_value}
 use Rattle.rational.specs.Rational.{Rational}
 use Rattle.fraction.specs.declared.frac.NoFit.{NoFit}
 use Rattle.fraction.specs.Answers.{DoesNotFit}
-use Rattle.verdicts.specs.Certificate.{Certificate, Derived}
+use Rattle.verdicts.specs.Certificate.{Certificate}
 use Rattle.verdicts.specs.Certificate as kind
 use Rattle.verdicts.specs.Proves.{Proves, Holds, tests, first_failing}
-use Rattle.basis.specs.Node.{system_of}
-use Rattle.basis.specs.declared.Place.{Place}
-use Rattle.search_node.specs.Sides.{sides_of}
 use Rattle.search_node.specs.declared.node.Node.{Node}
-use Rattle.simplex.specs.Run.{IsLimited}
-use Rattle.branch_solve.specs.Solved.{IsRoot, IsWorkFault}
+use Rattle.branch_search.specs.Faults.{IsStuckAt, IsRunTooLong, IsOutOfSplits}
+use Rattle.mixed_solve.specs.Faults.{IsWanted, IsRayFault, searched}
+use Rattle.mixed_solve.specs.declared.fault.Wanted.{Wanted}
 use Rattle.certificate_reader.specs.Reading.{read_of}
 use Rattle.certificate_lines.specs.declared.fault.CertFault.{CertFault}
 use Rattle.cert_check.specs.Outcome.{Acceptance as Accepting, Fault, outcome, trials, part_of}
@@ -25,8 +23,10 @@ use Rattle.glpsol_cli.specs.Asked.{ToldNames, OfTexts, IsInTurn, Solves, Transla
 use Rattle.glpsol_cli.specs.Meaning.{IsAsked, IsRefused, HasDone}
 use Rattle.glpsol_cli.specs.declared.answer.Answer.{Answer}
 use Rattle.glpsol_cli.specs.declared.answer.Answer.TheVariants.{Optimal, Infeasible, Unbounded, Translated, Accepted, Usage, Missing, OpenFault, ReadFault, WriteFault, TooLong, BadText, BadCertificate, Overflow, Undecided, Refused, NoMemory}
+use Rattle.glpsol_cli.specs.declared.answer.Limit.{Limit}
+use Rattle.glpsol_cli.specs.declared.answer.Limit.TheVariants.{Pivots, Splits}
 use Rattle.glpsol_cli.specs.declared.answer.OverflowSite.{OverflowSite}
-use Rattle.glpsol_cli.specs.declared.answer.OverflowSite.TheVariants.{AtNode, InPart}
+use Rattle.glpsol_cli.specs.declared.answer.OverflowSite.TheVariants.{AtNode, InRay, InPart}
 use Rattle.glpsol_cli.specs.declared.answer.Reached.{Reached}
 use Rattle.glpsol_cli.specs.declared.answer.Reached.TheVariants.{Nothing, Executed, Size, Acceptance, Verdict}
 use Rattle.glpsol_cli.specs.declared.answer.Target.{Target}
@@ -119,33 +119,37 @@ IsNoCertificate fault p bytes = read_of bytes ≡ Err fault
 
 -- ---- problems that are not solved
 
--- the work is at this node, which is the root, with these derived rows, of which there are none
-pub record IsWorkedAt (node : Node) (derived : List Derived) : Type 0 where
-  pub root : IsRoot node
-  pub none : derived ≡ []
-
--- the operation is one of the work at the node, and does not fit
-pub record IsNodeOverflow (node : Node) (e : NoFit) (s : Settings) (texts : List (List ℕ)) : Type 0 where
+-- P of the problem that is searched, and of the settings: the one that is asked about, where a best point is wanted; where
+-- any point is wanted, since a ray improves it, the same without its objective
+pub record OfSearch (wanted : Wanted) (P : Problem → Settings → Type 0) (s : Settings) (texts : List (List ℕ)) : Type 0 where
   pub problem : Problem
   pub asked : IsAsked s texts problem
   pub solves : Solves s
-  pub derived : List Derived
-  pub work : IsWorkedAt node derived
-  pub operation : IsWorkFault problem derived (sides_of node.splits) e
+  pub is_wanted : IsWanted problem wanted
+  pub holds : P (searched problem wanted) s
+
+-- the operation is one of the work at this node, to which splits lead that are all honest, and does not fit
+abbrev pub IsNodeOverflow : Wanted → Node → NoFit → Settings → List (List ℕ) → Type 0
+IsNodeOverflow wanted node e s texts = OfSearch wanted (λ p settings. IsStuckAt p [] settings.split_limit (record { node = node; fault = e })) s texts
+
+-- the operation is one of the test of a ray that improves the problem, and does not fit
+pub record IsRayOverflow (e : NoFit) (s : Settings) (texts : List (List ℕ)) : Type 0 where
+  pub problem : Problem
+  pub asked : IsAsked s texts problem
+  pub solves : Solves s
+  pub operation : IsRayFault problem e
 
 abbrev pub IsOverflow : OverflowSite → NoFit → Settings → List (List ℕ) → Type 0
-IsOverflow (AtNode node) e s texts = IsNodeOverflow node e s texts
+IsOverflow (AtNode wanted node) e s texts = IsNodeOverflow wanted node e s texts
+IsOverflow InRay e s texts = IsRayOverflow e s texts
 IsOverflow (InPart part) e s texts = OfCertificate (IsCheckOverflow part e) s texts
 
--- the bases are the first of the simplex method's run at a node, as many steps as are allowed, and there is one more step
-pub record IsUndecided (bases : List (List Place)) (s : Settings) (texts : List (List ℕ)) : Type 0 where
-  pub problem : Problem
-  pub asked : IsAsked s texts problem
-  pub solves : Solves s
-  pub node : Node
-  pub derived : List Derived
-  pub work : IsWorkedAt node derived
-  pub limit : IsLimited (system_of problem derived (sides_of node.splits)) s.pivot_limit bases
+-- the limit is too small: the bases are the first of the simplex method's run at a node to which honest splits lead, as many
+-- steps as are allowed, and there is one more step; or as many splits are made as are allowed, all honest, and nodes are left
+-- that would have to be split
+abbrev pub IsUndecided : Limit → Settings → List (List ℕ) → Type 0
+IsUndecided (Pivots wanted bases) s texts = OfSearch wanted (λ p settings. IsRunTooLong p [] settings.split_limit settings.pivot_limit bases) s texts
+IsUndecided (Splits wanted) s texts = OfSearch wanted (λ p settings. IsOutOfSplits p [] settings.split_limit) s texts
 
 -- ---- how far a run has come
 
@@ -172,7 +176,7 @@ reached_of (TooLong name) = Nothing
 reached_of (BadText fault) = Executed
 reached_of (BadCertificate fault) = Executed
 reached_of (Overflow at fault) = Executed
-reached_of (Undecided bases) = Executed
+reached_of (Undecided limit) = Executed
 reached_of (Refused part) = Executed
 reached_of (NoMemory reached) = reached
 
@@ -199,6 +203,6 @@ Cause words told files_rose out_rose (TooLong name) = IsInTurn words told name �
 Cause words told files_rose out_rose (BadText fault) = OfTexts words told (IsRefused fault)
 Cause words told files_rose out_rose (BadCertificate fault) = OfTexts words told (OfCertificate (IsNoCertificate fault))
 Cause words told files_rose out_rose (Overflow at e) = OfTexts words told (IsOverflow at e)
-Cause words told files_rose out_rose (Undecided bases) = OfTexts words told (IsUndecided bases)
+Cause words told files_rose out_rose (Undecided limit) = OfTexts words told (IsUndecided limit)
 Cause words told files_rose out_rose (Refused part) = OfTexts words told (OfCertificate (IsRefusedAt part))
 Cause words told files_rose out_rose (NoMemory reached) = IsReached words told reached

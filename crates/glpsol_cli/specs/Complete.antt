@@ -3,8 +3,6 @@ use Rattle.std.specs.Prelude.{◌≡◌, ◌≤◌, ℕ, List, [], ◌∷◌, �
 use Rattle.milp.specs.Problem.{Problem}
 use Rattle.fraction.specs.declared.frac.NoFit.{NoFit}
 use Rattle.verdicts.specs.Certificate.{Certificate}
-use Rattle.basis.specs.declared.Place.{Place}
-use Rattle.search_node.specs.declared.node.Node.{Node}
 use Rattle.certificate.specs.Text.{certificate_text}
 use Rattle.outside.specs.Told.{Has}
 use Rattle.command_line.specs.Meaning.{settings_of}
@@ -12,9 +10,11 @@ use Rattle.command_line.specs.declared.settings.Settings.{Settings}
 use Rattle.command_line.specs.declared.settings.Task.TheVariants.{CheckCertificate}
 use Rattle.glpsol_cli.specs.Asked.{ToldNames, Solves, names_read}
 use Rattle.glpsol_cli.specs.Meaning.{IsAsked}
-use Rattle.glpsol_cli.specs.Cause.{IsNodeOverflow, IsUndecided, IsProved}
+use Rattle.glpsol_cli.specs.Cause.{IsOverflow, IsUndecided, IsProved}
 use Rattle.glpsol_cli.specs.declared.answer.Answer.{Answer}
 use Rattle.glpsol_cli.specs.declared.answer.Answer.TheVariants.{Optimal, Infeasible, Unbounded, Accepted, OpenFault, ReadFault, WriteFault, NoMemory}
+use Rattle.glpsol_cli.specs.declared.answer.Limit.{Limit}
+use Rattle.glpsol_cli.specs.declared.answer.OverflowSite.{OverflowSite}
 
 -- the files of these names are told with these texts, and none is too long
 abbrev pub AreTold : ToldNames → List (List ℕ) → List (List ℕ) → Type 0
@@ -32,7 +32,8 @@ IsVerdictOrNoMemory (NoMemory reached) = Unit {0}
 IsVerdictOrNoMemory answer = ⊥
 
 -- Words that ask for a solution, told files, texts that declare a problem, no operation that doesn't fit, no run that is
--- too long, and counts that didn't rise: then nothing but a verdict or want of memory is answered.
+-- too long, no search that needs more splits than are allowed, and counts that didn't rise: then nothing but a verdict or
+-- want of memory is answered.
 pub record IsComplete (words : List (List ℕ)) (told : ToldNames) (files_rose out_rose : Type 0) : Type 0 where
   pub settings : Settings
   pub texts : List (List ℕ)
@@ -41,8 +42,8 @@ pub record IsComplete (words : List (List ℕ)) (told : ToldNames) (files_rose o
   pub solves : Solves settings
   pub has : AreTold told (names_read settings) texts
   pub asked : IsAsked settings texts problem
-  pub fits : (node : Node) (e : NoFit) → ¬ (IsNodeOverflow node e settings texts)
-  pub ends : (bases : List (List Place)) → ¬ (IsUndecided bases settings texts)
+  pub fits : (at : OverflowSite) (e : NoFit) → ¬ (IsOverflow at e settings texts)
+  pub ends : (limit : Limit) → ¬ (IsUndecided limit settings texts)
   pub files_held : files_rose → ⊥
   pub out_held : out_rose → ⊥
 
@@ -63,4 +64,4 @@ pub record IsRecheck (c : Certificate) (again : List (List ℕ)) (told : ToldNam
   pub found : IsProved c settings texts
   pub name : List ℕ
   pub asks : settings_of again ≡ Some (record settings { task = CheckCertificate name })
-  pub has : AreTold told (settings.model ∷ name ∷ []) (texts ++ certificate_text c ∷ [])
+  pub has : AreTold told (settings.model ∷ (settings.data_files ++ name ∷ [])) (texts ++ certificate_text c ∷ [])

@@ -1,9 +1,10 @@
 -- What the texts of a command's files mean, and what is written of it.
-use Rattle.std.specs.Prelude.{◌≡◌, ℕ, List, [], ◌∷◌, ◌++◌, Result, Some, None, Ok, Err}
+use Rattle.std.specs.Prelude.{◌≡◌, ℕ, Bool, true, false, List, [], ◌∷◌, ◌++◌, length, take, Result, Some, None, Ok, Err}
 use Rattle.std.specs.declared.option.Option.{Option}
 use Rattle.std.specs.Option.{option_map}
 use Rattle.milp.specs.Problem.{Problem}
 use Rattle.milp.specs.declared.Direction.{Direction}
+use Rattle.instance.specs.Continuous.{without_integrality}
 use Rattle.verdicts.specs.Certificate.{Certificate}
 use Rattle.certificate.specs.Text.{certificate_text}
 use Rattle.gmpl_reader.specs.MathProg.{declared as declared_by_math_prog}
@@ -47,30 +48,39 @@ abbrev pub told_as : {F : Type 0} → (F → TextFault) → Result Problem F →
 told_as make (Ok p) = Ok p
 told_as make (Err fault) = Err (make fault)
 
--- the problem that a text of this language declares, or its first fault
-abbrev pub declared_in : Language → List ℕ → Result Problem TextFault
-declared_in MathProg text = told_as text_fault_of (declared_by_math_prog text)
-declared_in FreeMps text = told_as text_fault.File (declared_by_free_mps text)
-declared_in CplexLp text = told_as text_fault.File (declared_by_cplex_lp text)
+-- the problem that a text of this language declares, in MathProg with the texts of data files, or the first fault
+abbrev pub declared_in : Language → List ℕ → List (List ℕ) → Result Problem TextFault
+declared_in MathProg text data_texts = told_as text_fault_of (declared_by_math_prog text data_texts)
+declared_in FreeMps text data_texts = told_as text_fault.File (declared_by_free_mps text)
+declared_in CplexLp text data_texts = told_as text_fault.File (declared_by_cplex_lp text)
 
 -- `--min` and `--max` set the direction
 abbrev pub directed : Option Direction → Problem → Problem
 directed None p = p
 directed (Some d) p = record p { direction = d }
 
-abbrev pub end_of : Option Direction → Result Problem TextFault → End
-end_of direction (Ok p) = Declared (directed direction p)
-end_of direction (Err fault) = Faulty fault
+-- `--nomip` asks for no whole numbers
+abbrev pub relaxed : Bool → Problem → Problem
+relaxed true p = without_integrality p
+relaxed false p = p
 
--- the model's text stands first; none of the languages writes anything so far
+-- the problem that is asked about, of the one that the texts declare
+abbrev pub asked_of : Settings → Problem → Problem
+asked_of s p = relaxed s.relaxed (directed s.direction p)
+
+abbrev pub end_of : Settings → Result Problem TextFault → End
+end_of s (Ok p) = Declared (asked_of s p)
+end_of s (Err fault) = Faulty fault
+
+-- the model's text stands first, and then those of the data files; none of the languages writes anything so far
 abbrev pub meaning_of : Settings → List (List ℕ) → Option Meaning
 meaning_of s [] = None
-meaning_of s (text ∷ others) = Some (record { done = []; end = end_of s.direction (declared_in s.language text) })
+meaning_of s (text ∷ others) = Some (record { done = []; end = end_of s (declared_in s.language text (take (length s.data_files) others)) })
 
 abbrev pub end_in : Settings → List (List ℕ) → Option End
 end_in s texts = option_map (λ (m : Meaning). m.end) (meaning_of s texts)
 
--- p is the problem that the texts declare, in the direction that the settings ask for
+-- p is the problem that the texts declare, in the direction and with the integrality that the settings ask for
 abbrev pub IsAsked : Settings → List (List ℕ) → Problem → Type 0
 IsAsked s texts p = end_in s texts ≡ Some (Declared p)
 

@@ -1,13 +1,12 @@
 -- What the stages of a run say: what is found, why nothing is found, and how the writing ends.
-use Rattle.std.specs.Prelude.{◌≡◌, ◌<◌, ℕ, List, [], ◌∷◌, length, Result, Ok, Err, Some, None, map}
+use Rattle.std.specs.Prelude.{◌≡◌, ◌<◌, ℕ, List, [], ◌∷◌, ◌++◌, length, Result, Ok, Err, Some, None, map}
 use Rattle.std.specs.declared.option.Option.{Option}
 use Rattle.milp.specs.Problem.{Problem}
-use Rattle.milp.specs.declared.Direction.{Direction}
 use Rattle.verdicts.specs.Certificate.{Certificate, Verdict}
 use Rattle.verdicts.specs.Certificate as kind
 use Rattle.verdicts.specs.Proves.{Proves}
-use Rattle.branch_solve.specs.declared.fault.SolveFault.{SolveFault}
-use Rattle.branch_solve.specs.declared.fault.SolveFault.TheVariants.{NoFit as SolveNoFit, PivotLimit, NoMemory as SolveNoMemory}
+use Rattle.mixed_solve.specs.declared.fault.VerdictFault.{VerdictFault}
+use Rattle.mixed_solve.specs.declared.fault.VerdictFault.TheVariants.{NoFit as SearchNoFit, PivotLimit, SplitLimit, RayNoFit, NoMemory as SearchNoMemory}
 use Rattle.cert_check.specs.Outcome.{Acceptance as Accepting, outcome, trials}
 use Rattle.outside.specs.Told.{Lacks, Has}
 use Rattle.outside.specs.declared.store.LoadFault.{LoadFault}
@@ -15,18 +14,17 @@ use Rattle.outside.specs.declared.store.LoadFault.TheVariants.{Missing as LoadMi
 use Rattle.command_line.specs.Meaning.{settings_of}
 use Rattle.command_line.specs.declared.settings.Language.{Language}
 use Rattle.command_line.specs.declared.settings.Settings.{Settings}
-use Rattle.command_line.specs.declared.settings.Task.{Task}
-use Rattle.command_line.specs.declared.settings.Task.TheVariants.{Solve as SolveTask, Translate, CheckCertificate}
 use Rattle.command_line.specs.declared.settings.WordsFault.{WordsFault}
 use Rattle.command_line.specs.declared.settings.WordsFault.TheVariants.{Usage as WordsUsage, NoMemory as WordsNoMemory}
 use Rattle.solution_writer.specs.Report.{IsReportable}
-use Rattle.glpsol_cli.specs.Asked.{ToldNames, OfTexts, AreTexts, IsInTurn, Solves, Translates, names_read}
+use Rattle.glpsol_cli.specs.Asked.{ToldNames, OfTexts, AreTexts, AreThere, IsInTurn, Solves, Translates, names_read}
 use Rattle.glpsol_cli.specs.Pieces.{Piece, Outside, AllWritten, WrittenUpTo, SomeWritten, IsWritten, IsWrittenInPart}
-use Rattle.glpsol_cli.specs.Meaning.{IsAsked, IsRefused, found_pieces, declared_in, directed}
-use Rattle.glpsol_cli.specs.Cause.{OfCertificate, IsAccepted, IsRefusedAt, IsCheckOverflow, IsNoCertificate, IsNodeOverflow, IsUndecided, RoseAt}
+use Rattle.glpsol_cli.specs.Meaning.{End, Faulty, IsAsked, IsRefused, found_pieces, declared_in}
+use Rattle.glpsol_cli.specs.Cause.{OfCertificate, IsAccepted, IsRefusedAt, IsCheckOverflow, IsNoCertificate, IsOverflow, IsUndecided, RoseAt}
 use Rattle.glpsol_cli.specs.declared.answer.Answer.{Answer}
 use Rattle.glpsol_cli.specs.declared.answer.Answer.TheVariants.{Optimal, Infeasible, Unbounded, Translated, Accepted, Usage, Missing, OpenFault, ReadFault, WriteFault, TooLong, BadText, BadCertificate, Overflow, Undecided, Refused, NoMemory}
-use Rattle.glpsol_cli.specs.declared.answer.OverflowSite.TheVariants.{AtNode, InPart}
+use Rattle.glpsol_cli.specs.declared.answer.Limit.TheVariants.{Pivots, Splits}
+use Rattle.glpsol_cli.specs.declared.answer.OverflowSite.TheVariants.{AtNode, InRay, InPart}
 use Rattle.glpsol_cli.specs.declared.answer.Reached.{Reached}
 use Rattle.glpsol_cli.specs.declared.answer.Reached.TheVariants.{Nothing, Executed, Size as SizeReached, Acceptance as AcceptanceReached, Verdict as VerdictReached}
 use Rattle.glpsol_cli.specs.declared.inputs.Inputs.{Inputs}
@@ -34,7 +32,7 @@ use Rattle.glpsol_cli.specs.declared.found.Found.{Found}
 use Rattle.glpsol_cli.specs.declared.found.Finding.{Finding}
 use Rattle.glpsol_cli.specs.declared.found.Finding.TheVariants.{Size, Acceptance, Verdict as VerdictFound}
 use Rattle.glpsol_cli.specs.declared.stop.Stop.{Stop}
-use Rattle.glpsol_cli.specs.declared.stop.Stop.TheVariants.{Words, File, Work}
+use Rattle.glpsol_cli.specs.declared.stop.Stop.TheVariants.{Words, File, Work, NoMemory as StopNoMemory}
 use Rattle.glpsol_cli.specs.declared.stop.Unfound.{Unfound}
 use Rattle.glpsol_cli.specs.declared.stop.Unfound.TheVariants.{Text, Solve, Check}
 use Rattle.glpsol_cli.specs.declared.stop.Unread.{Unread}
@@ -48,15 +46,9 @@ use Rattle.glpsol_cli.specs.declared.publish.Piece.{Piece as PieceHeld}
 
 -- ---- what is read
 
--- the text of the certificate that is to be checked, where one is
-abbrev pub texts_checked : Task → List ℕ → List (List ℕ)
-texts_checked (SolveTask outputs) bytes = []
-texts_checked Translate bytes = []
-texts_checked (CheckCertificate name) bytes = bytes ∷ []
-
 -- the texts of the files, in the order in which they are read
 abbrev pub texts_in : Inputs → List (List ℕ)
-texts_in inputs = inputs.text.items ∷ texts_checked inputs.settings.task inputs.certificate.items
+texts_in inputs = map (λ text. text.items) inputs.texts.items
 
 -- the inputs are what the words ask for
 pub record AreInputs (words : List (List ℕ)) (told : ToldNames) (inputs : Inputs) : Type 0 where
@@ -95,16 +87,20 @@ finding_answer (VerdictFound c) = verdict_answer c c.verdict
 
 -- ---- why nothing is found
 
--- p is the problem that the text declares, in this direction where there is one
-pub record IsProblem (language : Language) (direction : Option Direction) (text : List ℕ) (p : Problem) : Type 0 where
-  pub declared : Problem
-  pub means : declared_in language text ≡ Ok declared
-  pub is : p ≡ directed direction declared
+-- why a text, with those of data files, is no problem
+abbrev pub IsTextStop : Language → List ℕ → List (List ℕ) → TextStop → Type 0
+IsTextStop language text data_texts (TextHas fault) = declared_in language text data_texts ≡ Err fault
+IsTextStop language text data_texts TextNoMemory = Unit {0}
 
--- why a text is no problem
-abbrev pub IsTextStop : Language → List ℕ → TextStop → Type 0
-IsTextStop language text (TextHas fault) = declared_in language text ≡ Err fault
-IsTextStop language text TextNoMemory = Unit {0}
+-- the end is a fault, or memory is wanting
+abbrev pub IsBadEnd : End → TextStop → Type 0
+IsBadEnd end (TextHas fault) = end ≡ Faulty fault
+IsBadEnd end TextNoMemory = Unit {0}
+
+-- why the texts are no problem
+abbrev pub IsNoProblem : Settings → List (List ℕ) → TextStop → Type 0
+IsNoProblem s texts (TextHas fault) = IsRefused fault s texts
+IsNoProblem s texts TextNoMemory = Unit {0}
 
 -- why a certificate with this text is not accepted
 abbrev pub IsCheckStop : Problem → List ℕ → CheckStop → Type 0
@@ -113,13 +109,21 @@ IsCheckStop p bytes (CheckRefused part) = IsRefusedAt part p bytes
 IsCheckStop p bytes (CheckNoFit f) = IsCheckOverflow f.part f.fault p bytes
 IsCheckStop p bytes CheckNoMemory = Unit {0}
 
+-- P of the last text
+pub record OfLast (P : List ℕ → Type 0) (texts : List (List ℕ)) : Type 0 where
+  pub before : List (List ℕ)
+  pub bytes : List ℕ
+  pub last : texts ≡ before ++ bytes ∷ []
+  pub holds : P bytes
+
 -- why the texts give nothing
 abbrev pub IsUnfound : Unfound → Settings → List (List ℕ) → Type 0
-IsUnfound (Text (TextHas fault)) s texts = IsRefused fault s texts
-IsUnfound (Text TextNoMemory) s texts = Unit {0}
-IsUnfound (Solve (SolveNoFit site)) s texts = IsNodeOverflow site.node site.fault s texts
-IsUnfound (Solve (PivotLimit bases)) s texts = IsUndecided bases s texts
-IsUnfound (Solve SolveNoMemory) s texts = Unit {0}
+IsUnfound (Text stop) s texts = IsNoProblem s texts stop
+IsUnfound (Solve (SearchNoFit wanted site)) s texts = IsOverflow (AtNode wanted site.node) site.fault s texts
+IsUnfound (Solve (RayNoFit e)) s texts = IsOverflow InRay e s texts
+IsUnfound (Solve (PivotLimit wanted bases)) s texts = IsUndecided (Pivots wanted bases) s texts
+IsUnfound (Solve (SplitLimit wanted)) s texts = IsUndecided (Splits wanted) s texts
+IsUnfound (Solve SearchNoMemory) s texts = Unit {0}
 IsUnfound (Check (BadText fault)) s texts = OfCertificate (IsNoCertificate fault) s texts
 IsUnfound (Check (CheckRefused part)) s texts = OfCertificate (IsRefusedAt part) s texts
 IsUnfound (Check (CheckNoFit f)) s texts = OfCertificate (IsCheckOverflow f.part f.fault) s texts
@@ -137,6 +141,34 @@ abbrev pub IsWordsFault : List (List ℕ) → WordsFault → Type 0
 IsWordsFault words WordsUsage = settings_of words ≡ None
 IsWordsFault words WordsNoMemory = Unit {0}
 
+-- the stop tells this name and this fault
+abbrev pub IsUnreadStop : List ℕ → LoadFault → Stop → Type 0
+IsUnreadStop name fault (File u) = (u.name ≡ name) × (u.fault ≡ fault)
+IsUnreadStop name fault (Words other) = ⊥
+IsUnreadStop name fault (Work unfound) = ⊥
+IsUnreadStop name fault StopNoMemory = Unit {0}
+
+-- the file of this name is not read
+abbrev pub IsStopAt : List ℕ → ToldNames → Type 0 → Stop → Type 0
+IsStopAt name told files_rose (File u) = (u.name ≡ name) × IsUnread (told u.name) files_rose u.fault
+IsStopAt name told files_rose (Words fault) = ⊥
+IsStopAt name told files_rose (Work unfound) = ⊥
+IsStopAt name told files_rose StopNoMemory = Unit {0}
+
+-- a file of these names is not read, and all before it are there
+pub record IsUnreadAmong (names : List (List ℕ)) (told : ToldNames) (files_rose : Type 0) (u : Unread) : Type 0 where
+  pub before : List (List ℕ)
+  pub after : List (List ℕ)
+  pub is : names ≡ before ++ u.name ∷ after
+  pub there : AreThere told before
+  pub unread : IsUnread (told u.name) files_rose u.fault
+
+abbrev pub IsStopAmong : List (List ℕ) → ToldNames → Type 0 → Stop → Type 0
+IsStopAmong names told files_rose (File u) = IsUnreadAmong names told files_rose u
+IsStopAmong names told files_rose (Words fault) = ⊥
+IsStopAmong names told files_rose (Work unfound) = ⊥
+IsStopAmong names told files_rose StopNoMemory = Unit {0}
+
 -- the file is in turn, and is not read
 abbrev pub IsUnreadIn : List (List ℕ) → ToldNames → Type 0 → Unread → Type 0
 IsUnreadIn words told files_rose u = IsInTurn words told u.name × IsUnread (told u.name) files_rose u.fault
@@ -145,6 +177,7 @@ abbrev pub IsStop : List (List ℕ) → ToldNames → Type 0 → Stop → Type 0
 IsStop words told files_rose (Words fault) = IsWordsFault words fault
 IsStop words told files_rose (File u) = IsUnreadIn words told files_rose u
 IsStop words told files_rose (Work unfound) = OfTexts words told (IsUnfound unfound)
+IsStop words told files_rose StopNoMemory = Unit {0}
 
 -- ---- the answers of a stop
 
@@ -155,10 +188,12 @@ unread_answer name Read = ReadFault name
 unread_answer name LoadTooLong = TooLong name
 unread_answer name LoadNoMemory = NoMemory Nothing
 
-abbrev pub solve_answer : SolveFault → Answer
-solve_answer (SolveNoFit site) = Overflow (AtNode site.node) site.fault
-solve_answer (PivotLimit bases) = Undecided bases
-solve_answer SolveNoMemory = NoMemory Executed
+abbrev pub solve_answer : VerdictFault → Answer
+solve_answer (SearchNoFit wanted site) = Overflow (AtNode wanted site.node) site.fault
+solve_answer (RayNoFit e) = Overflow InRay e
+solve_answer (PivotLimit wanted bases) = Undecided (Pivots wanted bases)
+solve_answer (SplitLimit wanted) = Undecided (Splits wanted)
+solve_answer SearchNoMemory = NoMemory Executed
 
 abbrev pub check_answer : CheckStop → Answer
 check_answer (BadText fault) = BadCertificate fault
@@ -183,6 +218,7 @@ abbrev pub stop_answer : Stop → Answer
 stop_answer (Words fault) = words_answer fault
 stop_answer (File u) = unread_answer u.name u.fault
 stop_answer (Work unfound) = unfound_answer unfound
+stop_answer StopNoMemory = NoMemory Nothing
 
 -- ---- writing
 

@@ -5,6 +5,6 @@ use Rattle.std.specs.Prelude.{ℕ, List, [], ◌∷◌, codes}
 abbrev pub example_words : List (List ℕ)
 example_words = codes "--freemps" ∷ codes "model" ∷ []
 
--- the least x from 2 to 5
+-- the least whole x from 2 to 5
 abbrev pub example_text : List ℕ
-example_text = codes "NAME t\nROWS\n N cost\nCOLUMNS\n x cost 1\nBOUNDS\n LO b x 2\n UP b x 5\nENDATA\n"
+example_text = codes "NAME t\nROWS\n N cost\nCOLUMNS\n x cost 1\nBOUNDS\n LI b x 2\n UP b x 5\nENDATA\n"

@@ -1,11 +1,13 @@
 -- What a run writes with each answer: the pieces of what it reached, or the first of them, and then the line of a fault or a part of it.
 use Rattle.std.specs.Prelude.{ℕ, List, [], codes}
-use Rattle.solution_writer.specs.FaultLine.{named_line, overflow_line, usage_line, syntax_line, data_line, model_line, file_line, certificate_line, undecided_pivots_line, refused_line, no_memory_line}
+use Rattle.solution_writer.specs.FaultLine.{named_line, overflow_line, usage_line, syntax_line, data_line, model_line, file_line, certificate_line, undecided_nodes_line, undecided_pivots_line, refused_line, no_memory_line}
 use Rattle.glpsol_cli.specs.Pieces.{Piece, Outside, IsWrittenInPart, Extent, Whole, UpTo, Part, WrittenTo}
 use Rattle.glpsol_cli.specs.Meaning.{OfPieces}
 use Rattle.glpsol_cli.specs.Cause.{reached_of}
 use Rattle.glpsol_cli.specs.declared.answer.Answer.{Answer}
 use Rattle.glpsol_cli.specs.declared.answer.Answer.TheVariants.{Optimal, Infeasible, Unbounded, Translated, Accepted, Usage, Missing, OpenFault, ReadFault, WriteFault, TooLong, BadText, BadCertificate, Overflow, Undecided, Refused, NoMemory}
+use Rattle.glpsol_cli.specs.declared.answer.Limit.{Limit}
+use Rattle.glpsol_cli.specs.declared.answer.Limit.TheVariants.{Pivots, Splits}
 use Rattle.glpsol_cli.specs.declared.answer.Target.{Target}
 use Rattle.glpsol_cli.specs.declared.answer.Target.TheVariants.{Out, File}
 use Rattle.glpsol_cli.specs.declared.answer.TextFault.{TextFault}
@@ -21,6 +23,10 @@ text_line (Syntax fault) = syntax_line fault
 text_line (Data fault) = data_line fault
 text_line (Model fault) = model_line fault
 text_line (FileText fault) = file_line fault
+
+abbrev pub undecided_line : Limit → List ℕ
+undecided_line (Pivots wanted bases) = undecided_pivots_line
+undecided_line (Splits wanted) = undecided_nodes_line
 
 -- the line of a fault; an answer without a fault has none
 abbrev pub line_of : Answer → List ℕ
@@ -38,7 +44,7 @@ line_of (TooLong name) = named_line (codes "too long") name
 line_of (BadText fault) = text_line fault
 line_of (BadCertificate fault) = certificate_line fault
 line_of (Overflow at fault) = overflow_line fault
-line_of (Undecided bases) = undecided_pivots_line
+line_of (Undecided limit) = undecided_line limit
 line_of (Refused part) = refused_line part
 line_of (NoMemory reached) = no_memory_line
 
@@ -58,7 +64,7 @@ extent_of (TooLong name) = Whole
 extent_of (BadText fault) = Whole
 extent_of (BadCertificate fault) = Whole
 extent_of (Overflow at fault) = Whole
-extent_of (Undecided bases) = Whole
+extent_of (Undecided limit) = Whole
 extent_of (Refused part) = Whole
 extent_of (NoMemory reached) = Part
 

@@ -9,6 +9,7 @@ use gmpl_data_input::DataFault;
 use gmpl_generate::ModelFault;
 use gmpl_syntax::SyntaxFault;
 use instance::Name;
+use mixed_solve::Wanted;
 use model_text::FileFault;
 use search_node::{Bases, Node};
 
@@ -37,10 +38,21 @@ pub enum TextFault {
 /// Where an operation's result does not fit.
 #[derive(Drop)]
 pub enum OverflowSite {
-    /// In the work at this node of the tree of splits.
-    AtNode(Node),
+    /// In the work at this node of the tree of splits, in the search for what is wanted.
+    AtNode { wanted: Wanted, node: Node },
+    /// In the test of a ray that improves the problem.
+    InRay,
     /// In the check of this part of a certificate.
     InPart(Part),
+}
+
+/// A limit that a search came to.
+#[derive(Drop)]
+pub enum Limit {
+    /// At a node the simplex method went through these bases, as many steps as are allowed, and has not ended.
+    Pivots(Wanted, Bases),
+    /// As many splits are made as are allowed, and nodes are left that would have to be split.
+    Splits(Wanted),
 }
 
 /// How far a run has come.
@@ -89,8 +101,8 @@ pub enum Answer {
     BadCertificate(CertFault),
     /// The result of this operation does not fit.
     Overflow { at: OverflowSite, fault: NoFit },
-    /// The simplex method went through these bases, as many steps as are allowed, and has not ended.
-    Undecided(Bases),
+    /// The search came to this limit.
+    Undecided(Limit),
     /// This part of the certificate that was to be checked is the first that does not hold.
     Refused(Part),
     /// The memory is not there, after this was reached.

@@ -1,101 +1,117 @@
 // What the words and the files give.
-ghost use Rattle.std.specs.Prelude.{◌≡◌, ◌≤◌, ℕ, List, IfOk, IfErr, Some, map, string_bytes};
+ghost use Rattle.std.specs.Prelude.{◌≡◌, ◌≤◌, ◌++◌, ℕ, List, IfOk, IfErr, OnOk, map, string_bytes};
 ghost use Rattle.outside.specs.Causes.{Rose};
-ghost use Rattle.command_line.specs.Meaning.{settings_of};
-ghost use Rattle.command_line.specs.declared.settings.Task.TheVariants.{CheckCertificate};
-ghost use Rattle.glpsol_cli.specs.Asked.{AreTexts, IsTextOf, names_checked};
-ghost use Rattle.glpsol_cli.specs.Stages.{AreInputs, IsUnread, IsWordsFault, IsStop, texts_checked};
+ghost use Rattle.glpsol_cli.specs.Asked.{AreTexts, IsTextOf, names_read, names_checked};
+ghost use Rattle.glpsol_cli.specs.Stages.{AreInputs, IsStop, IsStopAt, IsStopAmong, IsUnreadStop};
 
 use crate::stop::{Stop, Unread};
-use command_line::{Settings, Task, WordsFault, read_words};
+use command_line::{Settings, Task, read_words};
 use instance::Name;
 use outside::{LoadFault, Store, read_all};
-use std::alloc::Global;
+use std::alloc::{AllocError, Global};
 
-// The settings, with the texts of the files that they name.
+// The settings, with the texts of the files that they name, in the order in which these are read.
 #[derive(Drop)]
 pub struct Inputs {
     pub settings: Settings,
-    // the model's text
-    pub text: Vec<u8>,
-    // the text of the certificate that is to be checked; empty where none is
-    pub certificate: Vec<u8>,
+    pub texts: Vec<Vec<u8>>,
 }
 
-/// What the words ask for, with the texts of the files that they name, in the order in which they are read.
+/// What the words ask for, with the texts of the files that they name.
 pub fn read_inputs<S: Store>(alloc: Global, words: &[String], files: &mut S) -> Result<Inputs, Stop>
     ensures inputs { IfOk result (AreInputs (map string_bytes words.now) (S.told files.old)) }
     ensures stop { IfErr result (IsStop (map string_bytes words.now) (S.told files.old) (Rose (S.faults files.old) (S.faults files.new))) }
     ensures told { (other : List ℕ) → S.told files.new other ≡ S.told files.old other }
     ensures later { S.faults files.old ≤ S.faults files.new }
 {
-    let Settings {
-        language,
-        model,
-        direction,
-        pivot_limit,
-        task,
-    } = match read_words(alloc, words) {
+    let settings = match read_words(alloc, words) {
         Ok(settings) => settings,
         Err(fault) => return Err(Stop::Words(fault)),
     };
-    let text = match load(alloc, &model, files) {
-        Ok(text) => text,
-        Err(fault) => return Err(Stop::File(Unread { name: model, fault })),
+    let names = match names_read(alloc, &settings) {
+        Ok(names) => names,
+        Err(_) => return Err(Stop::NoMemory),
     };
-    let (task, certificate) = match load_checked(alloc, task, files) {
-        Ok(loaded) => loaded,
-        Err(unread) => return Err(Stop::File(unread)),
-    };
-    Ok(Inputs {
-        settings: Settings {
-            language,
-            model,
-            direction,
-            pivot_limit,
-            task,
-        },
-        text,
-        certificate,
-    })
+    match load_all(alloc, &names, files) {
+        Ok(texts) => Ok(Inputs { settings, texts }),
+        Err(stop) => Err(stop),
+    }
+}
+
+// ---- the names of the files
+
+// The names of the files that are read, in order.
+fn names_read(alloc: Global, settings: &Settings) -> Result<Vec<Name>, AllocError>
+    ensures { IfOk result (λ names. names.items ≡ names_read settings.now) }
+{
+    let mut names = Vec::new(alloc);
+    names.push(settings.model.copy(alloc)?)?;
+    add_names(alloc, &mut names, settings.data_files.as_slice())?;
+    add_checked(alloc, &mut names, &settings.task)?;
+    Ok(names)
+}
+
+fn add_names(alloc: Global, names: &mut Vec<Name>, more: &[Name]) -> Result<(), AllocError>
+    ensures { OnOk result (names.new.items ≡ names.old.items ++ more.now) }
+{
+    for name in more {
+        names.push(name.copy(alloc)?)?;
+    }
+    Ok(())
+}
+
+// The certificate that is to be checked, where one is.
+fn add_checked(alloc: Global, names: &mut Vec<Name>, task: &Task) -> Result<(), AllocError>
+    ensures { OnOk result (names.new.items ≡ names.old.items ++ names_checked task.now) }
+{
+    if let Task::CheckCertificate(name) = task {
+        names.push(name.copy(alloc)?)?;
+    }
+    Ok(())
+}
+
+// ---- their texts
+
+// The texts of the files of these names, in order.
+fn load_all<S: Store>(alloc: Global, names: &[Name], files: &mut S) -> Result<Vec<Vec<u8>>, Stop>
+    ensures texts { IfOk result (λ texts. AreTexts (S.told files.old) names.now (map (λ text. text.items) texts.items)) }
+    ensures stop { IfErr result (IsStopAmong names.now (S.told files.old) (Rose (S.faults files.old) (S.faults files.new))) }
+    ensures told { (other : List ℕ) → S.told files.new other ≡ S.told files.old other }
+    ensures later { S.faults files.old ≤ S.faults files.new }
+{
+    let mut texts = Vec::new(alloc);
+    for name in names {
+        let text = match load(alloc, name, files) {
+            Ok(text) => text,
+            Err(stop) => return Err(stop),
+        };
+        match texts.push(text) {
+            Ok(()) => {}
+            Err(_) => return Err(Stop::NoMemory),
+        }
+    }
+    Ok(texts)
 }
 
 // The text of a file.
-fn load<S: Store>(alloc: Global, name: &Name, files: &mut S) -> Result<Vec<u8>, LoadFault>
+fn load<S: Store>(alloc: Global, name: &Name, files: &mut S) -> Result<Vec<u8>, Stop>
     ensures text { IfOk result (λ text. IsTextOf (S.told files.old name.now) text.items) }
-    ensures fault { IfErr result (IsUnread (S.told files.old name.now) (Rose (S.faults files.old) (S.faults files.new))) }
+    ensures stop { IfErr result (IsStopAt name.now (S.told files.old) (Rose (S.faults files.old) (S.faults files.new))) }
     ensures told { (other : List ℕ) → S.told files.new other ≡ S.told files.old other }
     ensures later { S.faults files.old ≤ S.faults files.new }
 {
     match read_all(alloc, files, name.as_str()) {
         Ok(text) => Ok(text),
-        Err(LoadFault::Missing) => Err(LoadFault::Missing),
-        Err(LoadFault::Open) => Err(LoadFault::Open),
-        Err(LoadFault::Read) => Err(LoadFault::Read),
-        Err(LoadFault::TooLong) => Err(LoadFault::TooLong),
-        Err(LoadFault::NoMemory) => Err(LoadFault::NoMemory),
+        Err(fault) => Err(unread(alloc, name, fault)),
     }
 }
 
-// A task, with the text of the certificate that it asks to check.
-fn load_checked<S: Store>(
-    alloc: Global,
-    task: Task,
-    files: &mut S,
-) -> Result<(Task, Vec<u8>), Unread>
-    ensures task { IfOk result (λ loaded. loaded.0 ≡ task) }
-    ensures read { IfOk result (λ loaded. AreTexts (S.told files.old) (names_checked task) (texts_checked task loaded.1.items)) }
-    ensures name { IfErr result (λ u. task ≡ CheckCertificate u.name) }
-    ensures fault { IfErr result (λ u. IsUnread (S.told files.old u.name) (Rose (S.faults files.old) (S.faults files.new)) u.fault) }
-    ensures told { (other : List ℕ) → S.told files.new other ≡ S.told files.old other }
-    ensures later { S.faults files.old ≤ S.faults files.new }
+// The stop at a file that is not read; want of memory, where its name can't be copied.
+fn unread(alloc: Global, name: &Name, fault: LoadFault) -> Stop
+    ensures { IsUnreadStop name.now fault result }
 {
-    match task {
-        Task::Solve(outputs) => Ok((Task::Solve(outputs), Vec::new(alloc))),
-        Task::Translate => Ok((Task::Translate, Vec::new(alloc))),
-        Task::CheckCertificate(name) => match load(alloc, &name, files) {
-            Ok(text) => Ok((Task::CheckCertificate(name), text)),
-            Err(fault) => Err(Unread { name, fault }),
-        },
+    match name.copy(alloc) {
+        Ok(name) => Stop::File(Unread { name, fault }),
+        Err(_) => Stop::NoMemory,
     }
 }

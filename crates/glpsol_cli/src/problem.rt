@@ -1,8 +1,8 @@
-// The problem that a text declares.
-ghost use Rattle.std.specs.Prelude.{◌≡◌, IfOk, IfErr, Ok};
-ghost use Rattle.branch_solve.specs.Root.{NoneInteger};
-ghost use Rattle.glpsol_cli.specs.Meaning.{declared_in, directed, text_fault_of};
-ghost use Rattle.glpsol_cli.specs.Stages.{IsProblem, IsTextStop};
+// The problem that the texts declare, as the words ask for it.
+ghost use Rattle.std.specs.Prelude.{◌≡◌, ◌<◌, length, map, [], IfOk, IfErr, Ok};
+ghost use Rattle.glpsol_cli.specs.Meaning.{Declared, IsAsked, declared_in, directed, end_of, relaxed, text_fault_of};
+ghost use Rattle.glpsol_cli.specs.declared.stop.TextStop.TheVariants.{NoMemory as TextNoMemory};
+ghost use Rattle.glpsol_cli.specs.Stages.{IsBadEnd, IsTextStop, IsNoProblem};
 
 use crate::TextFault;
 use crate::stop::TextStop;
@@ -14,37 +14,66 @@ use model_text::ReadError;
 use mps_reader::read_mps;
 use std::alloc::Global;
 
-/// The problem that the text declares in the language that the settings name, in the direction that they ask for.
-pub fn problem_of(alloc: Global, settings: &Settings, text: &[u8]) -> Result<Instance, TextStop>
-    ensures problem { IfOk result (IsProblem settings.now.language settings.now.direction text.now) }
-    ensures continuous { IfOk result (λ p. NoneInteger p.columns) }
-    ensures fault { IfErr result (IsTextStop settings.now.language text.now) }
+/// The problem that the settings ask about: the one that the texts declare, the model's first and then those of the data
+/// files, in the direction and with the integrality that the settings ask for.
+pub fn problem_of(
+    alloc: Global,
+    settings: &Settings,
+    texts: &[Vec<u8>],
+) -> Result<Instance, TextStop>
+    requires { length settings.now.data_files < length texts.now }
+    ensures problem { IfOk result (IsAsked settings.now (map (λ text. text.items) texts.now)) }
+    ensures fault { IfErr result (IsNoProblem settings.now (map (λ text. text.items) texts.now)) }
 {
-    let problem = declared_problem(alloc, settings.language, text)?;
-    Ok(in_direction(problem, settings.direction))
+    let Some((text, others)) = texts.split_first() else {
+        unreachable!()
+    };
+    let data_texts = &others[..settings.data_files.as_slice().len()];
+    asked_problem(alloc, settings, text, data_texts)
 }
 
-// The problem that a text of a language declares.
-fn declared_problem(alloc: Global, language: Language, text: &[u8]) -> Result<Instance, TextStop>
-    ensures problem { IfOk result (λ p. declared_in language text.now ≡ Ok p) }
-    ensures continuous { IfOk result (λ p. NoneInteger p.columns) }
-    ensures fault { IfErr result (IsTextStop language text.now) }
+// The problem that the settings ask about, of the one that a text with these data declares.
+fn asked_problem(
+    alloc: Global,
+    settings: &Settings,
+    text: &[u8],
+    data_texts: &[Vec<u8>],
+) -> Result<Instance, TextStop>
+    ensures problem { IfOk result (λ p. end_of settings.now (declared_in settings.now.language text.now (map (λ text. text.items) data_texts.now)) ≡ Declared p) }
+    ensures fault { IfErr result (IsBadEnd (end_of settings.now (declared_in settings.now.language text.now (map (λ text. text.items) data_texts.now)))) }
+{
+    let problem = declared_problem(alloc, settings.language, text, data_texts)?;
+    let problem = in_direction(problem, settings.direction);
+    with_integrality(alloc, problem, settings.relaxed)
+}
+
+// The problem that a text of a language declares, in MathProg with these data.
+fn declared_problem(
+    alloc: Global,
+    language: Language,
+    text: &[u8],
+    data_texts: &[Vec<u8>],
+) -> Result<Instance, TextStop>
+    ensures problem { IfOk result (λ p. declared_in language text.now (map (λ text. text.items) data_texts.now) ≡ Ok p) }
+    ensures fault { IfErr result (IsTextStop language text.now (map (λ text. text.items) data_texts.now)) }
 {
     match language {
-        Language::MathProg => math_prog_problem(alloc, text),
+        Language::MathProg => math_prog_problem(alloc, text, data_texts),
         Language::FreeMps => free_mps_problem(alloc, text),
         Language::CplexLp => cplex_lp_problem(alloc, text),
     }
 }
 
-// The problem of a MathProg text.
-fn math_prog_problem(alloc: Global, text: &[u8]) -> Result<Instance, TextStop>
-    ensures problem { IfOk result (λ p. declared_in Language.MathProg text.now ≡ Ok p) }
-    ensures continuous { IfOk result (λ p. NoneInteger p.columns) }
-    ensures fault { IfErr result (IsTextStop Language.MathProg text.now) }
+// The problem of a MathProg text with these data.
+fn math_prog_problem(
+    alloc: Global,
+    text: &[u8],
+    data_texts: &[Vec<u8>],
+) -> Result<Instance, TextStop>
+    ensures problem { IfOk result (λ p. declared_in Language.MathProg text.now (map (λ text. text.items) data_texts.now) ≡ Ok p) }
+    ensures fault { IfErr result (IsTextStop Language.MathProg text.now (map (λ text. text.items) data_texts.now)) }
 {
-    gmpl_reader::declared_problems_are_continuous();
-    match read_math_prog(alloc, text) {
+    match read_math_prog(alloc, text, data_texts) {
         Ok(problem) => Ok(problem),
         Err(ReadError::Fault(fault)) => Err(TextStop::Fault(math_prog_fault(fault))),
         Err(ReadError::NoMemory) => Err(TextStop::NoMemory),
@@ -63,11 +92,9 @@ fn math_prog_fault(fault: MathProgFault) -> TextFault
 
 // The problem of a free MPS text.
 fn free_mps_problem(alloc: Global, text: &[u8]) -> Result<Instance, TextStop>
-    ensures problem { IfOk result (λ p. declared_in Language.FreeMps text.now ≡ Ok p) }
-    ensures continuous { IfOk result (λ p. NoneInteger p.columns) }
-    ensures fault { IfErr result (IsTextStop Language.FreeMps text.now) }
+    ensures problem { IfOk result (λ p. declared_in Language.FreeMps text.now [] ≡ Ok p) }
+    ensures fault { IfErr result (IsTextStop Language.FreeMps text.now []) }
 {
-    mps_reader::declared_problems_are_continuous();
     match read_mps(alloc, text) {
         Ok(problem) => Ok(problem),
         Err(ReadError::Fault(fault)) => Err(TextStop::Fault(TextFault::File(fault))),
@@ -77,11 +104,9 @@ fn free_mps_problem(alloc: Global, text: &[u8]) -> Result<Instance, TextStop>
 
 // The problem of a CPLEX LP text.
 fn cplex_lp_problem(alloc: Global, text: &[u8]) -> Result<Instance, TextStop>
-    ensures problem { IfOk result (λ p. declared_in Language.CplexLp text.now ≡ Ok p) }
-    ensures continuous { IfOk result (λ p. NoneInteger p.columns) }
-    ensures fault { IfErr result (IsTextStop Language.CplexLp text.now) }
+    ensures problem { IfOk result (λ p. declared_in Language.CplexLp text.now [] ≡ Ok p) }
+    ensures fault { IfErr result (IsTextStop Language.CplexLp text.now []) }
 {
-    cplex_lp_reader::declared_problems_are_continuous();
     match read_lp(alloc, text) {
         Ok(problem) => Ok(problem),
         Err(ReadError::Fault(fault)) => Err(TextStop::Fault(TextFault::File(fault))),
@@ -95,5 +120,24 @@ fn in_direction(problem: Instance, direction: Option<Direction>) -> Instance
     match direction {
         None => problem,
         Some(direction) => problem.with_direction(direction),
+    }
+}
+
+// The problem, or its linear relaxation.
+fn with_integrality(
+    alloc: Global,
+    problem: Instance,
+    is_relaxed: bool,
+) -> Result<Instance, TextStop>
+    ensures problem { IfOk result (λ p. p ≡ relaxed is_relaxed problem) }
+    ensures stop { IfErr result (λ stop. stop ≡ TextNoMemory) }
+{
+    if is_relaxed {
+        match problem.without_integrality(alloc) {
+            Ok(problem) => Ok(problem),
+            Err(_) => Err(TextStop::NoMemory),
+        }
+    } else {
+        Ok(problem)
     }
 }

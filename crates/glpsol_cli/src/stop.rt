@@ -2,12 +2,12 @@
 ghost use Rattle.std.specs.Prelude.{◌≡◌};
 ghost use Rattle.glpsol_cli.specs.Stages.{words_answer, unread_answer, text_answer, solve_answer, check_answer, unfound_answer, stop_answer};
 
-use crate::{Answer, OverflowSite, Reached, TextFault};
-use branch_solve::SolveFault;
+use crate::{Answer, Limit, OverflowSite, Reached, TextFault};
 use cert_check::{CheckFault, Part};
 use certificate_reader::CertFault;
 use command_line::WordsFault;
 use instance::Name;
+use mixed_solve::VerdictFault;
 use outside::LoadFault;
 
 #[derive(Drop)]
@@ -15,6 +15,7 @@ pub enum Stop {
     Words(WordsFault),
     File(Unread),
     Work(Unfound),
+    NoMemory,
 }
 
 // A file that is not read.
@@ -28,7 +29,7 @@ pub struct Unread {
 #[derive(Drop)]
 pub enum Unfound {
     Text(TextStop),
-    Solve(SolveFault),
+    Solve(VerdictFault),
     Check(CheckStop),
 }
 
@@ -56,6 +57,7 @@ pub fn stop_answer(stop: Stop) -> Answer
         Stop::Words(fault) => words_answer(fault),
         Stop::File(unread) => unread_answer(unread.name, unread.fault),
         Stop::Work(unfound) => unfound_answer(unfound),
+        Stop::NoMemory => no_memory(Reached::Nothing),
     }
 }
 
@@ -99,16 +101,24 @@ fn text_answer(stop: TextStop) -> Answer
     }
 }
 
-fn solve_answer(fault: SolveFault) -> Answer
+fn solve_answer(fault: VerdictFault) -> Answer
     ensures { result ≡ solve_answer fault }
 {
     match fault {
-        SolveFault::NoFit(site) => Answer::Overflow {
-            at: OverflowSite::AtNode(site.node),
+        VerdictFault::NoFit(wanted, site) => Answer::Overflow {
+            at: OverflowSite::AtNode {
+                wanted,
+                node: site.node,
+            },
             fault: site.fault,
         },
-        SolveFault::PivotLimit(bases) => Answer::Undecided(bases),
-        SolveFault::NoMemory => no_memory(Reached::Executed),
+        VerdictFault::RayNoFit(fault) => Answer::Overflow {
+            at: OverflowSite::InRay,
+            fault,
+        },
+        VerdictFault::PivotLimit(wanted, bases) => Answer::Undecided(Limit::Pivots(wanted, bases)),
+        VerdictFault::SplitLimit(wanted) => Answer::Undecided(Limit::Splits(wanted)),
+        VerdictFault::NoMemory => no_memory(Reached::Executed),
     }
 }
 

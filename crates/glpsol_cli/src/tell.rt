@@ -4,7 +4,7 @@ ghost use Rattle.outside.specs.Told.{AppendsPrefix};
 ghost use Rattle.solution_writer.specs.FaultLine.{no_memory_line};
 ghost use Rattle.glpsol_cli.specs.Written.{line_of, target_line_of};
 
-use crate::{Answer, Reached, Target, TextFault};
+use crate::{Answer, Limit, Reached, Target, TextFault};
 use outside::{Sink, write_all};
 use solution_writer::{Fault, fault_line};
 use std::alloc::{AllocError, Global};
@@ -57,7 +57,8 @@ fn line(alloc: Global, answer: &Answer) -> Result<String, AllocError>
         Answer::BadText(TextFault::File(fault)) => fault_line(alloc, &Fault::File(*fault)),
         Answer::BadCertificate(fault) => fault_line(alloc, &Fault::Certificate(*fault)),
         Answer::Overflow { fault, .. } => fault_line(alloc, &Fault::Overflow(*fault)),
-        Answer::Undecided(_) => fault_line(alloc, &Fault::UndecidedPivots),
+        Answer::Undecided(Limit::Pivots(..)) => fault_line(alloc, &Fault::UndecidedPivots),
+        Answer::Undecided(Limit::Splits(_)) => fault_line(alloc, &Fault::UndecidedNodes),
         Answer::Refused(part) => fault_line(alloc, &Fault::Refused(*part)),
         Answer::NoMemory { .. } => fault_line(alloc, &Fault::NoMemory),
     }

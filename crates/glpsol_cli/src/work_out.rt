@@ -1,26 +1,25 @@
 // What the words ask for is worked out: the words and the files are read, and the problem is measured or solved, or a
 // certificate checked against it.
-ghost use Rattle.std.specs.Prelude.{◌≡◌, ◌≤◌, ℕ, List, IfOk, IfErr, OnOk, map, string_bytes};
+ghost use Rattle.std.specs.Prelude.{◌≡◌, ◌≤◌, ◌<◌, ◌++◌, [], ◌∷◌, ℕ, List, length, IfOk, IfErr, OnOk, map, string_bytes};
 ghost use Rattle.outside.specs.Causes.{Rose};
 ghost use Rattle.verdicts.specs.Proves.{Proves};
-ghost use Rattle.branch_solve.specs.Root.{NoneInteger};
-ghost use Rattle.branch_solve.specs.Solved.{IsNoFit, IsAtLimit};
+ghost use Rattle.mixed_solve.specs.Faults.{IsFault};
 ghost use Rattle.cert_check.specs.Outcome.{Acceptance, outcome, trials};
 ghost use Rattle.glpsol_cli.specs.Asked.{OfTexts};
 ghost use Rattle.glpsol_cli.specs.Meaning.{IsAsked};
 ghost use Rattle.glpsol_cli.specs.Cause.{IsAccepted};
-ghost use Rattle.glpsol_cli.specs.Stages.{IsFinding, IsFoundIn, IsUnfound, IsCheckStop, IsStop, texts_in};
+ghost use Rattle.glpsol_cli.specs.Stages.{IsFinding, IsFoundIn, IsUnfound, IsCheckStop, IsStop, OfLast, texts_in};
 
 use crate::found::{Finding, Found};
 use crate::inputs::{Inputs, read_inputs};
 use crate::problem::problem_of;
 use crate::stop::{CheckStop, Stop, Unfound};
-use branch_solve::{SolveFault, solve};
 use cert_check::{Checked, check};
 use certificate::Certificate;
 use certificate_reader::CertError;
-use command_line::Task;
+use command_line::{Settings, Task};
 use instance::Instance;
+use mixed_solve::{VerdictFault, solve};
 use outside::Store;
 use std::alloc::Global;
 
@@ -40,10 +39,11 @@ pub fn work_out<S: Store>(alloc: Global, words: &[String], files: &mut S) -> Res
 
 // What is found in the texts.
 fn find(alloc: Global, inputs: Inputs) -> Result<Found, Unfound>
+    requires { length inputs.settings.data_files < length inputs.texts.items }
     ensures found { IfOk result (λ found. IsFoundIn found inputs.settings (texts_in inputs)) }
     ensures fault { IfErr result (λ unfound. IsUnfound unfound inputs.settings (texts_in inputs)) }
 {
-    let problem = match problem_of(alloc, &inputs.settings, &inputs.text) {
+    let problem = match problem_of(alloc, &inputs.settings, &inputs.texts) {
         Ok(problem) => problem,
         Err(fault) => return Err(Unfound::Text(fault)),
     };
@@ -57,18 +57,17 @@ fn find(alloc: Global, inputs: Inputs) -> Result<Found, Unfound>
 
 // What is found of the problem, as the task asks.
 fn finding(alloc: Global, problem: &Instance, inputs: &Inputs) -> Result<Finding, Unfound>
-    requires continuous { NoneInteger problem.now.columns }
     requires asked { IsAsked inputs.now.settings (texts_in inputs.now) problem.now }
     ensures finding { IfOk result (IsFinding problem.now inputs.now.settings (texts_in inputs.now)) }
     ensures fault { IfErr result (λ unfound. IsUnfound unfound inputs.now.settings (texts_in inputs.now)) }
 {
     match &inputs.settings.task {
-        Task::Solve(_) => match solved(alloc, problem, inputs.settings.pivot_limit) {
+        Task::Solve(_) => match solved(alloc, problem, &inputs.settings) {
             Ok(certificate) => Ok(Finding::Verdict(certificate)),
             Err(fault) => Err(Unfound::Solve(fault)),
         },
         Task::Translate => Ok(Finding::Size),
-        Task::CheckCertificate(_) => match accept(alloc, problem, &inputs.certificate) {
+        Task::CheckCertificate(_) => match accept_last(alloc, problem, &inputs.texts) {
             Ok(()) => Ok(Finding::Acceptance),
             Err(stop) => Err(Unfound::Check(stop)),
         },
@@ -76,14 +75,30 @@ fn finding(alloc: Global, problem: &Instance, inputs: &Inputs) -> Result<Finding
 }
 
 // The certificate of a problem.
-fn solved(alloc: Global, problem: &Instance, pivot_limit: u32) -> Result<Certificate, SolveFault>
-    requires continuous { NoneInteger problem.now.columns }
+fn solved(
+    alloc: Global,
+    problem: &Instance,
+    settings: &Settings,
+) -> Result<Certificate, VerdictFault>
     ensures proves { IfOk result (λ c. Proves problem.now c × (outcome (trials problem.now c) ≡ Acceptance)) }
-    ensures fault { IfErr result (λ e. IsNoFit problem.now e × IsAtLimit problem.now pivot_limit e) }
+    ensures fault { IfErr result (IsFault problem.now settings.now.split_limit settings.now.pivot_limit) }
 {
-    match solve(alloc, problem, pivot_limit) {
+    let splits = settings.split_limit as usize;
+    match solve(alloc, problem, splits, settings.pivot_limit) {
         Ok(certificate) => Ok(certificate),
         Err(fault) => Err(fault),
+    }
+}
+
+// The last text is that of a certificate that proves its verdict.
+fn accept_last(alloc: Global, problem: &Instance, texts: &[Vec<u8>]) -> Result<(), CheckStop>
+    requires { 0 < length texts.now }
+    ensures accepted { OnOk result (OfLast (IsAccepted problem.now) (map (λ text. text.items) texts.now)) }
+    ensures stop { IfErr result (λ stop. OfLast (λ bytes. IsCheckStop problem.now bytes stop) (map (λ text. text.items) texts.now)) }
+{
+    match texts.split_last() {
+        Some((text, _)) => accept(alloc, problem, text),
+        None => unreachable!(),
     }
 }
 

@@ -1,11 +1,12 @@
 // Words, and the settings that they ask for.
-use command_line::{Language, Settings, Task, WordsFault, read_words};
+use command_line::{DataFiles, Language, Settings, Task, WordsFault, read_words};
 use instance::{Direction, Name};
 use std::alloc::{AllocError, Global};
 use std::process::Abort;
 use std::test::Fail;
 
-// What words ask for, and the words, parted by `|`: the language, the model's file, the direction, the task and its file.
+// What words ask for, and the words, parted by `|`: the language, the model's file, its data files, the direction, what is
+// relaxed, limits that are given, the task and its file.
 const COMMANDS: &str = "\
 mps f, own direction, solve, no cert <- --freemps|f
 lp f, own direction, solve, no cert <- --lp|f
@@ -33,6 +34,24 @@ mps f, max, check c <- --checkcert=c|--freemps|f|--max
 mps f, own direction, at most 1 steps, solve, no cert <- --freemps|f|--pivlim|1
 mps f, own direction, at most 7 steps, solve, no cert <- --freemps|f|--pivlim=007
 mps f, own direction, at most 1000000 steps, solve, no cert <- --pivlim|1000000|--freemps|f
+mps f, own direction, at most 0 splits, solve, no cert <- --freemps|f|--nodlim|0
+mps f, own direction, at most 1 splits, solve, no cert <- --freemps|f|--nodlim|1
+mps f, own direction, at most 999999 splits, solve, no cert <- --freemps|f|--nodlim|999999
+mps f, own direction, at most 1000000 splits, solve, no cert <- --nodlim=1000000|--freemps|f
+mps f, own direction, at most 12 splits, solve, no cert <- --nodlim|0000000000000000000000012|--freemps|f
+mps f, own direction, at most 5 splits, at most 6 steps, solve, no cert <- --pivlim|6|--nodlim|5|--freemps|f
+mps f, own direction, relaxed, solve, no cert <- --freemps|f|--nomip
+lp f, max, relaxed, at most 3 splits, at most 9 steps, solve, report r, cert c <- --nodlim|3|--nomip|--max|--cert|c|-o|r|--lp|f|--pivlim|9
+math f, data d, own direction, solve, no cert <- --math|f|-d|d
+math f, data d, own direction, solve, no cert <- -m|f|-d|d
+math f, data d, own direction, solve, no cert <- -dd|--math|f
+math f, data d e, own direction, solve, no cert <- --math|f|-d|d|--data|e
+math f, data e d, own direction, solve, no cert <- --math|--data=e|f|-d|d
+math f, data d d, own direction, solve, no cert <- --data|d|-m|f|-dd
+math f, data a b c a, own direction, solve, no cert <- -d|a|-d|b|--math|f|-d|c|-d|a
+math f, data  d=e, own direction, solve, no cert <- --math|f|--data=|--data=d=e
+math f, data d, min, relaxed, at most 0 splits, translate <- -d|d|--math|f|--check|--min|--nomip|--nodlim=0
+math f, data d e, own direction, check c <- -d|d|--math|f|--checkcert|c|-d|e
 ";
 
 // Words that are no command.
@@ -86,6 +105,33 @@ usage <- --freemps|f|--pivlim|+1
 usage <- --freemps|f|--pivlim=
 usage <- --freemps|f|--pivlim|1e3
 usage <- --freemps|f|--pivlim
+usage <- --freemps|f|--pivlim|1|--pivlim|2
+usage <- --freemps|f|--nodlim|1000001
+usage <- --freemps|f|--nodlim|4294967296
+usage <- --freemps|f|--nodlim|99999999999999999999999
+usage <- --freemps|f|--nodlim|-1
+usage <- --freemps|f|--nodlim=-1
+usage <- --freemps|f|--nodlim|+1
+usage <- --freemps|f|--nodlim=
+usage <- --freemps|f|--nodlim|1.
+usage <- --freemps|f|--nodlim|0x1
+usage <- --freemps|f|--nodlim| 1
+usage <- --freemps|f|--nodlim
+usage <- --freemps|f|--nodlim|3|--nodlim|3
+usage <- --freemps|f|--nomip|--nomip
+usage <- --freemps|f|--nomip=1
+usage <- --freemps|--nomip
+usage <- --freemps|f|-d|d
+usage <- --lp|f|--data|d
+usage <- --lp|f|-d|d|-d|e
+usage <- -d|d
+usage <- --data=d|f
+usage <- --math|f|-d
+usage <- --math|f|-d|-d
+usage <- --math|f|-d|d|e
+usage <- --math|f|--dat|d
+usage <- --math|-d|f
+usage <- --math|f|-D|d
 ";
 
 fn check_table(rt: &impl Abort, alloc: Global, table: &str) -> Result<(), Fail> {
@@ -139,16 +185,32 @@ fn shown(alloc: Global, settings: &Settings) -> Result<String, AllocError> {
         Some(Direction::Max) => "max",
     };
     let model = settings.model.as_str();
-    let steps = steps_shown(alloc, settings.pivot_limit)?;
+    let data = data_shown(alloc, &settings.data)?;
+    let relaxed = if settings.relaxed { ", relaxed" } else { "" };
+    let splits = limit_shown(alloc, settings.split_limit, 10_000, "splits")?;
+    let steps = limit_shown(alloc, settings.pivot_limit, 100_000, "steps")?;
     let task = task_shown(alloc, &settings.task)?;
-    format!(in alloc; "{language} {model}, {direction}, {steps}{task}")
+    format!(in alloc; "{language} {model}{data}, {direction}{relaxed}{splits}{steps}, {task}")
 }
 
-fn steps_shown(alloc: Global, limit: u32) -> Result<String, AllocError> {
-    if limit == 100_000 {
+fn data_shown(alloc: Global, files: &DataFiles) -> Result<String, AllocError> {
+    let mut shown = String::new(alloc);
+    if !files.as_slice().is_empty() {
+        shown.push_str(", data")?;
+    }
+    for name in files.as_slice() {
+        shown.push(' ')?;
+        shown.push_str(name.as_str())?;
+    }
+    Ok(shown)
+}
+
+// A limit, where it is not the one that stands without its option.
+fn limit_shown(alloc: Global, limit: u32, usual: u32, what: &str) -> Result<String, AllocError> {
+    if limit == usual {
         Ok(String::new(alloc))
     } else {
-        format!(in alloc; "at most {limit} steps, ")
+        format!(in alloc; ", at most {limit} {what}")
     }
 }
 

@@ -13,6 +13,8 @@ mod faults;
 #[cfg(test)]
 mod free_mps;
 #[cfg(test)]
+mod integer_programs;
+#[cfg(test)]
 mod linear_programs;
 #[cfg(test)]
 mod math_prog;

@@ -1,10 +1,6 @@
 // Linear programs in free MPS, whose optima GLPK and textbooks give, and the certificates that are written for them.
-use crate::runs::{check_table, outcome, written};
-use outside::MemStore;
-use std::alloc::{AllocError, Global};
-use std::process::Abort;
+use crate::runs::{check_round_trips, check_table};
 use std::test::Fail;
-use std::thread::Threads;
 
 // Among them Beale's example, at which other rules than Bland's go round, a blending, a diet, a degenerate optimum, and
 // numbers that double at each pivot and pass the limit.
@@ -37,45 +33,8 @@ fn optima_of_many_points(rt: HostRuntime) -> Result<(), Fail> {
     check_table(&rt, rt.alloc(), MANY_POINTS)
 }
 
-// What the program says to the certificate that it writes for words on a text.
-fn round_trip<T: Threads + Sync>(
-    rt: &T,
-    alloc: Global,
-    words: &str,
-    row: &str,
-) -> Result<String, AllocError> {
-    let mut files = MemStore::new(alloc, Vec::new(alloc), 4096);
-    let text = written(alloc, row)?;
-    files.add("f", text.as_bytes())?;
-    let with_certificate = format!(in alloc; "{words} --cert c")?;
-    let _report = outcome(rt, alloc, with_certificate.as_str(), &mut files)?;
-    let with_check = format!(in alloc; "{words} --checkcert c")?;
-    outcome(rt, alloc, with_check.as_str(), &mut files)
-}
-
-fn check_round_trip<T: Threads + Sync + Abort>(
-    rt: &T,
-    alloc: Global,
-    row: &str,
-) -> Result<(), Fail> {
-    let Some((want, given)) = row.split_once(" <- ") else {
-        panic!(rt; "an answer and words: {row}");
-    };
-    let Some((words, text)) = given.split_once(" <- ") else {
-        panic!(rt; "words and a text: {row}");
-    };
-    if want.starts_with('0') {
-        let found = round_trip(rt, alloc, words, text)?;
-        assert_eq!(rt; found.as_str(), "0 ACCEPTED\n", "at {row}");
-    }
-    Ok(())
-}
-
 // What the program writes with `--cert` it accepts with `--checkcert`.
 #[test]
 fn written_certificates_are_accepted(rt: HostRuntime) -> Result<(), Fail> {
-    for row in LINEAR.lines() {
-        check_round_trip(&rt, rt.alloc(), row)?;
-    }
-    Ok(())
+    check_round_trips(&rt, rt.alloc(), LINEAR)
 }

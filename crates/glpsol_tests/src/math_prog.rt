@@ -47,13 +47,27 @@ fn objectives_are_those_of_glpk(rt: HostRuntime) -> Result<(), Fail> {
     check_table(&rt, rt.alloc(), OBJECTIVES)
 }
 
+// The data files c and d stand in the place of the model's own data, in this order.
+const DATA_FILES: &str = "\
+0 OPTIMAL$objective z 11$column x 11$row z 11$row r 11$ <- --math f -d c --data d <- param p{1..2}; var x; minimize z: x; s.t. r: x >= p[1]+p[2]; data; param p := 1 9 2 9; end; <- param p := 1 5; <- data; param p := 2 6; end;
+0 OPTIMAL$objective z 6$column x 6$row z 6$row r 6$ <- -m f -d d <- param p; var x; minimize z: x; s.t. r: x >= p; end; <- param p := 5; <- param p := 6;
+2 data fault: block 2, line 3: Twice$ <- --math f -d c -d d <- param p{1..2}; var x; minimize z: x; end; <- param p := 1 5; <- $$param p := 1 6;
+1 missing: e$ <- --math f -d c -d e <- param p{1..2}; end; <- param p := 1 5;
+1 usage: <- --lp f -d c <- min$ x$end$ <- param p := 1 5;
+";
+
+#[test]
+fn data_files_are_read(rt: HostRuntime) -> Result<(), Fail> {
+    check_table(&rt, rt.alloc(), DATA_FILES)
+}
+
 const FAULTS: &str = "\
 0 OPTIMAL$objective obj 0$ <- --math f <- end;
 0 OPTIMAL$objective obj 0$ <- --math f <- # nothing
 2 syntax fault: statement 1, line 1: TooWide$ <- --math f <- param p := 170141183460469231731687303715884105728; end;
 2 syntax fault: statement 2, line 3: Undeclared$ <- --math f <- var x;$$minimize z: x +$y;$end;
 2 syntax fault: statement 1, line 1: Unended$ <- --math f <- var x
-2 syntax fault: statement 1, line 1: Unsupported$ <- --math f <- var x integer; end;
+2 syntax fault: statement 2, line 1: Unsupported$ <- --math f <- var x; display x; end;
 2 data fault: block 1, line 1: Unknown$ <- --math f <- var x; data; param q := 1; end;
 2 data fault: block 2, line 3: Twice$ <- --math f <- param p{1..2}; data;$param p := 1 5;$param p := 2 6 1 7; end;
 2 model fault: statement 3, line 2: CheckFailed$ <- --math f <- var x >= 1; minimize z: x;$check{i in 1..3}: i < 3; end;

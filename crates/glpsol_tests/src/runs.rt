@@ -94,15 +94,12 @@ pub(crate) fn model_alone(
     Ok(files)
 }
 
-// The files f and c, or f alone.
+// The files f, c and d, as many of them as the row has texts.
 fn add_files(alloc: Global, files: &mut MemStore, rows: &str) -> Result<(), AllocError> {
-    match rows.split_once(" <- ") {
-        Some((model, certificate)) => {
-            add_file(alloc, files, "f", model)?;
-            add_file(alloc, files, "c", certificate)
-        }
-        None => add_file(alloc, files, "f", rows),
+    for (name, text) in ["f", "c", "d"].iter().zip(rows.split(" <- ")) {
+        add_file(alloc, files, name, text)?;
     }
+    Ok(())
 }
 
 // The words of a row, whose files are added.
@@ -141,8 +138,8 @@ fn check_row<T: Threads + Sync + Abort>(rt: &T, alloc: Global, row: &str) -> Res
     Ok(())
 }
 
-/// Each row has, parted by ` <- `, the status and what is printed, then the words, and then the texts of the files f and c,
-/// where there are such files. What doesn't end a line is the beginning of what is printed.
+/// Each row has, parted by ` <- `, the status and what is printed, then the words, and then the texts of the files f, c and
+/// d, where there are such files. What doesn't end a line is the beginning of what is printed.
 pub(crate) fn check_table<T: Threads + Sync + Abort>(
     rt: &T,
     alloc: Global,
@@ -150,6 +147,52 @@ pub(crate) fn check_table<T: Threads + Sync + Abort>(
 ) -> Result<(), Fail> {
     for row in table.lines() {
         check_row(rt, alloc, row)?;
+    }
+    Ok(())
+}
+
+// What the program says to the certificate that it writes for words on a text.
+fn round_trip<T: Threads + Sync>(
+    rt: &T,
+    alloc: Global,
+    words: &str,
+    row: &str,
+) -> Result<String, AllocError> {
+    let mut files = MemStore::new(alloc, Vec::new(alloc), 4096);
+    let text = written(alloc, row)?;
+    files.add("f", text.as_bytes())?;
+    let with_certificate = format!(in alloc; "{words} --cert c")?;
+    let _report = outcome(rt, alloc, with_certificate.as_str(), &mut files)?;
+    let with_check = format!(in alloc; "{words} --checkcert c")?;
+    outcome(rt, alloc, with_check.as_str(), &mut files)
+}
+
+fn check_round_trip<T: Threads + Sync + Abort>(
+    rt: &T,
+    alloc: Global,
+    row: &str,
+) -> Result<(), Fail> {
+    let Some((want, given)) = row.split_once(" <- ") else {
+        panic!(rt; "an answer and words: {row}");
+    };
+    let Some((words, text)) = given.split_once(" <- ") else {
+        panic!(rt; "words and a text: {row}");
+    };
+    if want.starts_with('0') {
+        let found = round_trip(rt, alloc, words, text)?;
+        assert_eq!(rt; found.as_str(), "0 ACCEPTED\n", "at {row}");
+    }
+    Ok(())
+}
+
+/// For each row of a table as above whose status is 0: the certificate that the program writes, it accepts.
+pub(crate) fn check_round_trips<T: Threads + Sync + Abort>(
+    rt: &T,
+    alloc: Global,
+    table: &str,
+) -> Result<(), Fail> {
+    for row in table.lines() {
+        check_round_trip(rt, alloc, row)?;
     }
     Ok(())
 }
