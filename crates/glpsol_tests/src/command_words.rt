@@ -185,7 +185,7 @@ fn shown(alloc: Global, settings: &Settings) -> Result<String, AllocError> {
         Some(Direction::Max) => "max",
     };
     let model = settings.model.as_str();
-    let data = data_shown(alloc, &settings.data)?;
+    let data = data_shown(alloc, &settings.data_files)?;
     let relaxed = if settings.relaxed { ", relaxed" } else { "" };
     let splits = limit_shown(alloc, settings.split_limit, 10_000, "splits")?;
     let steps = limit_shown(alloc, settings.pivot_limit, 100_000, "steps")?;
