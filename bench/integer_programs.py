@@ -121,11 +121,11 @@ class Solvers:
         self.solution = os.path.join(folder, "solution")
         self.runs = {"this": self.ours} | ({"glpk": self.glpk} if GLPK else {}) | ({"cbc": self.cbc} if CBC else {})
 
-    def run(self, words):
+    def run(self, words, limit=None):
         for path in [self.solution, self.certificate]:
             if os.path.exists(path) and "--checkcert" not in words:
                 os.remove(path)
-        return timed(words, self.asked.limit, self.folder)
+        return timed(words, limit or self.asked.limit, self.folder)
 
     def ours(self, path):
         reads = READS[os.path.splitext(path)[1]]
@@ -144,9 +144,9 @@ class Solvers:
         reads = READS[os.path.splitext(path)[1]]
         return self.run([self.asked.ours, *reads, path, "--checkcert", self.certificate])
 
-    def glpk(self, path):
+    def glpk(self, path, limit=None):
         reads = READS[os.path.splitext(path)[1]]
-        seconds, text = self.run([GLPK, *reads, path, "-o", self.solution])
+        seconds, text = self.run([GLPK, *reads, path, "-o", self.solution], limit)
         written = text_in(self.solution)
         status = re.search(r"Status: +(.*)", written)
         objective = re.search(r"Objective: +\S* = (\S+)", written)
@@ -222,7 +222,7 @@ def examples_of(source, folder, solvers):
         path = written(path, fixed_and_others[kind], folder)
         if not path or not re.search(r"^(Generals|Binaries|Integers)", text_in(path), re.M):
             continue
-        answer = solvers.glpk(path)
+        answer = solvers.glpk(path, 2)
         if answer.seconds is not None and answer.seconds <= 1 and answer.verdict != "none":
             yield name, path
 
