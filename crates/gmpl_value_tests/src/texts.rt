@@ -71,6 +71,7 @@ pub(crate) fn fault_word(alloc: Global, fault: EvalFault) -> Result<String, Allo
         EvalFault::NotWhole => "NotWhole",
         EvalFault::NotANumber => "NotANumber",
         EvalFault::Nonlinear => "Nonlinear",
+        EvalFault::BadFormat => "BadFormat",
         EvalFault::TooMany => "TooMany",
         EvalFault::NoMemory => "NoMemory",
         _ => "?",

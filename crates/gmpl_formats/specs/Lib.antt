@@ -1,0 +1,4 @@
+pub mod Conversions
+pub mod Pieces
+pub mod Texts
+pub mod Printing
