@@ -1,5 +1,5 @@
 -- What the work on a problem gives of the texts.
-use Rattle.std.proofs.Common.{◌≡◌, ◌∙◌, ◌<◌, ℕ, zero, suc, List, [], ◌∷◌, ◌++◌, length, map, take, Some, None, refl, sym, ap, subst, arith}
+use Rattle.std.proofs.Common.{◌≡◌, ◌∙◌, ◌<◌, ℕ, zero, suc, List, [], ◌∷◌, length, map, take, Some, None, refl, sym, ap, subst, arith}
 use Rattle.std.specs.Prelude.{Result, Ok, Err, IfOk, IfErr}
 use Rattle.milp.specs.Problem.{Problem}
 use Rattle.mixed_solve.specs.Faults.{IsFault}
@@ -18,7 +18,6 @@ use Rattle.glpsol_cli.specs.declared.stop.TextStop.TheVariants.{Fault as TextHas
 use Rattle.glpsol_cli.specs.declared.stop.CheckStop.{CheckStop}
 use Rattle.glpsol_cli.specs.declared.stop.CheckStop.TheVariants.{BadText, Refused, NoFit as CheckNoFit, NoMemory as CheckNoMemory}
 use Rattle.glpsol_cli.specs.declared.stop.Unfound.TheVariants.{Solve as SolveStop, Check}
-use Rattle.glpsol_cli.proofs.FilesRead.{mapped_snoc}
 
 -- ---- the problem of the texts
 
@@ -90,7 +89,3 @@ module _ (s : Settings) (texts : List (List ℕ)) (p : Problem) (name : List ℕ
   unchecked (Refused part) h = of_checked (IsRefusedAt part) h
   unchecked (CheckNoFit f) h = of_checked (IsCheckOverflow f.part f.fault) h
   unchecked CheckNoMemory h = tt
-
--- the last text
-pub last_text : {X : Type 0} (f : X → List ℕ) (P : List ℕ → Type 0) (xs before : List X) (x : X) → xs ≡ before ++ x ∷ [] → P (f x) → OfLast P (map f xs)
-last_text f P xs before x is h = record { before = map f before; bytes = f x; last = ap (map f) is ∙ mapped_snoc f before x; holds = h }
