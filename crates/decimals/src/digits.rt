@@ -31,7 +31,7 @@ fn push_whole(text: &mut String, number: Wide) -> Result<(), AllocError>
 {
     match number.to_u128() {
         Some(whole) => write!(text, "{whole}"),
-        None => Ok(()),
+        None => unreachable!(),
     }
 }
 

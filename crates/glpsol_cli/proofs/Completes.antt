@@ -1,5 +1,6 @@
 -- Where nothing stands in the way: what the words ask for is what is answered.
-use Rattle.std.proofs.Common.{◌≡◌, ◌∙◌, ◌<◌, ◌≤◌, ℕ, zero, suc, List, [], ◌∷◌, ◌++◌, length, take, Some, None, refl, sym, ap, subst, arith}
+use Rattle.std.proofs.Common.{◌≡◌, ◌∙◌, ◌<◌, ◌≤◌, ℕ, suc, List, [], ◌∷◌, ◌++◌, length, Some, None, refl, sym, ap, subst, arith}
+use Rattle.std.proofs.lemmas.List.{length_push, take-append-le}
 use Rattle.std.specs.Prelude.{Result, Ok, Err}
 use Rattle.milp.specs.Problem.{Problem}
 use Rattle.fraction.specs.declared.frac.NoFit.{NoFit}
@@ -170,19 +171,10 @@ told_many told [] (text ∷ texts) h = absurd h
 told_many told (name ∷ names) [] h = absurd h
 told_many told (name ∷ names) (text ∷ texts) h = ap suc (told_many told names texts h.2)
 
-snoc_length : (xs : List (List ℕ)) (x : List ℕ) → length (xs ++ x ∷ []) ≡ suc (length xs)
-snoc_length [] x = refl
-snoc_length (y ∷ xs) x = ap suc (snoc_length xs x)
-
-taken_first : (n : ℕ) (xs more : List (List ℕ)) → length xs ≡ n → take n (xs ++ more) ≡ take n xs
-taken_first zero xs more e = refl
-taken_first (suc n) [] more e = absurd (omega (arith, e))
-taken_first (suc n) (x ∷ xs) more e = ap (λ ys. x ∷ ys) (taken_first n xs more (omega (arith, e)))
-
 -- other words on the same texts, and one more, ask about the same problem
 asked_again : (s : Settings) (task : Task) (texts more : List (List ℕ)) (p : Problem) → length texts ≡ suc (length s.data_files) → IsAsked s texts p → IsAsked (record s { task = task }) (texts ++ more) p
 asked_again s task [] more p n a = absurd (omega (arith, n))
-asked_again s task (text ∷ others) more p n a = ap (λ ds. Some (end_of s (declared_in s.language text ds))) (taken_first (length s.data_files) others more (omega (arith, n))) ∙ a
+asked_again s task (text ∷ others) more p n a = ap (λ ds. Some (end_of s (declared_in s.language text ds))) (take-append-le (length s.data_files) others more (omega (arith, n))) ∙ a
 
 undecided_solves : (limit : Limit) (s : Settings) (texts : List (List ℕ)) → IsUndecided limit s texts → Solves s
 undecided_solves (Pivots wanted bases) s texts h = h.solves
@@ -192,8 +184,8 @@ module _ (c : Certificate) (again : List (List ℕ)) (told : ToldNames) (files_r
   as_many : length k.texts ≡ suc (length k.settings.data_files)
   as_many =
       let all : length (k.texts ++ certificate_text c ∷ []) ≡ suc (length (k.settings.data_files ++ k.name ∷ [])) = told_many told (k.settings.model ∷ (k.settings.data_files ++ k.name ∷ [])) (k.texts ++ certificate_text c ∷ []) k.has in
-      let texts = snoc_length k.texts (certificate_text c) in
-      let names = snoc_length k.settings.data_files k.name in
+      let texts = length_push k.texts (certificate_text c) in
+      let names = length_push k.settings.data_files k.name in
       omega (arith, all, texts, names)
 
   asked : IsAsked (record k.settings { task = CheckCertificate k.name }) (k.texts ++ certificate_text c ∷ []) k.found.problem

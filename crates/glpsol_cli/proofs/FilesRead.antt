@@ -1,6 +1,6 @@
 -- What the words and the files give, by what was told of the files at the start.
-use Rattle.std.proofs.Common.{◌≡◌, ◌∙◌, ◌<◌, ◌+◌, ℕ, zero, suc, List, [], ◌∷◌, ◌++◌, length, map, take, drop, get_or, Some, Option, refl, sym, ap, subst, arith}
-use Rattle.std.proofs.lemmas.List.{drop_more, take_more}
+use Rattle.std.proofs.Common.{◌≡◌, ◌∙◌, ◌<◌, ◌+◌, ℕ, suc, List, [], ◌∷◌, ◌++◌, length, map, take, drop, get_or, Some, Option, refl, sym, ap, subst, arith}
+use Rattle.std.proofs.lemmas.List.{drop_more, map_push, take-append-drop, take_more}
 use Rattle.outside.specs.declared.store.LoadFault.{LoadFault}
 use Rattle.outside.specs.declared.store.LoadFault.TheVariants.{Missing, Open, Read, TooLong, NoMemory as LoadNoMemory}
 use Rattle.command_line.specs.Meaning.{settings_of}
@@ -12,17 +12,8 @@ use Rattle.glpsol_cli.specs.declared.stop.Stop.TheVariants.{Words, File, Work, N
 
 -- ---- names and texts by their places
 
-split_at : (i : ℕ) (xs : List (List ℕ)) → xs ≡ take i xs ++ drop i xs
-split_at zero xs = refl
-split_at (suc i) [] = refl
-split_at (suc i) (x ∷ xs) = ap (λ ys. x ∷ ys) (split_at i xs)
-
 pub at_name : (names : List (List ℕ)) (i : ℕ) (name : List ℕ) → i < length names → name ≡ get_or names i name → names ≡ take i names ++ name ∷ drop (i + 1) names
-at_name names i name within is = split_at i names ∙ ap (λ ys. take i names ++ ys) (drop_more names i name within ∙ ap (λ n. n ∷ drop (i + 1) names) (sym is))
-
-pub mapped_snoc : {X : Type 0} (f : X → List ℕ) (xs : List X) (x : X) → map f (xs ++ x ∷ []) ≡ map f xs ++ f x ∷ []
-mapped_snoc f [] x = refl
-mapped_snoc f (y ∷ xs) x = ap (λ ys. f y ∷ ys) (mapped_snoc f xs x)
+at_name names i name within is = sym (take-append-drop i names) ∙ ap (λ ys. take i names ++ ys) (drop_more names i name within ∙ ap (λ n. n ∷ drop (i + 1) names) (sym is))
 
 -- ---- texts that were read
 
@@ -43,7 +34,7 @@ pub next_text : {X : Type 0} (f : X → List ℕ) (told told' : ToldNames) (name
 next_text f told told' names i name xs ys x within is same e h text =
     subst (λ zs. AreTexts told (take (i + 1) names) (map f zs)) (sym e)
     (subst (λ ns. AreTexts told ns (map f (xs ++ x ∷ []))) (sym (take_more names i name within ∙ ap (λ n. take i names ++ n ∷ []) (sym is)))
-    (subst (λ ts. AreTexts told (take i names ++ name ∷ []) ts) (sym (mapped_snoc f xs x))
+    (subst (λ ts. AreTexts told (take i names ++ name ∷ []) ts) (sym (map_push f xs x))
     (one_more told (take i names) (map f xs) name (f x) h (subst (λ t. IsTextOf t (f x)) same text))))
 
 as_many : (told : ToldNames) (names texts : List (List ℕ)) → AreTexts told names texts → length texts ≡ length names

@@ -1,5 +1,6 @@
 -- What the work on a problem gives of the texts.
-use Rattle.std.proofs.Common.{◌≡◌, ◌∙◌, ◌<◌, ℕ, zero, suc, List, [], ◌∷◌, length, map, take, Some, None, refl, sym, ap, subst, arith}
+use Rattle.std.proofs.Common.{◌≡◌, ◌∙◌, ◌<◌, ℕ, List, [], ◌∷◌, length, map, take, Some, None, sym, ap, subst, arith}
+use Rattle.std.proofs.lemmas.List.{take-map}
 use Rattle.std.specs.Prelude.{Result, Ok, Err, IfOk, IfErr}
 use Rattle.milp.specs.Problem.{Problem}
 use Rattle.mixed_solve.specs.Faults.{IsFault}
@@ -32,18 +33,12 @@ module _ (s : Settings) (text : List ℕ) (others data_texts : List (List ℕ)) 
   refused (TextHas fault) is = ends ∙ ap (λ (e : End). Some e) is
   refused TextNoMemory is = tt
 
--- the texts of the first of these are the first of their texts
-pub taken_texts : {X : Type 0} (f : X → List ℕ) (n : ℕ) (xs : List X) → take n (map f xs) ≡ map f (take n xs)
-taken_texts f zero xs = refl
-taken_texts f (suc n) [] = refl
-taken_texts f (suc n) (x ∷ xs) = ap (λ ys. f x ∷ ys) (taken_texts f n xs)
-
 module _ {X : Type 0} (f : X → List ℕ) (s : Settings) (xs others taken : List X) (x : X) (text : List ℕ) (parts : xs ≡ x ∷ others) (first : text ≡ f x) (some : taken ≡ take (length s.data_files) others) where
   texts_are : map f xs ≡ text ∷ map f others
   texts_are = ap (map f) parts ∙ ap (λ t. t ∷ map f others) (sym first)
 
   data_are : take (length s.data_files) (map f others) ≡ map f taken
-  data_are = taken_texts f (length s.data_files) others ∙ ap (map f) (sym some)
+  data_are = take-map f (length s.data_files) others ∙ ap (map f) (sym some)
 
   pub problem_is : (r : Result Problem TextStop) → IfOk r (λ p. end_of s (declared_in s.language text (map f taken)) ≡ Declared p) → IfOk r (IsAsked s (map f xs))
   problem_is (Ok p) h = subst (λ ts. IsAsked s ts p) (sym texts_are) (asked s text (map f others) (map f taken) data_are p h)
@@ -52,10 +47,6 @@ module _ {X : Type 0} (f : X → List ℕ) (s : Settings) (xs others taken : Lis
   pub stop_is : (r : Result Problem TextStop) → IfErr r (IsBadEnd (end_of s (declared_in s.language text (map f taken)))) → IfErr r (IsNoProblem s (map f xs))
   stop_is (Ok p) h = tt
   stop_is (Err stop) h = subst (λ ts. IsNoProblem s ts stop) (sym texts_are) (refused s text (map f others) (map f taken) data_are stop h)
-
-pub as_many_texts : {X : Type 0} (f : X → List ℕ) (xs : List X) → length (map f xs) ≡ length xs
-as_many_texts f [] = refl
-as_many_texts f (x ∷ xs) = ap suc (as_many_texts f xs)
 
 -- ---- solving
 

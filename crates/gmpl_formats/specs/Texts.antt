@@ -49,13 +49,13 @@ whole_text c q =
 
 -- 6 where there is no precision
 abbrev pub digits_of : Conversion → ℕ
-digits_of c = min (unwrap_or c.precision 6) 60
+digits_of c = unwrap_or c.precision 6
 
 abbrev pub fixed_text : Conversion → Rational → List ℕ
-fixed_text c q = number_text c c.zeros (is_negative q) (fixed (abs_ℚ q) (digits_of c))
+fixed_text c q = number_text c c.zeros (is_negative q) (fixed (abs_ℚ q) (min (digits_of c) 60))
 
 abbrev pub general_text : Conversion → Rational → List ℕ
-general_text c q = number_text c c.zeros (is_negative q) (general (abs_ℚ q) (digits_of c))
+general_text c q = number_text c c.zeros (is_negative q) (general (abs_ℚ q) (min (digits_of c) 60))
 
 abbrev pub styled_text : Style → Conversion → Symbol → Outcome (List ℕ)
 styled_text styles.Bare c s = Ok (bare_text c (characters s))

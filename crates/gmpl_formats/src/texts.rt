@@ -15,10 +15,8 @@ use gmpl_functions::{number_of, plain_text};
 use gmpl_value::Symbol;
 use std::alloc::{AllocError, Global};
 
-// The precision where a conversion has none, and the greatest.
+// The precision where a conversion has none.
 const USUAL_PRECISION: u32 = 6;
-
-const MOST_PRECISION: u32 = 60;
 
 /// The text that a conversion makes of a symbol. `NotANumber` where `%d`, `%i`, `%f` or `%g` gets a string that is no
 /// number, `NotWhole` where `%d` or `%i` gets a number that isn't whole.
@@ -173,10 +171,7 @@ fn whole_text(alloc: Global, conversion: &Conversion, value: Frac) -> Result<Str
 fn digits_of(conversion: &Conversion) -> u32
     ensures { result ≡ digits_of conversion.now }
 {
-    conversion
-        .precision
-        .unwrap_or(USUAL_PRECISION)
-        .min(MOST_PRECISION)
+    conversion.precision.unwrap_or(USUAL_PRECISION)
 }
 
 fn fixed_text(alloc: Global, conversion: &Conversion, value: Frac) -> Result<String, EvalFault>
