@@ -14,4 +14,8 @@ minimize time: sum{w in WORKERS, j in JOBS} minutes[w,j] * does[w,j];
 s.t. one_job{w in WORKERS}: sum{j in JOBS} does[w,j] = 1;
 s.t. one_worker{j in JOBS}: sum{w in WORKERS} does[w,j] = 1;
 
+solve;
+
+printf{w in WORKERS, j in JOBS: does[w,j] > 0}: "worker %d does job %d in %g minutes\n", w, j, minutes[w,j];
+
 end;

@@ -19,6 +19,11 @@ s.t. enough_energy: sum{f in FOODS} energy[f] * servings[f] >= 2000;
 s.t. enough_protein: sum{f in FOODS} protein[f] * servings[f] >= 55;
 s.t. enough_calcium: sum{f in FOODS} calcium[f] * servings[f] >= 800;
 
+solve;
+
+printf "A day's food for %.1f cents:\n", cost;
+printf{f in FOODS: servings[f] > 0}: "%-8s %5.2f servings\n", f, servings[f];
+
 data;
 
 param : FOODS :   price  energy  protein  calcium  most :=

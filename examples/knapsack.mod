@@ -18,6 +18,10 @@ s.t. fits: sum{t in THINGS} weight[t] * taken[t] <= most;
 
 solve;
 
+printf "%g points in %g grams:", total, fits;
+printf{t in THINGS: taken[t] = 1}: " %s", t;
+printf "\n";
+
 data;
 
 param : THINGS :  weight  worth :=

@@ -20,6 +20,12 @@ s.t. within_day{m in MACHINES}: sum{j in JOBS} hours[j,m] * does[j,m] <= day[m];
 
 solve;
 
+for{m in MACHINES} {
+   printf "%-6s %2g hours:", m, within_day[m];
+   printf{j in JOBS: does[j,m] > 0}: " %s", j;
+   printf "\n";
+}
+
 data;
 
 set JOBS := axle bolts cover dial edge frame gear hinge;

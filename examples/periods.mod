@@ -16,4 +16,9 @@ minimize cost: sum{t in MONTHS} (making_cost[t] * made[t] + storing_cost * store
 s.t. nothing_at_first: stored[0] = 0;
 s.t. balance{t in MONTHS}: stored[t-1] + made[t] = demand[t] + stored[t];
 
+solve;
+
+printf "month  made  stored\n";
+printf{t in MONTHS}: "%5d %5g %7g\n", t, made[t], stored[t];
+
 end;

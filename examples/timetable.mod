@@ -21,6 +21,12 @@ s.t. ends{l in LESSONS}: sum{h in HOURS} h * is_at[l,h] <= last;
 
 solve;
 
+for{h in HOURS: h <= last} {
+   printf "hour %d:", h;
+   printf{l in LESSONS: is_at[l,h] = 1}: " %s", l;
+   printf "\n";
+}
+
 data;
 
 set LESSONS := algebra biology chemistry drawing english french geometry;

@@ -24,6 +24,9 @@ s.t. meets_demand{m in MARKETS}: sum{p in PLANTS} shipped[p,m] >= demand[m];
 
 solve;
 
+printf "The cost is %.2f.\n", cost;
+printf{p in PLANTS, m in MARKETS: shipped[p,m] > 0}: "%5s to %-5s %5g cases\n", p, m, shipped[p,m];
+
 data;
 
 set PLANTS := north south;

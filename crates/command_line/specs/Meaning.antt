@@ -52,6 +52,15 @@ data_by _ (file ∷ files) = None
 abbrev pub data_in : Language → List Row → Option (List Text)
 data_in language rows = data_by language (values_of (codes "data") rows)
 
+abbrev pub display_by : Language → Option Text → Option (Option Text)
+display_by MathProg file = Some file
+display_by _ None = Some None
+display_by _ (Some file) = None
+
+-- the file of what is displayed: the value of `--display`, which stands with MathProg alone
+abbrev pub display_in : Language → List Row → Option (Option Text)
+display_in language rows = display_by language (first_of (codes "display") rows)
+
 abbrev pub direction_by : Bool → Bool → Option (Option Direction)
 direction_by true true = None
 direction_by true false = Some (Some Min)
@@ -113,6 +122,7 @@ abbrev pub settings_in : List Row → Option Settings
 settings_in rows = do
   source ← source_in rows
   files ← data_in source.0 rows
+  display ← display_in source.0 rows
   direction ← direction_in rows
   split_limit ← split_limit_in rows
   pivot_limit ← pivot_limit_in rows
@@ -121,6 +131,7 @@ settings_in rows = do
     language = source.0;
     model = source.1;
     data_files = files;
+    display = display;
     direction = direction;
     relaxed = stands (codes "nomip") rows;
     split_limit = split_limit;

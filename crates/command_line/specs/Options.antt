@@ -26,7 +26,7 @@ lettered_rule name letter = record (option_rule name) { short = Some letter }
 abbrev pub repeated_rule : Text → ℕ → Rule
 repeated_rule name letter = record (lettered_rule name letter) { action = Some Append }
 
--- what may stand among the words; 100 is the letter d, 109 is the letter m, 111 the letter o
+-- what may stand among the words; 100 is the letter d, 109 is the letter m, 111 the letter o, 121 the letter y
 abbrev pub rules : List Rule
 rules = file_rule
     ∷ flag_rule (codes "math")
@@ -34,6 +34,7 @@ rules = file_rule
     ∷ flag_rule (codes "lp")
     ∷ lettered_rule (codes "model") 109
     ∷ repeated_rule (codes "data") 100
+    ∷ lettered_rule (codes "display") 121
     ∷ flag_rule (codes "check")
     ∷ flag_rule (codes "min")
     ∷ flag_rule (codes "max")

@@ -34,6 +34,7 @@ fn command<'a>(alloc: Global) -> Result<Command<'a>, AllocError>
         .arg(flag(alloc, "lp"))?
         .arg(lettered(alloc, "model", 'm'))?
         .arg(repeated(alloc, "data", 'd'))?
+        .arg(lettered(alloc, "display", 'y'))?
         .arg(flag(alloc, "check"))?
         .arg(flag(alloc, "min"))?
         .arg(flag(alloc, "max"))?

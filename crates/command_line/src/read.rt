@@ -4,7 +4,7 @@ ghost use Rattle.std.specs.List.{list_all};
 ghost use Rattle.std.specs.Str.Parse.{digits_value};
 ghost use Rattle.std.specs.Prelude.{◌≡◌, true, IfOk, IfErr, Some, None, map, string_bytes, option_map, codes, ℕ, List};
 ghost use Rattle.command_line.specs.Options.{given_in};
-ghost use Rattle.command_line.specs.Meaning.{settings_of, settings_in, source_in, source_by, data_in, data_by, values_of, direction_in, split_limit_in, pivot_limit_in, limit_by, limit_of, is_numeral, limit_within, task_in, task_by, alone, outputs_in, stands};
+ghost use Rattle.command_line.specs.Meaning.{settings_of, settings_in, source_in, source_by, data_in, data_by, display_in, display_by, values_of, direction_in, split_limit_in, pivot_limit_in, limit_by, limit_of, is_numeral, limit_within, task_in, task_by, alone, outputs_in, stands};
 ghost use Rattle.clap.specs.Words.{all_of, first_of};
 ghost use Rattle.command_line.specs.declared.settings.WordsFault.TheVariants.{Usage};
 
@@ -35,6 +35,7 @@ fn settings_in(alloc: Global, matches: &ArgMatches<'_>) -> Result<Settings, Word
 {
     let (language, model) = source_in(alloc, matches)?;
     let data_files = data_in(alloc, language, matches)?;
+    let display = display_in(alloc, language, matches)?;
     let direction = direction_in(matches).ok_or(WordsFault::Usage)?;
     let relaxed = stands(matches, "nomip");
     let split_limit = split_limit_in(matches).ok_or(WordsFault::Usage)?;
@@ -44,6 +45,7 @@ fn settings_in(alloc: Global, matches: &ArgMatches<'_>) -> Result<Settings, Word
         language,
         model,
         data_files,
+        display,
         direction,
         relaxed,
         split_limit,
@@ -110,6 +112,30 @@ fn data_by(language: Language, files: DataFiles) -> Option<DataFiles>
                 None
             }
         }
+    }
+}
+
+// The file of what is displayed, which stands with MathProg alone.
+fn display_in(
+    alloc: Global,
+    language: Language,
+    matches: &ArgMatches<'_>,
+) -> Result<Option<Name>, WordsFault>
+    ensures some { IfOk result (λ file. display_in language (given_in matches.now) ≡ Some file) }
+    ensures none { IfErr result (λ fault. fault ≡ Usage → display_in language (given_in matches.now) ≡ None) }
+{
+    let file = name_in(alloc, matches, "display")?;
+    let file = display_by(language, file).ok_or(WordsFault::Usage)?;
+    Ok(file)
+}
+
+fn display_by(language: Language, file: Option<Name>) -> Option<Option<Name>>
+    ensures { result ≡ display_by language file }
+{
+    match (language, file) {
+        (Language::MathProg, file) => Some(file),
+        (_, None) => Some(None),
+        (_, Some(_)) => None,
     }
 }
 

@@ -16,6 +16,8 @@ pub struct Settings {
     pub model: Name,
     /// The data files of a MathProg model; none of the other languages has any.
     pub data_files: DataFiles,
+    /// The file to which the texts of `display` and `printf` go, of a MathProg model alone; without one they are printed.
+    pub display: Option<Name>,
     /// The direction of the objective, where it takes the place of the model's own.
     pub direction: Option<Direction>,
     /// Integer columns are taken as continuous ones.

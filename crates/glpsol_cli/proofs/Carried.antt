@@ -1,19 +1,49 @@
 -- How a run ends, from how its stages ended.
-use Rattle.std.proofs.Common.{◌≡◌, ℕ, List, Option, refl, sym, subst}
-use Rattle.std.specs.Prelude.{Ok, Err}
+use Rattle.std.proofs.Common.{◌≡◌, ◌∙◌, ◌≤◌, ℕ, List, [], ◌++◌, Option, Some, None, refl, sym, ap, subst, inl, inr, arith}
+use Rattle.std.proofs.lemmas.List.{append-nil}
+use Rattle.std.proofs.KnownBytes.{Appends-nil}
+use Rattle.std.specs.Prelude.{Ok, Err, IsSomeAnd}
+use Rattle.std.specs.Option.{option_map}
+use Rattle.rational.specs.Rational.{Rational}
+use Rattle.milp.specs.Problem.{Problem}
+use Rattle.verdicts.specs.Certificate.{Certificate}
+use Rattle.verdicts.specs.Certificate as kind
+use Rattle.gmpl_generate.specs.declared.fault.ModelFault.{ModelFault}
+use Rattle.outside.specs.Causes.{Rose}
 use Rattle.outside.specs.Told.{AppendsPrefix}
-use Rattle.glpsol_cli.specs.Asked.{ToldNames, OfTexts}
-use Rattle.glpsol_cli.specs.Pieces.{Outside, SameNames}
-use Rattle.glpsol_cli.specs.Cause.{Cause}
-use Rattle.glpsol_cli.specs.Written.{Written, line_of}
-use Rattle.glpsol_cli.specs.Stages.{IsFoundIn, IsStop, IsShown, IsPublished, HasFailed, finding_answer, publish_answer, stop_answer}
+use Rattle.mixed_solve.specs.declared.fault.VerdictFault.TheVariants.{NoFit as SearchNoFit, PivotLimit, SplitLimit, RayNoFit, NoMemory as SearchNoMemory}
+use Rattle.solution_writer.specs.Report.{IsShownPoint}
+use Rattle.command_line.specs.declared.settings.Settings.{Settings}
+use Rattle.glpsol_cli.specs.Asked.{ToldNames}
+use Rattle.glpsol_cli.specs.Pieces.{Piece, Outside, SameNames, AllWritten, Whole}
+use Rattle.glpsol_cli.specs.Meaning.{Behind, Declared, IsAsked, Meaning, behind_at, behind_of, found_pieces, meaning_in, meaning_of}
+use Rattle.glpsol_cli.specs.Cause.{Cause, EndsBehind, IsProved, IsTranslated, reached_of}
+use Rattle.glpsol_cli.specs.Written.{Written, ThenLine, extent_of, line_of}
+use Rattle.glpsol_cli.specs.Stages.{AreInputs, CauseIn, EndsWriting, HasFailed, IsEndBehind, IsEndIn, IsExecution, IsFinding, IsKept, IsPublished, IsStop, IsSubject, IsUnfound, LeftIn, LeftWritten, PiecesIn, ReachedIn, RestWritten, WrittenIn, behind_in, best_answer, pieces_of, reached_by, stop_answer, texts_in, unfound_answer, unwritten_answer}
 use Rattle.glpsol_cli.specs.declared.answer.Answer.{Answer}
-use Rattle.glpsol_cli.specs.declared.found.Found.{Found}
-use Rattle.glpsol_cli.specs.declared.stop.Stop.{Stop}
+use Rattle.glpsol_cli.specs.declared.answer.Answer.TheVariants.{Infeasible, Unbounded, Translated, Accepted, BadText, NoMemory}
+use Rattle.glpsol_cli.specs.declared.answer.Reached.{Reached}
+use Rattle.glpsol_cli.specs.declared.answer.Reached.TheVariants.{Nothing, Executed, Size, Acceptance, Verdict}
+use Rattle.glpsol_cli.specs.declared.answer.TextFault.{TextFault}
+use Rattle.glpsol_cli.specs.declared.behind.Behind.{Behind as BehindHeld}
+use Rattle.glpsol_cli.specs.declared.execution.Executed.{Executed as ExecutedHeld}
+use Rattle.glpsol_cli.specs.declared.execution.ExecutionEnd.TheVariants.{Problem as AtProblem, Fault as AtFault}
+use Rattle.glpsol_cli.specs.declared.execution.Later.{Later}
+use Rattle.glpsol_cli.specs.declared.found.Finding.{Finding}
+use Rattle.glpsol_cli.specs.declared.found.Finding.TheVariants.{Size as SizeFound, Acceptance as AcceptanceFound, Verdict as VerdictFound}
+use Rattle.glpsol_cli.specs.declared.inputs.Inputs.{Inputs}
 use Rattle.glpsol_cli.specs.declared.publish.PublishFault.{PublishFault}
-use Rattle.glpsol_cli.proofs.Writing.{all_from, ends_from}
-use Rattle.glpsol_cli.proofs.Reports.{shown}
-use Rattle.glpsol_cli.proofs.Answers.{finds, finds_pieces, stop_cause, stop_written, finding_cause, publish_cause, finding_written, publish_written}
+use Rattle.glpsol_cli.specs.declared.publish.PublishFault.TheVariants.{Write, NoMemory as PublishNoMemory}
+use Rattle.glpsol_cli.specs.declared.stop.CheckStop.TheVariants.{BadText as CheckBadText, Refused as CheckRefused, NoFit as CheckNoFit, NoMemory as CheckNoMemory}
+use Rattle.glpsol_cli.specs.declared.stop.Stop.{Stop}
+use Rattle.glpsol_cli.specs.declared.stop.Unfound.{Unfound}
+use Rattle.glpsol_cli.specs.declared.stop.Unfound.TheVariants.{Solve, Check}
+use Rattle.glpsol_cli.proofs.Writing.{nothing, none_written, line_from, line_after, line_alone, no_line, up_to_of_more, some_of_more}
+use Rattle.glpsol_cli.proofs.Reports.{best_shown}
+use Rattle.glpsol_cli.proofs.Answers.{stop_cause, stop_written, cause_of_texts, pieces_of_texts, pieces_also, cause_within}
+
+some_same : {A : Type 0} {a b : A} → Some a ≡ Some b → a ≡ b
+some_same e = cc
 
 -- ---- the answer of a stop, which is told
 
@@ -26,32 +56,332 @@ module _ (words : List (List ℕ)) (told told' : ToldNames) (same : SameNames to
       let old : Outside = record { taken = taken; told = told } in
       let new : Outside = record { taken = taken'; told = told' } in
       subst (Written words old new) (sym told_is) (subst (Written words old new) (sym means)
-      (stop_written words old new files_rose stop is (subst (λ a. AppendsPrefix taken taken' (line_of a)) means line, same)))
+      (stop_written words old new stop (subst (λ a. AppendsPrefix taken taken' (line_of a)) means line, same)))
 
--- ---- what is found
+-- ---- from the words' texts on
 
-module _ (words : List (List ℕ)) (told : ToldNames) (found : Found) (of : OfTexts words told (IsFoundIn found)) where
-  pub is_shown : IsShown found.problem found.finding
-  is_shown = shown found.problem of.settings of.texts found.finding of.has.finding
+module _ (words : List (List ℕ)) (told : ToldNames) (inputs : Inputs) (are : AreInputs words told inputs) (answer : Answer) where
+  pub read_cause : (a b c p q : ℕ) → a ≤ b → CauseIn inputs.settings (texts_in inputs) (Rose b c) (Rose p q) answer → Cause words told (Rose a c) (Rose p q) answer
+  read_cause a b c p q later h =
+      cause_of_texts words told inputs.settings (texts_in inputs) are.asks are.read (Rose a c) (Rose p q) answer
+      (cause_within inputs.settings (texts_in inputs) a b c c later (omega arith) p p q q (omega arith) (omega arith) answer h)
 
-  pub found_cause : (files_rose out_rose : Type 0) (answer : Answer) → answer ≡ finding_answer found.finding → Cause words told files_rose out_rose answer
-  found_cause files_rose out_rose answer means = subst (Cause words told files_rose out_rose) (sym means) (finding_cause words told found.problem files_rose out_rose found.finding (finds words told found of))
+  pub read_written : (taken : Option (List ℕ)) (told' : ToldNames) (new : Outside) → SameNames told told' → WrittenIn inputs.settings (texts_in inputs) (record { taken = taken; told = told' }) new answer → Written words (record { taken = taken; told = told }) new answer
+  read_written taken told' new same h =
+      let old : Outside = record { taken = taken; told = told } in
+      let middle : Outside = record { taken = taken; told = told' } in
+      let now = ThenLine (extent_of answer) (line_of answer) old new in
+      let then = ThenLine (extent_of answer) (line_of answer) middle new in
+      pieces_of_texts words told inputs.settings (texts_in inputs) are.asks are.read (reached_of answer) now
+      (pieces_also inputs.settings (texts_in inputs) (reached_of answer) now then (λ ps k. line_from old middle (Appends-nil taken, same) (extent_of answer) (line_of answer) ps new k) h)
 
-  module _ (told' : ToldNames) (same : SameNames told told') (taken : Option (List ℕ)) where
-    pub found_written : (new : Outside) (t : Unit {0}) (answer : Answer) → answer ≡ finding_answer found.finding → IsPublished {T = Unit {0}} found (record { taken = taken; told = told' }) new (Ok t) → Written words (record { taken = taken; told = told }) new answer
-    found_written new t answer means published =
-        let old : Outside = record { taken = taken; told = told } in
-        subst (Written words old new) (sym means)
-        (finding_written words old new found.problem published.pieces found.finding (finds_pieces words told found of published.pieces published.are) (all_from taken told told' same published.pieces new published.ends))
+-- ---- what can't be written
 
-    module _ (fault : PublishFault) (made answer : Answer) (means : made ≡ publish_answer found.finding fault) (told_is : answer ≡ made) where
-      pub unpublished_cause : (files_rose out_rose : Type 0) → HasFailed files_rose out_rose fault → Cause words told files_rose out_rose answer
-      unpublished_cause files_rose out_rose failed = subst (Cause words told files_rose out_rose) (sym told_is) (subst (Cause words told files_rose out_rose) (sym means)
-          (publish_cause words told found.problem files_rose out_rose found.finding fault (finds words told found of) failed))
+reached_unwritten : (r : Reached) (fault : PublishFault) → reached_of (unwritten_answer r fault) ≡ r
+reached_unwritten r (Write target) = refl
+reached_unwritten r PublishNoMemory = refl
 
-      pub unpublished_written : (middle : Outside) (taken' : Option (List ℕ)) → IsPublished {T = Unit {0}} found (record { taken = taken; told = told' }) middle (Err fault) → AppendsPrefix middle.taken taken' (line_of made) → Written words (record { taken = taken; told = told }) (record { taken = taken'; told = middle.told }) answer
-      unpublished_written middle taken' published line =
+unwritten_cause : (s : Settings) (texts : List (List ℕ)) (files_rose out_rose : Type 0) (r : Reached) (fault : PublishFault) → ReachedIn s texts r → HasFailed files_rose out_rose fault → CauseIn s texts files_rose out_rose (unwritten_answer r fault)
+unwritten_cause s texts files_rose out_rose r (Write target) h failed = (h, failed)
+unwritten_cause s texts files_rose out_rose r PublishNoMemory h failed = h
+
+unwritten_line : (r : Reached) (fault : PublishFault) (ps : List Piece) (old middle : Outside) (taken : Option (List ℕ)) → EndsWriting {T = Unit {0}} ps old middle (Err fault) → AppendsPrefix middle.taken taken (line_of (unwritten_answer r fault))
+    → ThenLine (extent_of (unwritten_answer r fault)) (line_of (unwritten_answer r fault)) old (record { taken = taken; told = middle.told }) ps
+unwritten_line r (Write target) ps old middle taken ends line = (middle, ends, (line, λ name. refl))
+unwritten_line r PublishNoMemory ps old middle taken ends line = (middle, ends, (line, λ name. refl))
+
+ends_of_more : (fault : PublishFault) (ps qs : List Piece) (old middle : Outside) → EndsWriting {T = Unit {0}} ps old middle (Err fault) → EndsWriting {T = Unit {0}} (ps ++ qs) old middle (Err fault)
+ends_of_more (Write target) ps qs old middle h = up_to_of_more target ps qs old middle h
+ends_of_more PublishNoMemory ps qs old middle h = some_of_more ps qs old middle h
+
+-- ---- from the execution on
+
+module _ (s : Settings) (texts : List (List ℕ)) where
+  -- there is no memory for it
+  pub unexecuted_written : (taken taken' : Option (List ℕ)) (told : ToldNames) (answer : Answer) → answer ≡ NoMemory Nothing → AppendsPrefix taken taken' (line_of (NoMemory Nothing)) → WrittenIn s texts (record { taken = taken; told = told }) (record { taken = taken'; told = told }) answer
+  unexecuted_written taken taken' told answer is line =
+      let old : Outside = record { taken = taken; told = told } in
+      let new : Outside = record { taken = taken'; told = told } in
+      subst (WrittenIn s texts old new) (sym is) (old, nothing old, (line, λ name. refl))
+
+  -- what is left, behind what was printed
+  left_in : (m : Meaning) → meaning_of s texts ≡ Some m → (r : Reached) (P Q : List Piece → Type 0) → ((ps : List Piece) → P ps → Q (m.done ++ ps)) → LeftIn s texts r P → PiecesIn s texts r Q
+  left_in m means Nothing P Q f h = absurd h
+  left_in m means Executed P Q f h = record { meaning = m; means = means; has = subst Q (append-nil m.done) (f [] h) }
+  left_in m means Size P Q f h = record {
+    meaning = h.meaning;
+    means = h.means;
+    problem = h.problem;
+    end = h.end;
+    found = h.found;
+    are = h.are;
+    has = subst (λ (n : Meaning). Q (n.done ++ (h.found ++ (behind_of h.meaning.behind Size).pieces))) (some_same (sym means ∙ h.means)) (f (h.found ++ (behind_of h.meaning.behind Size).pieces) h.has);
+  }
+  left_in m means Acceptance P Q f h = record {
+    meaning = h.meaning;
+    means = h.means;
+    problem = h.problem;
+    end = h.end;
+    found = h.found;
+    are = h.are;
+    has = subst (λ (n : Meaning). Q (n.done ++ (h.found ++ (behind_of h.meaning.behind Acceptance).pieces))) (some_same (sym means ∙ h.means)) (f (h.found ++ (behind_of h.meaning.behind Acceptance).pieces) h.has);
+  }
+  left_in m means (Verdict c) P Q f h = record {
+    meaning = h.meaning;
+    means = h.means;
+    problem = h.problem;
+    end = h.end;
+    found = h.found;
+    are = h.are;
+    has = subst (λ (n : Meaning). Q (n.done ++ (h.found ++ (behind_of h.meaning.behind (Verdict c)).pieces))) (some_same (sym means ∙ h.means)) (f (h.found ++ (behind_of h.meaning.behind (Verdict c)).pieces) h.has);
+  }
+
+  module _ (e : ExecutedHeld) (h : IsExecution s texts e) where
+    pub ends_so : IsEndIn s texts e.end
+    ends_so = record { text = h.text; data_texts = h.data_texts; means = h.means; is_end = h.execution.end }
+
+    is_done : ReachedIn s texts Executed
+    is_done = record { meaning = meaning_in s h.text h.data_texts; means = h.means; has = tt }
+
+    pub executed_written : (old middle new : Outside) (answer : Answer) → AllWritten (pieces_of e.done.items) old middle → LeftWritten s texts middle new answer → WrittenIn s texts old new answer
+    executed_written old middle new answer all left =
+        let m : Meaning = meaning_in s h.text h.data_texts in
+        left_in m h.means (reached_of answer) (ThenLine (extent_of answer) (line_of answer) middle new) (ThenLine (extent_of answer) (line_of answer) old new)
+        (λ ps k. line_after (extent_of answer) (line_of answer) m.done ps old middle new (subst (λ done. AllWritten done old middle) h.execution.done all) k) left
+
+    module _ (fault : PublishFault) (made answer : Answer) (means : made ≡ unwritten_answer Executed fault) (told_is : answer ≡ made) where
+      pub unprinted_cause : (files_rose out_rose : Type 0) → HasFailed files_rose out_rose fault → CauseIn s texts files_rose out_rose answer
+      unprinted_cause files_rose out_rose failed = subst (CauseIn s texts files_rose out_rose) (sym (told_is ∙ means)) (unwritten_cause s texts files_rose out_rose Executed fault is_done failed)
+
+      pub unprinted_written : (old middle : Outside) (taken : Option (List ℕ)) → EndsWriting {T = Unit {0}} (pieces_of e.done.items) old middle (Err fault) → AppendsPrefix middle.taken taken (line_of made)
+          → WrittenIn s texts old (record { taken = taken; told = middle.told }) answer
+      unprinted_written old middle taken ends line =
+          let new : Outside = record { taken = taken; told = middle.told } in
+          let m : Meaning = meaning_in s h.text h.data_texts in
+          subst (WrittenIn s texts old new) (sym (told_is ∙ means))
+          (subst (λ r. PiecesIn s texts r (ThenLine (extent_of (unwritten_answer Executed fault)) (line_of (unwritten_answer Executed fault)) old new)) (sym (reached_unwritten Executed fault))
+          (record {
+            meaning = m;
+            means = h.means;
+            has = unwritten_line Executed fault m.done old middle taken (subst (λ done. EndsWriting {T = Unit {0}} done old middle (Err fault)) h.execution.done ends)
+                (subst (λ a. AppendsPrefix middle.taken taken (line_of a)) means line);
+          }))
+
+  -- the end is a fault
+  pub refused_cause : (fault : TextFault) (files_rose out_rose : Type 0) (answer : Answer) → IsEndIn s texts (AtFault fault) → answer ≡ BadText fault → CauseIn s texts files_rose out_rose answer
+  refused_cause fault files_rose out_rose answer h is =
+      subst (CauseIn s texts files_rose out_rose) (sym is) (ap (option_map (λ (m : Meaning). m.end)) h.means ∙ ap Some h.is_end)
+
+  pub refused_written : (fault : TextFault) (taken taken' : Option (List ℕ)) (told : ToldNames) (answer : Answer) → answer ≡ BadText fault → AppendsPrefix taken taken' (line_of (BadText fault))
+      → LeftWritten s texts (record { taken = taken; told = told }) (record { taken = taken'; told = told }) answer
+  refused_written fault taken taken' told answer is line =
+      subst (LeftWritten s texts (record { taken = taken; told = told }) (record { taken = taken'; told = told })) (sym is) (line_alone (line_of (BadText fault)) taken taken' told line)
+
+  -- or a problem
+  pub subject_of : (p : Problem) (later : Option Later) → IsEndIn s texts (AtProblem p later) → IsSubject s texts p later
+  subject_of p later h = record { text = h.text; data_texts = h.data_texts; means = h.means; declares = h.is_end.0; kept = h.is_end.1 }
+
+-- ---- from a problem on
+
+module _ (s : Settings) (texts : List (List ℕ)) (p : Problem) (later : Option Later) (subject : IsSubject s texts p later) where
+  pub subject_asked : IsAsked s texts p
+  subject_asked = ap (option_map (λ (m : Meaning). m.end)) subject.means ∙ ap Some subject.declares
+
+  executed : ReachedIn s texts Executed
+  executed = record { meaning = meaning_in s subject.text subject.data_texts; means = subject.means; has = tt }
+
+  unfound_is : (files_rose out_rose : Type 0) (unfound : Unfound) → IsUnfound unfound s texts → CauseIn s texts files_rose out_rose (unfound_answer unfound)
+  unfound_is files_rose out_rose (Solve (SearchNoFit wanted site)) h = h
+  unfound_is files_rose out_rose (Solve (RayNoFit e)) h = h
+  unfound_is files_rose out_rose (Solve (PivotLimit wanted bases)) h = h
+  unfound_is files_rose out_rose (Solve (SplitLimit wanted)) h = h
+  unfound_is files_rose out_rose (Solve SearchNoMemory) h = executed
+  unfound_is files_rose out_rose (Check (CheckBadText fault)) h = h
+  unfound_is files_rose out_rose (Check (CheckRefused part)) h = h
+  unfound_is files_rose out_rose (Check (CheckNoFit f)) h = h
+  unfound_is files_rose out_rose (Check CheckNoMemory) h = executed
+
+  unfound_line : (taken taken' : Option (List ℕ)) (told : ToldNames) (unfound : Unfound) → AppendsPrefix taken taken' (line_of (unfound_answer unfound))
+      → LeftWritten s texts (record { taken = taken; told = told }) (record { taken = taken'; told = told }) (unfound_answer unfound)
+  unfound_line taken taken' told (Solve (SearchNoFit wanted site)) line = line_alone _ taken taken' told line
+  unfound_line taken taken' told (Solve (RayNoFit e)) line = line_alone _ taken taken' told line
+  unfound_line taken taken' told (Solve (PivotLimit wanted bases)) line = line_alone _ taken taken' told line
+  unfound_line taken taken' told (Solve (SplitLimit wanted)) line = line_alone _ taken taken' told line
+  unfound_line taken taken' told (Solve SearchNoMemory) line = line_alone _ taken taken' told line
+  unfound_line taken taken' told (Check (CheckBadText fault)) line = line_alone _ taken taken' told line
+  unfound_line taken taken' told (Check (CheckRefused part)) line = line_alone _ taken taken' told line
+  unfound_line taken taken' told (Check (CheckNoFit f)) line = line_alone _ taken taken' told line
+  unfound_line taken taken' told (Check CheckNoMemory) line = line_alone _ taken taken' told line
+
+  module _ (unfound : Unfound) (made answer : Answer) (means : made ≡ unfound_answer unfound) (told_is : answer ≡ made) where
+    pub unfound_cause : (files_rose out_rose : Type 0) → IsUnfound unfound s texts → CauseIn s texts files_rose out_rose answer
+    unfound_cause files_rose out_rose h = subst (CauseIn s texts files_rose out_rose) (sym (told_is ∙ means)) (unfound_is files_rose out_rose unfound h)
+
+    pub unfound_written : (taken taken' : Option (List ℕ)) (told : ToldNames) → AppendsPrefix taken taken' (line_of made) → LeftWritten s texts (record { taken = taken; told = told }) (record { taken = taken'; told = told }) answer
+    unfound_written taken taken' told line =
+        subst (LeftWritten s texts (record { taken = taken; told = told }) (record { taken = taken'; told = told })) (sym (told_is ∙ means))
+        (unfound_line taken taken' told unfound (subst (λ a. AppendsPrefix taken taken' (line_of a)) means line))
+
+  -- ---- from what is found on
+
+  reached : (f : Finding) → IsFinding p s texts f → ReachedIn s texts (reached_by f)
+  reached SizeFound h = record { problem = p; asked = subject_asked; translates = h }
+  reached AcceptanceFound h = h
+  reached (VerdictFound c) h = record { problem = p; asked = subject_asked; solves = h.0; proves = h.1; accepted = h.2 }
+
+  ends_at : (m : Meaning) → meaning_of s texts ≡ Some m → m.end ≡ Declared p
+  ends_at m means = ap (λ (n : Meaning). n.end) (some_same (sym means ∙ subject.means)) ∙ subject.declares
+
+  -- what is left of a problem, by a meaning of the texts
+  left_of : (f : Finding) (P : List Piece → Type 0) (m : Meaning) (pieces : List Piece) → meaning_of s texts ≡ Some m → found_pieces s.task p (reached_by f) ≡ Some pieces → P (pieces ++ (behind_of m.behind (reached_by f)).pieces) → LeftIn s texts (reached_by f) P
+  left_of SizeFound P m pieces means are has = record { meaning = m; means = means; problem = p; end = ends_at m means; found = pieces; are = are; has = has }
+  left_of AcceptanceFound P m pieces means are has = record { meaning = m; means = means; problem = p; end = ends_at m means; found = pieces; are = are; has = has }
+  left_of (VerdictFound c) P m pieces means are has = record { meaning = m; means = means; problem = p; end = ends_at m means; found = pieces; are = are; has = has }
+
+  module _ (f : Finding) (old middle : Outside) where
+    pub reported_written : (new : Outside) (answer : Answer) → IsPublished {T = Unit {0}} s.task p f old middle (Ok tt) → RestWritten (reached_by f) s texts middle new answer → LeftWritten s texts old new answer
+    reported_written new answer published rest =
+        let P : List Piece → Type 0 = ThenLine (extent_of answer) (line_of answer) old new in
+        subst (λ r. LeftIn s texts r P) (sym rest.is_reached)
+        (left_of f P rest.meaning published.pieces rest.means published.are
+        (line_after (extent_of answer) (line_of answer) published.pieces (behind_of rest.meaning.behind (reached_by f)).pieces old middle new published.ends rest.has))
+
+    module _ (fault : PublishFault) (r : Reached) (made answer : Answer) (reaches : r ≡ reached_by f) (means : made ≡ unwritten_answer r fault) (told_is : answer ≡ made) where
+      is_answer : answer ≡ unwritten_answer (reached_by f) fault
+      is_answer = told_is ∙ means ∙ ap (λ q. unwritten_answer q fault) reaches
+
+      pub unreported_cause : (files_rose out_rose : Type 0) → IsFinding p s texts f → HasFailed files_rose out_rose fault → CauseIn s texts files_rose out_rose answer
+      unreported_cause files_rose out_rose h failed = subst (CauseIn s texts files_rose out_rose) (sym is_answer) (unwritten_cause s texts files_rose out_rose (reached_by f) fault (reached f h) failed)
+
+      pub unreported_written : (taken : Option (List ℕ)) → IsPublished {T = Unit {0}} s.task p f old middle (Err fault) → AppendsPrefix middle.taken taken (line_of made) → LeftWritten s texts old (record { taken = taken; told = middle.told }) answer
+      unreported_written taken published line =
+          let new : Outside = record { taken = taken; told = middle.told } in
+          let built : Answer = unwritten_answer (reached_by f) fault in
+          let m : Meaning = meaning_in s subject.text subject.data_texts in
+          let P : List Piece → Type 0 = ThenLine (extent_of built) (line_of built) old new in
+          let more : List Piece = (behind_of m.behind (reached_by f)).pieces in
+          subst (LeftWritten s texts old new) (sym is_answer)
+          (subst (λ q. LeftIn s texts q P) (sym (reached_unwritten (reached_by f) fault))
+          (left_of f P m published.pieces subject.means published.are
+          (unwritten_line (reached_by f) fault (published.pieces ++ more) old middle taken (ends_of_more fault published.pieces more old middle published.ends)
+          (subst (λ a. AppendsPrefix middle.taken taken (line_of a)) (means ∙ ap (λ q. unwritten_answer q fault) reaches) line))))
+
+  -- ---- from the report on
+
+  -- nothing is left
+  none_left : (r : Reached) (o : Outside) (answer : Answer) → (extent_of answer ≡ Whole) → (line_of answer ≡ []) → reached_of answer ≡ r → (behind_of (meaning_in s subject.text subject.data_texts).behind r).pieces ≡ [] → RestWritten r s texts o o answer
+  none_left r o answer whole silent reaches none =
+      let m : Meaning = meaning_in s subject.text subject.data_texts in
+      record {
+        meaning = m;
+        means = subject.means;
+        is_reached = reaches;
+        has = subst (λ ps. ThenLine (extent_of answer) (line_of answer) o o ps) (sym none) (subst (λ e. ThenLine e (line_of answer) o o []) (sym whole) (no_line (line_of answer) [] o o (nothing o)));
+      }
+
+  module _ (f : Finding) where
+    pub size_cause : f ≡ SizeFound → IsFinding p s texts f → IsTranslated s texts
+    size_cause is h = reached SizeFound (subst (IsFinding p s texts) is h)
+
+    pub size_written : f ≡ SizeFound → (o : Outside) → RestWritten (reached_by f) s texts o o Translated
+    size_written is o = subst (λ g. RestWritten (reached_by g) s texts o o Translated) (sym is) (none_left Size o Translated refl refl refl refl)
+
+    pub acceptance_written : f ≡ AcceptanceFound → (o : Outside) → RestWritten (reached_by f) s texts o o Accepted
+    acceptance_written is o = subst (λ g. RestWritten (reached_by g) s texts o o Accepted) (sym is) (none_left Acceptance o Accepted refl refl refl refl)
+
+  module _ (c : Certificate) (h : IsFinding p s texts (VerdictFound c)) where
+    proved : IsProved c s texts
+    proved = reached (VerdictFound c) h
+
+    pub infeasible_cause : (files_rose out_rose : Type 0) → c.verdict ≡ kind.Infeasible → CauseIn s texts files_rose out_rose (Infeasible c)
+    infeasible_cause files_rose out_rose is = (is, proved)
+
+    pub unbounded_cause : (files_rose out_rose : Type 0) → c.verdict ≡ kind.Unbounded → CauseIn s texts files_rose out_rose (Unbounded c)
+    unbounded_cause files_rose out_rose is = (is, proved)
+
+    pub infeasible_written : (o : Outside) → c.verdict ≡ kind.Infeasible → RestWritten (Verdict c) s texts o o (Infeasible c)
+    infeasible_written o is = none_left (Verdict c) o (Infeasible c) refl refl refl (ap (λ v. (behind_at (meaning_in s subject.text subject.data_texts).behind v c.point).pieces) is)
+
+    pub unbounded_written : (o : Outside) → c.verdict ≡ kind.Unbounded → RestWritten (Verdict c) s texts o o (Unbounded c)
+    unbounded_written o is = none_left (Verdict c) o (Unbounded c) refl refl refl (ap (λ v. (behind_at (meaning_in s subject.text subject.data_texts).behind v c.point).pieces) is)
+
+    module _ (best : c.verdict ≡ kind.Optimal) where
+      pub best_point : IsSomeAnd c.point (IsShownPoint p)
+      best_point = best_shown p c best h.2
+
+      -- there is no memory for the statements behind `solve`
+      pub unrun_cause : (files_rose out_rose : Type 0) (answer : Answer) → answer ≡ NoMemory (Verdict c) → CauseIn s texts files_rose out_rose answer
+      unrun_cause files_rose out_rose answer is = subst (CauseIn s texts files_rose out_rose) (sym is) proved
+
+      pub unrun_written : (taken taken' : Option (List ℕ)) (told : ToldNames) (answer : Answer) → answer ≡ NoMemory (Verdict c) → AppendsPrefix taken taken' (line_of (NoMemory (Verdict c)))
+          → RestWritten (Verdict c) s texts (record { taken = taken; told = told }) (record { taken = taken'; told = told }) answer
+      unrun_written taken taken' told answer is line =
           let old : Outside = record { taken = taken; told = told } in
-          let new : Outside = record { taken = taken'; told = middle.told } in
-          subst (Written words old new) (sym told_is) (subst (Written words old new) (sym means)
-          (publish_written words old new found.problem published.pieces middle found.finding fault (finds_pieces words told found of published.pieces published.are) (ends_from taken told told' same {T = Unit {0}} published.pieces middle (Err fault) published.ends) (subst (λ a. AppendsPrefix middle.taken taken' (line_of a)) means line, λ name. refl)))
+          let new : Outside = record { taken = taken'; told = told } in
+          let m : Meaning = meaning_in s subject.text subject.data_texts in
+          subst (RestWritten (Verdict c) s texts old new) (sym is)
+          (record { meaning = m; means = subject.means; is_reached = refl; has = (old, none_written (behind_of m.behind (Verdict c)).pieces old, (line, λ name. refl)) })
+
+      -- what they come to
+      module _ (b : BehindHeld) (is : (text : List ℕ) (data_texts : List (List ℕ)) (x : List Rational) → IsKept s text data_texts p later → c.point ≡ Some x → (meaning_in s text data_texts).behind x ≡ behind_in b) where
+        ended : (o : Option (List Rational)) → c.point ≡ o → IsSomeAnd o (IsShownPoint p) → EndsBehind b.fault c s texts
+        ended None e there = absurd there
+        ended (Some x) e there = record {
+          proved = proved;
+          meaning = meaning_in s subject.text subject.data_texts;
+          means = subject.means;
+          point = x;
+          has_point = e;
+          ends = ap (λ (r : Behind). r.fault) (is subject.text subject.data_texts x subject.kept e);
+        }
+
+        comes_to : (o : Option (List Rational)) → c.point ≡ o → IsSomeAnd o (IsShownPoint p) → behind_of (meaning_in s subject.text subject.data_texts).behind (Verdict c) ≡ behind_in b
+        comes_to None e there = absurd there
+        comes_to (Some x) e there =
+            let behind : List Rational → Behind = (meaning_in s subject.text subject.data_texts).behind in
+            ap (λ v. behind_at behind v c.point) best ∙ ap (behind_at behind kind.Optimal) e ∙ is subject.text subject.data_texts x subject.kept e
+
+        best_cause : (files_rose out_rose : Type 0) (fault : Option ModelFault) → EndsBehind fault c s texts → CauseIn s texts files_rose out_rose (best_answer fault c)
+        best_cause files_rose out_rose None e = (best, e)
+        best_cause files_rose out_rose (Some fault) e = (best, e)
+
+        pub behind_cause : (files_rose out_rose : Type 0) (answer : Answer) → IsEndBehind b.fault c files_rose out_rose answer → CauseIn s texts files_rose out_rose answer
+        behind_cause files_rose out_rose answer k = elim k [
+          | inl e ↦ subst (CauseIn s texts files_rose out_rose) (sym e) (best_cause files_rose out_rose b.fault (ended c.point refl best_point))
+          | inr more ↦ subst (CauseIn s texts files_rose out_rose) (sym more.1) (unwritten_cause s texts files_rose out_rose (Verdict c) more.0 proved more.2)
+        ]
+
+        best_reached : (fault : Option ModelFault) → reached_of (best_answer fault c) ≡ Verdict c
+        best_reached None = refl
+        best_reached (Some fault) = refl
+
+        end_reached : (files_rose out_rose : Type 0) (answer : Answer) → IsEndBehind b.fault c files_rose out_rose answer → reached_of answer ≡ Verdict c
+        end_reached files_rose out_rose answer k = elim k [
+          | inl e ↦ ap reached_of e ∙ best_reached b.fault
+          | inr more ↦ ap reached_of more.1 ∙ reached_unwritten (Verdict c) more.0
+        ]
+
+        pub behind_written : (files_rose out_rose : Type 0) (old new : Outside) (answer : Answer) → IsEndBehind b.fault c files_rose out_rose answer → ThenLine (extent_of answer) (line_of answer) old new (pieces_of b.pieces.items) → RestWritten (Verdict c) s texts old new answer
+        behind_written files_rose out_rose old new answer k line = record {
+          meaning = meaning_in s subject.text subject.data_texts;
+          means = subject.means;
+          is_reached = end_reached files_rose out_rose answer k;
+          has = subst (λ (r : Behind). ThenLine (extent_of answer) (line_of answer) old new r.pieces) (sym (comes_to c.point refl best_point)) line;
+        }
+
+-- ---- the end behind `solve`
+
+best_line : (fault : Option ModelFault) (c : Certificate) (ps : List Piece) (old middle : Outside) (taken : Option (List ℕ)) → AllWritten ps old middle → AppendsPrefix middle.taken taken (line_of (best_answer fault c))
+    → ThenLine (extent_of (best_answer fault c)) (line_of (best_answer fault c)) old (record { taken = taken; told = middle.told }) ps
+best_line None c ps old middle taken all line = (middle, all, (line, λ name. refl))
+best_line (Some fault) c ps old middle taken all line = (middle, all, (line, λ name. refl))
+
+pub ended_line : (fault : Option ModelFault) (c : Certificate) (ps : List Piece) (old middle : Outside) (taken : Option (List ℕ)) (answer : Answer) → answer ≡ best_answer fault c → AllWritten ps old middle → AppendsPrefix middle.taken taken (line_of answer)
+    → ThenLine (extent_of answer) (line_of answer) old (record { taken = taken; told = middle.told }) ps
+ended_line fault c ps old middle taken answer is all line =
+    subst (λ a. ThenLine (extent_of a) (line_of a) old (record { taken = taken; told = middle.told }) ps) (sym is) (best_line fault c ps old middle taken all (subst (λ a. AppendsPrefix middle.taken taken (line_of a)) is line))
+
+pub unended_line : (c : Certificate) (fault : PublishFault) (ps : List Piece) (old middle : Outside) (taken : Option (List ℕ)) (made answer : Answer) → made ≡ unwritten_answer (Verdict c) fault → answer ≡ made → EndsWriting {T = Unit {0}} ps old middle (Err fault) → AppendsPrefix middle.taken taken (line_of made)
+    → ThenLine (extent_of answer) (line_of answer) old (record { taken = taken; told = middle.told }) ps
+unended_line c fault ps old middle taken made answer means told_is ends line =
+    subst (λ a. ThenLine (extent_of a) (line_of a) old (record { taken = taken; told = middle.told }) ps) (sym (told_is ∙ means)) (unwritten_line (Verdict c) fault ps old middle taken ends (subst (λ a. AppendsPrefix middle.taken taken (line_of a)) means line))

@@ -3,9 +3,12 @@ use Rattle.std.proofs.Common.{◌≡◌, ◌∙◌, ◌<◌, ◌≤◌, ℕ, suc
 use Rattle.std.proofs.lemmas.List.{length_push, take-append-le}
 use Rattle.std.specs.Prelude.{Result, Ok, Err}
 use Rattle.milp.specs.Problem.{Problem}
+use Rattle.milp.specs.Points.{IsOptimal}
 use Rattle.fraction.specs.declared.frac.NoFit.{NoFit}
+use Rattle.gmpl_generate.specs.declared.fault.ModelFault.{ModelFault}
 use Rattle.verdicts.specs.Certificate.{Certificate}
-use Rattle.verdicts.specs.Proves.{Part as PartOf, tests, first_failing}
+use Rattle.verdicts.specs.Certificate as kind
+use Rattle.verdicts.specs.Proves.{Part as PartOf, Holds, tests, first_failing}
 use Rattle.certificate.specs.Text.{certificate_text}
 use Rattle.certificate_reader.specs.Reading.{read_of}
 use Rattle.certificate_lines.specs.declared.fault.CertFault.{CertFault}
@@ -19,16 +22,17 @@ use Rattle.command_line.specs.declared.settings.Task.{Task}
 use Rattle.command_line.specs.declared.settings.Task.TheVariants.{Solve, Translate, CheckCertificate}
 use Rattle.glpsol_cli.specs.Asked.{ToldNames, OfTexts, AreTexts, IsInTurn, Solves, IsSolve, names_read}
 use Rattle.glpsol_cli.specs.Meaning.{Declared, Faulty, declared_in, end_of, IsAsked, IsRefused}
-use Rattle.glpsol_cli.specs.Cause.{Cause, OfCertificate, IsAccepted, IsNoCertificate, IsRefusedAt, IsCheckOverflow, IsUndecided, IsTranslated, IsProved, IsOverflow, RoseAt}
+use Rattle.glpsol_cli.specs.Cause.{Cause, EndsBehind, OfCertificate, IsAccepted, IsNoCertificate, IsRefusedAt, IsCheckOverflow, IsUndecided, IsTranslated, IsProved, IsOverflow, RoseAt}
 use Rattle.glpsol_cli.specs.Complete.{AreTold, IsComplete, IsVerdictOrNoMemory, IsRecheck, IsAcceptedOrFault}
 use Rattle.glpsol_cli.specs.declared.answer.Answer.{Answer}
-use Rattle.glpsol_cli.specs.declared.answer.Answer.TheVariants.{Optimal, Infeasible, Unbounded, Translated, Accepted, Usage, Missing, OpenFault, ReadFault, WriteFault, TooLong, BadText, BadCertificate, Overflow, Undecided, Refused, NoMemory}
+use Rattle.glpsol_cli.specs.declared.answer.Answer.TheVariants.{Optimal, Infeasible, Unbounded, Translated, Accepted, Usage, Missing, OpenFault, ReadFault, WriteFault, TooLong, BadText, FaultBehindSolve, BadCertificate, Overflow, Undecided, Refused, NoMemory}
 use Rattle.glpsol_cli.specs.declared.answer.Limit.{Limit}
 use Rattle.glpsol_cli.specs.declared.answer.Limit.TheVariants.{Pivots, Splits}
 use Rattle.glpsol_cli.specs.declared.answer.OverflowSite.TheVariants.{AtNode, InRay, InPart}
 use Rattle.glpsol_cli.specs.declared.answer.OverflowSite.{OverflowSite}
 use Rattle.glpsol_cli.specs.declared.answer.Target.{Target}
 use Rattle.glpsol_cli.specs.declared.answer.Target.TheVariants.{Out, File}
+use Rattle.glpsol_cli.proofs.Verdicts.{AreRight}
 
 -- ---- told files
 
@@ -96,6 +100,9 @@ module _ (words : List (List ℕ)) (told : ToldNames) (settings : Settings) (tex
       apart : (p : Problem) (fault : TextFault) → Some (Declared p) ≡ Some (Faulty fault) → ⊥
       apart p fault e = cc
 
+pub declared_same : (p q : Problem) → Some (Declared p) ≡ Some (Declared q) → p ≡ q
+declared_same p q e = cc
+
 -- ---- tasks
 
 solve_translates : (task : Task) → IsSolve task → task ≡ Translate → ⊥
@@ -113,7 +120,7 @@ check_translates name e = cc
 
 -- ---- words that ask for a solution
 
-module _ (words : List (List ℕ)) (told : ToldNames) (files_rose out_rose : Type 0) (k : IsComplete words told files_rose out_rose) where
+module _ (words : List (List ℕ)) (told : ToldNames) (files_rose out_rose : Type 0) (right : AreRight) (k : IsComplete words told files_rose out_rose) where
   said : (P : Settings → List (List ℕ) → Type 0) → OfTexts words told P → P k.settings k.texts
   said P of = holds_of words told k.settings k.texts k.asks k.has P of
 
@@ -123,6 +130,14 @@ module _ (words : List (List ℕ)) (told : ToldNames) (files_rose out_rose : Typ
   not_risen : (target : Target) → RoseAt target files_rose out_rose → ⊥
   not_risen Out h = k.out_held h
   not_risen (File name) h = k.files_held h
+
+  -- at a best point no statement behind `solve` has a fault
+  no_fault_behind : (fault : ModelFault) (c : Certificate) → c.verdict ≡ kind.Optimal → EndsBehind (Some fault) c k.settings k.texts → ⊥
+  no_fault_behind fault c is h =
+      let holds : Holds h.proved.problem c kind.Optimal = subst (Holds h.proved.problem c) is (right h.proved.problem c h.proved.proves) in
+      let same : h.proved.problem ≡ k.problem = declared_same h.proved.problem k.problem (sym h.proved.asked ∙ k.asked) in
+      let point : h.point ≡ holds.0 = some_same h.point holds.0 (sym h.has_point ∙ holds.1) in
+      none_some fault (sym (k.behind h.meaning h.means h.point (subst (λ p. IsOptimal p h.point) same (subst (IsOptimal h.proved.problem) (sym point) holds.3))) ∙ h.ends)
 
   pub complete : (answer : Answer) → Cause words told files_rose out_rose answer → IsVerdictOrNoMemory answer
   complete (Optimal c) h = tt
@@ -137,6 +152,7 @@ module _ (words : List (List ℕ)) (told : ToldNames) (files_rose out_rose : Typ
   complete (WriteFault target reached) h = not_risen target h.1
   complete (TooLong name) h = not_long words told k.settings k.texts k.asks k.has name h.0 h.2
   complete (BadText fault) h = not_refused words told k.settings k.texts k.asks k.has k.problem fault k.asked (said (IsRefused fault) h)
+  complete (FaultBehindSolve fault c) h = no_fault_behind fault c h.0 (said (EndsBehind (Some fault) c) h.1)
   complete (BadCertificate fault) h = checks_none (IsNoCertificate fault) h
   complete (Overflow at e) h = k.fits at e (said (IsOverflow at e) h)
   complete (Undecided limit) h = k.ends limit (said (IsUndecided limit) h)
@@ -155,9 +171,6 @@ last_same (a ∷ xs) (b ∷ ys) x y e = last_same xs ys x y (rest a b (xs ++ x �
   where
     rest : (a b : List ℕ) (xs ys : List (List ℕ)) → a ∷ xs ≡ b ∷ ys → xs ≡ ys
     rest a b xs ys e = cc
-
-pub declared_same : (p q : Problem) → Some (Declared p) ≡ Some (Declared q) → p ≡ q
-declared_same p q e = cc
 
 ok_same : (c d : Certificate) → ◌≡◌ {A = Result Certificate CertFault} (Ok c) (Ok d) → c ≡ d
 ok_same c d e = cc
@@ -223,7 +236,7 @@ module _ (c : Certificate) (again : List (List ℕ)) (told : ToldNames) (files_r
   overflow_where (InPart part) e h = overflows part e (of_text (IsCheckOverflow part e) h)
 
   pub rechecked : (answer : Answer) → Cause again told files_rose out_rose answer → IsAcceptedOrFault answer
-  rechecked (Optimal d) h = (says (IsProved d) h.1).solves
+  rechecked (Optimal d) h = (says (EndsBehind None d) h.1).proved.solves
   rechecked (Infeasible d) h = (says (IsProved d) h.1).solves
   rechecked (Unbounded d) h = (says (IsProved d) h.1).solves
   rechecked Translated h = check_translates k.name (says IsTranslated h).translates
@@ -235,6 +248,7 @@ module _ (c : Certificate) (again : List (List ℕ)) (told : ToldNames) (files_r
   rechecked (WriteFault target reached) h = tt
   rechecked (TooLong name) h = not_long again told (record k.settings { task = CheckCertificate k.name }) (k.texts ++ certificate_text c ∷ []) k.asks k.has name h.0 h.2
   rechecked (BadText fault) h = not_refused again told (record k.settings { task = CheckCertificate k.name }) (k.texts ++ certificate_text c ∷ []) k.asks k.has k.found.problem fault asked (says (IsRefused fault) h)
+  rechecked (FaultBehindSolve fault d) h = (says (EndsBehind (Some fault) d) h.1).proved.solves
   rechecked (BadCertificate fault) h = bad_text fault (of_text (IsNoCertificate fault) (says (OfCertificate (IsNoCertificate fault)) h))
   rechecked (Overflow at e) h = overflow_where at e (says (IsOverflow at e) h)
   rechecked (Undecided limit) h = undecided_solves limit (record k.settings { task = CheckCertificate k.name }) (k.texts ++ certificate_text c ∷ []) (says (IsUndecided limit) h)

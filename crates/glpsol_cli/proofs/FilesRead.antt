@@ -8,7 +8,7 @@ use Rattle.command_line.specs.declared.settings.Settings.{Settings}
 use Rattle.glpsol_cli.specs.Asked.{ToldNames, IsTextOf, AreTexts, AreThere, names_read, names_checked}
 use Rattle.glpsol_cli.specs.Stages.{IsUnread, IsStopAt, IsStopAmong, IsStop}
 use Rattle.glpsol_cli.specs.declared.stop.Stop.{Stop}
-use Rattle.glpsol_cli.specs.declared.stop.Stop.TheVariants.{Words, File, Work, NoMemory as StopNoMemory}
+use Rattle.glpsol_cli.specs.declared.stop.Stop.TheVariants.{Words, File, NoMemory as StopNoMemory}
 
 -- ---- names and texts by their places
 
@@ -64,7 +64,6 @@ unread_within told told' rose rose' same f LoadNoMemory h = tt
 pub among : (told told' : ToldNames) (rose rose' : Type 0) (names before after : List (List ℕ)) (name : List ℕ) (stop : Stop) → ((other : List ℕ) → told' other ≡ told other) → (rose → rose')
     → names ≡ before ++ name ∷ after → AreThere told before → IsStopAt name told' rose stop → IsStopAmong names told rose' stop
 among told told' rose rose' names before after name (Words fault) same f is were h = absurd h
-among told told' rose rose' names before after name (Work unfound) same f is were h = absurd h
 among told told' rose rose' names before after name StopNoMemory same f is were h = tt
 among told told' rose rose' names before after name (File u) same f is were h = record {
   before = before;
@@ -77,6 +76,5 @@ among told told' rose rose' names before after name (File u) same f is were h = 
 -- a stop among all names that are read
 pub in_turn : (words : List (List ℕ)) (told : ToldNames) (rose : Type 0) (s : Settings) (stop : Stop) → settings_of words ≡ Some s → IsStopAmong (names_read s) told rose stop → IsStop words told rose stop
 in_turn words told rose s (Words fault) asks h = absurd h
-in_turn words told rose s (Work unfound) asks h = absurd h
 in_turn words told rose s StopNoMemory asks h = tt
 in_turn words told rose s (File u) asks h = (record { settings = s; asks = asks; before = h.before; after = h.after; is = h.is; there = h.there }, h.unread)

@@ -1,5 +1,5 @@
 -- What the checker's acceptance gives of a certificate: the parts that its report shows.
-use Rattle.std.proofs.Common.{◌≡◌, ℕ, suc, Bool, true, false, cond, not, ◌&&◌, ◌||◌, ◌==◌, List, [], ◌∷◌, length, Some, None, Option, refl, ap}
+use Rattle.std.proofs.Common.{◌≡◌, ℕ, suc, Bool, true, false, cond, not, ◌&&◌, ◌||◌, ◌==◌, List, [], ◌∷◌, length, Some, None, Option, refl, ap, subst}
 use Rattle.std.specs.Prelude.{Result, Ok, Err, IsOk, IsSome, IsSomeAnd, codes}
 use Rattle.rational.specs.Rational.{Rational, zero_ℚ, ◌*ℚ◌}
 use Rattle.milp.specs.Points.{sign_of}
@@ -13,7 +13,8 @@ use Rattle.instance.specs.Sums.{and_then, sum_answer, rows_answer}
 use Rattle.cert_check.specs.Sums.{and_also}
 use Rattle.cert_check.specs.Parts.{point_answer, value_answer, ray_rows_answer, ray_answer}
 use Rattle.cert_check.specs.Outcome.{Outcome, Acceptance, Refusal, Fault, judged, outcome, trials, verdict_trials, value_trials, ray_trials, tree_trials, form_goal}
-use Rattle.solution_writer.specs.Report.{RowsFit, IsShownPoint, HasParts, IsReportable, solved_report, verdict_report, optimal_at, unbounded_at, optimal_report, unbounded_report, translated_report, accepted_report}
+use Rattle.gmpl_generate.specs.Solved.{RowsFit}
+use Rattle.solution_writer.specs.Report.{IsShownPoint, HasParts, IsReportable, solved_report, verdict_report, optimal_at, unbounded_at, optimal_report, unbounded_report, translated_report, accepted_report}
 use Rattle.std.specs.Option.{option_map}
 use Rattle.command_line.specs.declared.settings.Settings.{Settings}
 use Rattle.command_line.specs.declared.settings.Task.{Task}
@@ -115,6 +116,10 @@ has_parts p c Unbounded h =
 
 pub reportable : (p : Problem) (c : Certificate) → outcome (trials p c) ≡ Acceptance → IsReportable p c
 reportable p c h = has_parts p c c.verdict h
+
+-- a best point is shown
+pub best_shown : (p : Problem) (c : Certificate) → c.verdict ≡ Optimal → outcome (trials p c) ≡ Acceptance → IsSomeAnd c.point (IsShownPoint p)
+best_shown p c is h = (subst (HasParts p c) is (reportable p c h)).1
 
 -- ---- there is a report
 

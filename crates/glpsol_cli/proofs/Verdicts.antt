@@ -1,14 +1,15 @@
 -- Verdicts in the user's words, from the cause of an answer.
-use Rattle.std.proofs.Common.{◌≡◌, ℕ, List, subst}
+use Rattle.std.proofs.Common.{◌≡◌, ℕ, List, Option, None, Some, subst}
+use Rattle.gmpl_generate.specs.declared.fault.ModelFault.{ModelFault}
 use Rattle.milp.specs.Problem.{Problem}
 use Rattle.verdicts.specs.Certificate.{Certificate, Verdict}
 use Rattle.verdicts.specs.Certificate as kind
 use Rattle.verdicts.specs.Proves.{Proves, Holds}
 use Rattle.command_line.specs.declared.settings.Settings.{Settings}
 use Rattle.glpsol_cli.specs.Asked.{ToldNames, OfTexts}
-use Rattle.glpsol_cli.specs.Cause.{Cause, IsReached, reached_of, IsProved, IsTrueOf, IsBest, HasNoPoint, HasRay}
+use Rattle.glpsol_cli.specs.Cause.{Cause, EndsBehind, IsReached, reached_of, IsProved, IsTrueOf, IsBest, HasNoPoint, HasRay}
 use Rattle.glpsol_cli.specs.declared.answer.Answer.{Answer}
-use Rattle.glpsol_cli.specs.declared.answer.Answer.TheVariants.{Optimal, Infeasible, Unbounded, Translated, Accepted, Usage, Missing, OpenFault, ReadFault, WriteFault, TooLong, BadText, BadCertificate, Overflow, Undecided, Refused, NoMemory}
+use Rattle.glpsol_cli.specs.declared.answer.Answer.TheVariants.{Optimal, Infeasible, Unbounded, Translated, Accepted, Usage, Missing, OpenFault, ReadFault, WriteFault, TooLong, BadText, FaultBehindSolve, BadCertificate, Overflow, Undecided, Refused, NoMemory}
 use Rattle.glpsol_cli.specs.declared.answer.Reached.{Reached}
 use Rattle.glpsol_cli.specs.declared.answer.Reached.TheVariants.{Nothing, Executed, Size, Acceptance, Verdict as VerdictReached}
 use Rattle.glpsol_cli.proofs.Answers.{of_texts}
@@ -38,8 +39,11 @@ module _ (words : List (List ℕ)) (told : ToldNames) (c : Certificate) (right :
   of_reached : (r : Reached) → r ≡ VerdictReached c → IsReached words told r → OfTexts words told (IsTrueOf c)
   of_reached r e h = of_texts words told (IsProved c) (IsTrueOf c) true_of (subst (IsReached words told) e h)
 
+  of_ended : (fault : Option ModelFault) (d : Certificate) → VerdictReached d ≡ VerdictReached c → OfTexts words told (EndsBehind fault d) → OfTexts words told (IsTrueOf c)
+  of_ended fault d e h = of_reached (VerdictReached d) e (of_texts words told (EndsBehind fault d) (IsProved d) (λ s texts ended. ended.proved) h)
+
   pub carried : (files_rose out_rose : Type 0) (answer : Answer) → reached_of answer ≡ VerdictReached c → Cause words told files_rose out_rose answer → OfTexts words told (IsTrueOf c)
-  carried files_rose out_rose (Optimal d) e h = of_reached (VerdictReached d) e h.1
+  carried files_rose out_rose (Optimal d) e h = of_ended None d e h.1
   carried files_rose out_rose (Infeasible d) e h = of_reached (VerdictReached d) e h.1
   carried files_rose out_rose (Unbounded d) e h = of_reached (VerdictReached d) e h.1
   carried files_rose out_rose Translated e h = absurd (size_carried e)
@@ -51,6 +55,7 @@ module _ (words : List (List ℕ)) (told : ToldNames) (c : Certificate) (right :
   carried files_rose out_rose (WriteFault target r) e h = of_reached r e h.0
   carried files_rose out_rose (TooLong name) e h = absurd (nothing_carried e)
   carried files_rose out_rose (BadText fault) e h = absurd (executed_carried e)
+  carried files_rose out_rose (FaultBehindSolve fault d) e h = of_ended (Some fault) d e h.1
   carried files_rose out_rose (BadCertificate fault) e h = absurd (executed_carried e)
   carried files_rose out_rose (Overflow at fault) e h = absurd (executed_carried e)
   carried files_rose out_rose (Undecided limit) e h = absurd (executed_carried e)
@@ -73,7 +78,7 @@ module _ (words : List (List ℕ)) (told : ToldNames) (c : Certificate) (right :
       record { problem = h.problem; asked = h.asked; point = holds.0; ray = holds.1; has_point = holds.2; has_ray = holds.3; unbounded = holds.4 }
 
   pub is_best : (files_rose out_rose : Type 0) → Cause words told files_rose out_rose (Optimal c) → OfTexts words told (IsBest c)
-  is_best files_rose out_rose h = of_texts words told (IsProved c) (IsBest c) (λ s texts proved. best s texts h.0 proved) h.1
+  is_best files_rose out_rose h = of_texts words told (EndsBehind None c) (IsBest c) (λ s texts ended. best s texts h.0 ended.proved) h.1
 
   pub has_no_point : (files_rose out_rose : Type 0) → Cause words told files_rose out_rose (Infeasible c) → OfTexts words told HasNoPoint
   has_no_point files_rose out_rose h = of_texts words told (IsProved c) HasNoPoint (λ s texts proved. no_point s texts h.0 proved) h.1

@@ -1,11 +1,12 @@
 -- The worked example: what its words and its text stand for, and that nothing stands in the way of its verdict.
-use Rattle.std.proofs.Common.{◌≡◌, ◌∙◌, ℕ, List, [], ◌∷◌, Some, Ok, refl, sym, ap, subst, arith}
+use Rattle.std.proofs.Common.{◌≡◌, ◌∙◌, ℕ, List, [], ◌∷◌, Some, None, Ok, refl, sym, ap, subst, arith}
 use Rattle.std.specs.Prelude.{codes}
 use Rattle.std.specs.Str.{is_utf8, chars}
 use Rattle.std.specs.Char.{encode_utf8}
 use Rattle.milp.specs.Problem.{Problem}
 use Rattle.fraction.specs.declared.frac.NoFit.{NoFit}
-use Rattle.milp.specs.Points.{IsImprovingRay}
+use Rattle.rational.specs.Rational.{Rational}
+use Rattle.milp.specs.Points.{IsImprovingRay, IsOptimal}
 use Rattle.branch_search.specs.Faults.{IsStuckAt, IsRunTooLong, IsOutOfSplits}
 use Rattle.mixed_solve.specs.declared.fault.Wanted.{Wanted}
 use Rattle.mixed_solve.specs.declared.fault.Wanted.TheVariants.{Best, Any}
@@ -15,7 +16,7 @@ use Rattle.command_line.proofs.Laws.{plain_settings, plain_words}
 use Rattle.command_line.specs.declared.settings.Settings.{Settings}
 use Rattle.command_line.specs.declared.settings.Task.TheVariants.{CheckCertificate}
 use Rattle.glpsol_cli.specs.Asked.{ToldNames}
-use Rattle.glpsol_cli.specs.Meaning.{end_of, told_as, IsAsked}
+use Rattle.glpsol_cli.specs.Meaning.{Meaning, end_of, told_as, IsAsked, meaning_of}
 use Rattle.glpsol_cli.specs.declared.answer.TextFault.TheVariants.{File}
 use Rattle.glpsol_cli.specs.Cause.{OfSearch, IsOverflow, IsUndecided}
 use Rattle.glpsol_cli.specs.Complete.{IsComplete}
@@ -56,6 +57,13 @@ ends : (limit : Limit) → ¬ (IsUndecided limit plain_settings (example_text �
 ends (Pivots wanted bases) h = never_searched wanted (λ p settings. IsRunTooLong p [] settings.split_limit settings.pivot_limit bases) (never_too_long 10000 100000 bases) h
 ends (Splits wanted) h = never_searched wanted (λ p settings. IsOutOfSplits p [] settings.split_limit) (never_out_of_splits 10000 (omega arith)) h
 
+-- nothing stands behind `solve`
+behind : (meaning : Meaning) → meaning_of plain_settings (example_text ∷ []) ≡ Some meaning → (x : List Rational) → IsOptimal problem x → (meaning.behind x).fault ≡ None
+behind meaning means x optimal = subst (λ (m : Meaning). (m.behind x).fault ≡ None) (some_same means) refl
+  where
+    some_same : {a b : Meaning} → Some a ≡ Some b → a ≡ b
+    some_same e = cc
+
 pub is_complete : (told : ToldNames) (files_rose out_rose : Type 0) → Has (told (codes "model")) example_text → (files_rose → ⊥) → (out_rose → ⊥) → IsComplete example_words told files_rose out_rose
 is_complete told files_rose out_rose has files_held out_held = record {
   settings = plain_settings;
@@ -67,6 +75,7 @@ is_complete told files_rose out_rose has files_held out_held = record {
   asked = asked;
   fits = fits;
   ends = ends;
+  behind = behind;
   files_held = files_held;
   out_held = out_held;
 }

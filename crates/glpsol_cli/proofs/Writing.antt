@@ -1,11 +1,12 @@
 -- How the writing of pieces goes on, one after the other.
-use Rattle.std.proofs.Common.{◌∙◌, ◌≤◌, ℕ, List, [], ◌∷◌, Option, refl, inl, inr}
-use Rattle.std.specs.Prelude.{Result, Ok, Err}
-use Rattle.std.proofs.KnownBytes.{Appends-nil}
+use Rattle.std.proofs.Common.{◌∙◌, ◌≤◌, ℕ, List, [], ◌∷◌, ◌++◌, Option, take, refl, inl, inr}
+use Rattle.std.proofs.KnownBytes.{Appends-nil, Appends-trans}
+use Rattle.outside.specs.Told.{AppendsPrefix}
 use Rattle.glpsol_cli.specs.Asked.{ToldNames}
-use Rattle.glpsol_cli.specs.Pieces.{Piece, Outside, SameNames, IsSame, IsWritten, IsWrittenInPart, AllWritten, WrittenUpTo, SomeWritten}
+use Rattle.glpsol_cli.specs.Pieces.{Piece, Outside, IsSame, IsWritten, IsWrittenInPart, AllWritten, WrittenUpTo, SomeWritten, Extent, Whole, UpTo, Part, WrittenTo}
+use Rattle.glpsol_cli.specs.Written.{ThenLine}
 use Rattle.outside.specs.Causes.{Rose}
-use Rattle.glpsol_cli.specs.Stages.{EndsWriting, HasFailed}
+use Rattle.glpsol_cli.specs.Stages.{HasFailed}
 use Rattle.glpsol_cli.specs.declared.answer.Target.{Target}
 use Rattle.glpsol_cli.specs.declared.answer.Target.TheVariants.{Out, File}
 use Rattle.glpsol_cli.specs.declared.publish.PublishFault.{PublishFault}
@@ -17,47 +18,86 @@ use Rattle.glpsol_cli.proofs.Follow.{rose_within}
 pub nothing : (o : Outside) → IsSame o o
 nothing o = (Appends-nil o.taken, λ name. refl)
 
-pub no_part : (target : Target) (text : List ℕ) (o : Outside) → IsWrittenInPart target text o o
-no_part Out text o = ((0, Appends-nil o.taken), λ name. refl)
-no_part (File name) text o = (Appends-nil o.taken, λ before had. inl had, λ other not. refl)
+pub no_part : (target : Target) (text : List ℕ) (old new : Outside) → IsSame old new → IsWrittenInPart target text old new
+no_part Out text old new same = ((0, same.0), same.1)
+no_part (File name) text old new same = (same.0, λ before had. inl (same.1 name ∙ had), λ other not. same.1 other)
+
+none_of : (ps : List Piece) (old new : Outside) → IsSame old new → SomeWritten ps old new
+none_of [] old new same = same
+none_of (p ∷ ps) old new same = inl (no_part p.target p.text old new same)
 
 pub none_written : (ps : List Piece) (o : Outside) → SomeWritten ps o o
-none_written [] o = nothing o
-none_written (p ∷ ps) o = inl (no_part p.target p.text o)
+none_written ps o = none_of ps o o (nothing o)
 
--- ---- from names that are told the same
+-- ---- from an outside to which nothing was written
 
-module _ (taken : Option (List ℕ)) (told told' : ToldNames) (same : SameNames told told') where
-  written_from : (target : Target) (text : List ℕ) (new : Outside) → IsWritten target text (record { taken = taken; told = told' }) new → IsWritten target text (record { taken = taken; told = told }) new
-  written_from Out text new h = (h.0, λ name. h.1 name ∙ same name)
-  written_from (File name) text new h = (h.0, λ had_before had. h.1 had_before (same name ∙ had), λ other not. h.2 other not ∙ same other)
+module _ (old middle : Outside) (same : IsSame old middle) where
+  written_from : (target : Target) (text : List ℕ) (new : Outside) → IsWritten target text middle new → IsWritten target text old new
+  written_from Out text new h = (Appends-trans old.taken middle.taken new.taken [] text same.0 h.0, λ name. h.1 name ∙ same.1 name)
+  written_from (File name) text new h =
+      (Appends-trans old.taken middle.taken new.taken [] [] same.0 h.0, λ had_before had. h.1 had_before (same.1 name ∙ had), λ other not. h.2 other not ∙ same.1 other)
 
-  part_from : (target : Target) (text : List ℕ) (new : Outside) → IsWrittenInPart target text (record { taken = taken; told = told' }) new → IsWrittenInPart target text (record { taken = taken; told = told }) new
-  part_from Out text new h = (h.0, λ name. h.1 name ∙ same name)
-  part_from (File name) text new h = (h.0, λ had_before had. h.1 had_before (same name ∙ had), λ other not. h.2 other not ∙ same other)
+  part_from : (target : Target) (text : List ℕ) (new : Outside) → IsWrittenInPart target text middle new → IsWrittenInPart target text old new
+  part_from Out text new h = ((h.0.0, Appends-trans old.taken middle.taken new.taken [] (take h.0.0 text) same.0 h.0.1), λ name. h.1 name ∙ same.1 name)
+  part_from (File name) text new h =
+      (Appends-trans old.taken middle.taken new.taken [] [] same.0 h.0, λ had_before had. h.1 had_before (same.1 name ∙ had), λ other not. h.2 other not ∙ same.1 other)
 
-  pub all_from : (ps : List Piece) (new : Outside) → AllWritten ps (record { taken = taken; told = told' }) new → AllWritten ps (record { taken = taken; told = told }) new
-  all_from [] new h = (h.0, λ name. h.1 name ∙ same name)
-  all_from (p ∷ ps) new h = (h.0, written_from p.target p.text h.0 h.1, h.2)
+  none_from : (new : Outside) → IsSame middle new → IsSame old new
+  none_from new h = (Appends-trans old.taken middle.taken new.taken [] [] same.0 h.0, λ name. h.1 name ∙ same.1 name)
 
-  pub up_to_from : (target : Target) (ps : List Piece) (new : Outside) → WrittenUpTo target ps (record { taken = taken; told = told' }) new → WrittenUpTo target ps (record { taken = taken; told = told }) new
-  up_to_from target [] new h = absurd h
-  up_to_from target (p ∷ ps) new h = elim h [
+  pub written_to_from : (extent : Extent) (ps : List Piece) (new : Outside) → WrittenTo extent ps middle new → WrittenTo extent ps old new
+  written_to_from Whole [] new h = none_from new h
+  written_to_from Whole (p ∷ ps) new h = (h.0, written_from p.target p.text h.0 h.1, h.2)
+  written_to_from (UpTo target) [] new h = absurd h
+  written_to_from (UpTo target) (p ∷ ps) new h = elim h [
     | inl part ↦ inl (part.0, part_from p.target p.text new part.1)
     | inr more ↦ inr (more.0, written_from p.target p.text more.0 more.1, more.2)
   ]
-
-  pub some_from : (ps : List Piece) (new : Outside) → SomeWritten ps (record { taken = taken; told = told' }) new → SomeWritten ps (record { taken = taken; told = told }) new
-  some_from [] new h = (h.0, λ name. h.1 name ∙ same name)
-  some_from (p ∷ ps) new h = elim h [
+  written_to_from Part [] new h = none_from new h
+  written_to_from Part (p ∷ ps) new h = elim h [
     | inl part ↦ inl (part_from p.target p.text new part)
     | inr more ↦ inr (more.0, written_from p.target p.text more.0 more.1, more.2)
   ]
 
-  pub ends_from : {T : Type 0} (ps : List Piece) (new : Outside) (r : Result T PublishFault) → EndsWriting {T = T} ps (record { taken = taken; told = told' }) new r → EndsWriting {T = T} ps (record { taken = taken; told = told }) new r
-  ends_from ps new (Ok t) h = all_from ps new h
-  ends_from ps new (Err (Write target)) h = up_to_from target ps new h
-  ends_from ps new (Err NoMemory) h = some_from ps new h
+  pub line_from : (extent : Extent) (line : List ℕ) (ps : List Piece) (new : Outside) → ThenLine extent line middle new ps → ThenLine extent line old new ps
+  line_from extent line ps new h = (h.0, written_to_from extent ps h.0 h.1, h.2)
+
+-- ---- what is written in two goes
+
+written_after : (extent : Extent) (ps qs : List Piece) (old middle new : Outside) → AllWritten ps old middle → WrittenTo extent qs middle new → WrittenTo extent (ps ++ qs) old new
+written_after extent [] qs old middle new all more = written_to_from old middle all extent qs new more
+written_after Whole (p ∷ ps) qs old middle new all more = (all.0, all.1, written_after Whole ps qs all.0 middle new all.2 more)
+written_after (UpTo target) (p ∷ ps) qs old middle new all more = inr (all.0, all.1, written_after (UpTo target) ps qs all.0 middle new all.2 more)
+written_after Part (p ∷ ps) qs old middle new all more = inr (all.0, all.1, written_after Part ps qs all.0 middle new all.2 more)
+
+-- and then a line
+pub line_after : (extent : Extent) (line : List ℕ) (ps qs : List Piece) (old middle new : Outside) → AllWritten ps old middle → ThenLine extent line middle new qs → ThenLine extent line old new (ps ++ qs)
+line_after extent line ps qs old middle new all h = (h.0, written_after extent ps qs old middle h.0 all h.1, h.2)
+
+-- what is written up to a target of the first of them is so of all
+pub up_to_of_more : (target : Target) (ps qs : List Piece) (old new : Outside) → WrittenUpTo target ps old new → WrittenUpTo target (ps ++ qs) old new
+up_to_of_more target [] qs old new h = absurd h
+up_to_of_more target (p ∷ ps) qs old new h = elim h [
+  | inl part ↦ inl part
+  | inr more ↦ inr (more.0, more.1, up_to_of_more target ps qs more.0 new more.2)
+]
+
+pub some_of_more : (ps qs : List Piece) (old new : Outside) → SomeWritten ps old new → SomeWritten (ps ++ qs) old new
+some_of_more [] qs old new h = none_of qs old new h
+some_of_more (p ∷ ps) qs old new h = elim h [
+  | inl part ↦ inl part
+  | inr more ↦ inr (more.0, more.1, some_of_more ps qs more.0 new more.2)
+]
+
+-- ---- a line alone
+
+-- a line that is told, where nothing else is written
+pub line_alone : (line : List ℕ) (taken taken' : Option (List ℕ)) (told : ToldNames) → AppendsPrefix taken taken' line → ThenLine Whole line (record { taken = taken; told = told }) (record { taken = taken'; told = told }) []
+line_alone line taken taken' told prefix = let old : Outside = record { taken = taken; told = told } in (old, nothing old, (prefix, λ name. refl))
+
+-- no line
+pub no_line : (line : List ℕ) (ps : List Piece) (old new : Outside) → AllWritten ps old new → ThenLine Whole line old new ps
+no_line line ps old new all = (new, all, no_part Out line new new (nothing new))
 
 -- ---- what has failed within a longer time
 

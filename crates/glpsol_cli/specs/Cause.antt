@@ -10,19 +10,21 @@ use Rattle.verdicts.specs.Certificate as kind
 use Rattle.verdicts.specs.Proves.{Proves, Holds, tests, first_failing}
 use Rattle.search_node.specs.declared.node.Node.{Node}
 use Rattle.branch_search.specs.Faults.{IsStuckAt, IsRunTooLong, IsOutOfSplits}
+use Rattle.gmpl_generate.specs.declared.fault.ModelFault.{ModelFault}
 use Rattle.mixed_solve.specs.Faults.{IsWanted, IsRayFault, searched}
 use Rattle.mixed_solve.specs.declared.fault.Wanted.{Wanted}
 use Rattle.certificate_reader.specs.Reading.{read_of}
 use Rattle.certificate_lines.specs.declared.fault.CertFault.{CertFault}
 use Rattle.cert_check.specs.Outcome.{Acceptance as Accepting, Fault, outcome, trials, part_of}
 use Rattle.cert_check.specs.declared.part.Part.{Part}
+use Rattle.std.specs.declared.option.Option.{Option}
 use Rattle.outside.specs.Told.{Lacks, Has}
 use Rattle.command_line.specs.Meaning.{settings_of}
 use Rattle.command_line.specs.declared.settings.Settings.{Settings}
 use Rattle.glpsol_cli.specs.Asked.{ToldNames, OfTexts, IsInTurn, Solves, Translates, Checks}
-use Rattle.glpsol_cli.specs.Meaning.{IsAsked, IsRefused, HasDone}
+use Rattle.glpsol_cli.specs.Meaning.{Meaning, IsAsked, IsRefused, HasDone, meaning_of}
 use Rattle.glpsol_cli.specs.declared.answer.Answer.{Answer}
-use Rattle.glpsol_cli.specs.declared.answer.Answer.TheVariants.{Optimal, Infeasible, Unbounded, Translated, Accepted, Usage, Missing, OpenFault, ReadFault, WriteFault, TooLong, BadText, BadCertificate, Overflow, Undecided, Refused, NoMemory}
+use Rattle.glpsol_cli.specs.declared.answer.Answer.TheVariants.{Optimal, Infeasible, Unbounded, Translated, Accepted, Usage, Missing, OpenFault, ReadFault, WriteFault, TooLong, BadText, FaultBehindSolve, BadCertificate, Overflow, Undecided, Refused, NoMemory}
 use Rattle.glpsol_cli.specs.declared.answer.Limit.{Limit}
 use Rattle.glpsol_cli.specs.declared.answer.Limit.TheVariants.{Pivots, Splits}
 use Rattle.glpsol_cli.specs.declared.answer.OverflowSite.{OverflowSite}
@@ -72,6 +74,15 @@ pub record HasRay (c : Certificate) (s : Settings) (texts : List (List ℕ)) : T
   pub has_point : c.point ≡ Some point
   pub has_ray : c.ray ≡ Some ray
   pub unbounded : IsUnbounded problem point ray
+
+-- c proves its verdict, and at its point the statements behind `solve` have this fault, or none
+pub record EndsBehind (fault : Option ModelFault) (c : Certificate) (s : Settings) (texts : List (List ℕ)) : Type 0 where
+  pub proved : IsProved c s texts
+  pub meaning : Meaning
+  pub means : meaning_of s texts ≡ Some meaning
+  pub point : List Rational
+  pub has_point : c.point ≡ Some point
+  pub ends : (meaning.behind point).fault ≡ fault
 
 -- ---- sizes
 
@@ -174,6 +185,7 @@ reached_of (ReadFault name) = Nothing
 reached_of (WriteFault target reached) = reached
 reached_of (TooLong name) = Nothing
 reached_of (BadText fault) = Executed
+reached_of (FaultBehindSolve fault c) = Verdict c
 reached_of (BadCertificate fault) = Executed
 reached_of (Overflow at fault) = Executed
 reached_of (Undecided limit) = Executed
@@ -189,7 +201,7 @@ RoseAt (File name) files_rose out_rose = files_rose
 
 -- the cause of each answer
 abbrev pub Cause : List (List ℕ) → ToldNames → Type 0 → Type 0 → Answer → Type 0
-Cause words told files_rose out_rose (Optimal c) = (c.verdict ≡ kind.Optimal) × IsReached words told (Verdict c)
+Cause words told files_rose out_rose (Optimal c) = (c.verdict ≡ kind.Optimal) × OfTexts words told (EndsBehind None c)
 Cause words told files_rose out_rose (Infeasible c) = (c.verdict ≡ kind.Infeasible) × IsReached words told (Verdict c)
 Cause words told files_rose out_rose (Unbounded c) = (c.verdict ≡ kind.Unbounded) × IsReached words told (Verdict c)
 Cause words told files_rose out_rose Translated = IsReached words told Size
@@ -201,6 +213,7 @@ Cause words told files_rose out_rose (ReadFault name) = IsInTurn words told name
 Cause words told files_rose out_rose (WriteFault target reached) = IsReached words told reached × RoseAt target files_rose out_rose
 Cause words told files_rose out_rose (TooLong name) = IsInTurn words told name × (Lacks (told name) → ⊥) × ((text : List ℕ) → Has (told name) text → 16777216 < length text)
 Cause words told files_rose out_rose (BadText fault) = OfTexts words told (IsRefused fault)
+Cause words told files_rose out_rose (FaultBehindSolve fault c) = (c.verdict ≡ kind.Optimal) × OfTexts words told (EndsBehind (Some fault) c)
 Cause words told files_rose out_rose (BadCertificate fault) = OfTexts words told (OfCertificate (IsNoCertificate fault))
 Cause words told files_rose out_rose (Overflow at e) = OfTexts words told (IsOverflow at e)
 Cause words told files_rose out_rose (Undecided limit) = OfTexts words told (IsUndecided limit)

@@ -1,6 +1,8 @@
 -- When a run gives a verdict, and when a certificate that it wrote is accepted: where no cause of another answer is there.
-use Rattle.std.specs.Prelude.{◌≡◌, ◌≤◌, ℕ, List, [], ◌∷◌, ◌++◌, length, Some}
+use Rattle.std.specs.Prelude.{◌≡◌, ◌≤◌, ℕ, List, [], ◌∷◌, ◌++◌, length, Some, None}
+use Rattle.rational.specs.Rational.{Rational}
 use Rattle.milp.specs.Problem.{Problem}
+use Rattle.milp.specs.Points.{IsOptimal}
 use Rattle.fraction.specs.declared.frac.NoFit.{NoFit}
 use Rattle.verdicts.specs.Certificate.{Certificate}
 use Rattle.certificate.specs.Text.{certificate_text}
@@ -9,7 +11,7 @@ use Rattle.command_line.specs.Meaning.{settings_of}
 use Rattle.command_line.specs.declared.settings.Settings.{Settings}
 use Rattle.command_line.specs.declared.settings.Task.TheVariants.{CheckCertificate}
 use Rattle.glpsol_cli.specs.Asked.{ToldNames, Solves, names_read}
-use Rattle.glpsol_cli.specs.Meaning.{IsAsked}
+use Rattle.glpsol_cli.specs.Meaning.{Meaning, IsAsked, meaning_of}
 use Rattle.glpsol_cli.specs.Cause.{IsOverflow, IsUndecided, IsProved}
 use Rattle.glpsol_cli.specs.declared.answer.Answer.{Answer}
 use Rattle.glpsol_cli.specs.declared.answer.Answer.TheVariants.{Optimal, Infeasible, Unbounded, Accepted, OpenFault, ReadFault, WriteFault, NoMemory}
@@ -32,8 +34,8 @@ IsVerdictOrNoMemory (NoMemory reached) = Unit {0}
 IsVerdictOrNoMemory answer = ⊥
 
 -- Words that ask for a solution, told files, texts that declare a problem, no operation that doesn't fit, no run that is
--- too long, no search that needs more splits than are allowed, and counts that didn't rise: then nothing but a verdict or
--- want of memory is answered.
+-- too long, no search that needs more splits than are allowed, no best point at which a statement behind `solve` has a fault,
+-- and counts that didn't rise: then nothing but a verdict or want of memory is answered.
 pub record IsComplete (words : List (List ℕ)) (told : ToldNames) (files_rose out_rose : Type 0) : Type 0 where
   pub settings : Settings
   pub texts : List (List ℕ)
@@ -44,6 +46,7 @@ pub record IsComplete (words : List (List ℕ)) (told : ToldNames) (files_rose o
   pub asked : IsAsked settings texts problem
   pub fits : (at : OverflowSite) (e : NoFit) → ¬ (IsOverflow at e settings texts)
   pub ends : (limit : Limit) → ¬ (IsUndecided limit settings texts)
+  pub behind : (meaning : Meaning) → meaning_of settings texts ≡ Some meaning → (x : List Rational) → IsOptimal problem x → (meaning.behind x).fault ≡ None
   pub files_held : files_rose → ⊥
   pub out_held : out_rose → ⊥
 

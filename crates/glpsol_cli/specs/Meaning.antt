@@ -1,13 +1,16 @@
 -- What the texts of a command's files mean, and what is written of it.
-use Rattle.std.specs.Prelude.{◌≡◌, ℕ, Bool, true, false, List, [], ◌∷◌, ◌++◌, length, take, Result, Some, None, Ok, Err}
+use Rattle.std.specs.Prelude.{◌≡◌, ℕ, Bool, true, false, List, [], ◌∷◌, ◌++◌, length, take, unwrap_or, Result, Some, None, Ok, Err}
 use Rattle.std.specs.declared.option.Option.{Option}
 use Rattle.std.specs.Option.{option_map}
+use Rattle.rational.specs.Rational.{Rational}
 use Rattle.milp.specs.Problem.{Problem}
 use Rattle.milp.specs.declared.Direction.{Direction}
 use Rattle.instance.specs.Continuous.{without_integrality}
-use Rattle.verdicts.specs.Certificate.{Certificate}
+use Rattle.verdicts.specs.Certificate.{Certificate, Verdict}
+use Rattle.verdicts.specs.Certificate as kind
 use Rattle.certificate.specs.Text.{certificate_text}
-use Rattle.gmpl_reader.specs.MathProg.{declared as declared_by_math_prog}
+use Rattle.gmpl_generate.specs.declared.fault.ModelFault.{ModelFault}
+use Rattle.gmpl_reader.specs.MathProg.{declared as declared_by_math_prog, printed as printed_by_math_prog, afterwards as afterwards_by_math_prog}
 use Rattle.gmpl_reader.specs.declared.fault.MathProgFault.{MathProgFault}
 use Rattle.gmpl_reader.specs.declared.fault.MathProgFault.TheVariants as math_prog
 use Rattle.mps_reader.specs.FreeMps.{declared as declared_by_free_mps}
@@ -21,7 +24,8 @@ use Rattle.solution_writer.specs.Report.{solved_report, translated_report, accep
 use Rattle.glpsol_cli.specs.Asked.{ToldNames, OfTexts, outputs_of}
 use Rattle.glpsol_cli.specs.Pieces.{Piece}
 use Rattle.glpsol_cli.specs.declared.answer.Reached.{Reached}
-use Rattle.glpsol_cli.specs.declared.answer.Reached.TheVariants.{Nothing, Executed, Size, Acceptance, Verdict}
+use Rattle.glpsol_cli.specs.declared.answer.Reached.TheVariants.{Nothing, Executed, Size, Acceptance, Verdict as VerdictReached}
+use Rattle.glpsol_cli.specs.declared.answer.Target.{Target}
 use Rattle.glpsol_cli.specs.declared.answer.Target.TheVariants.{Out, File}
 use Rattle.glpsol_cli.specs.declared.answer.TextFault.{TextFault}
 use Rattle.glpsol_cli.specs.declared.answer.TextFault.TheVariants as text_fault
@@ -33,10 +37,17 @@ pub data End : Type 0 where
   Declared : Problem → End
   Faulty : TextFault → End
 
--- what is written while the texts are executed, in order, and how that ends
+-- what the statements behind `solve` come to: what they write, in order, and their first fault
+pub record Behind : Type 0 where
+  pub pieces : List Piece
+  pub fault : Option ModelFault
+
+-- what is written while the texts are executed, in order, and how that ends; and what the statements behind `solve` come to
+-- at a point of the problem
 pub record Meaning : Type 0 where
   pub done : List Piece
   pub end : End
+  pub behind : List Rational → Behind
 
 abbrev pub text_fault_of : MathProgFault → TextFault
 text_fault_of (math_prog.Syntax fault) = text_fault.Syntax fault
@@ -72,10 +83,56 @@ abbrev pub end_of : Settings → Result Problem TextFault → End
 end_of s (Ok p) = Declared (asked_of s p)
 end_of s (Err fault) = Faulty fault
 
--- the model's text stands first, and then those of the data files; none of the languages writes anything so far
+-- what a text prints while it is executed; the texts of MathProg alone print, where the text and its data are good
+abbrev pub printed_in : Language → List ℕ → List (List ℕ) → Option (List ℕ)
+printed_in MathProg text data_texts = printed_by_math_prog text data_texts
+printed_in FreeMps text data_texts = None
+printed_in CplexLp text data_texts = None
+
+-- what the statements behind `solve` print at a point, and their first fault, where there are any
+abbrev pub afterwards_in : Language → List ℕ → List (List ℕ) → List Rational → Option (List ℕ × Option ModelFault)
+afterwards_in MathProg text data_texts x = afterwards_by_math_prog text data_texts x
+afterwards_in FreeMps text data_texts x = None
+afterwards_in CplexLp text data_texts x = None
+
+-- where printed texts go: the file that `--display` names, or the output
+abbrev pub display_target : Option (List ℕ) → Target
+display_target None = Out
+display_target (Some name) = File name
+
+abbrev pub displayed : Option (List ℕ) → List ℕ → List Piece
+displayed file text = record { target = display_target file; text = text } ∷ []
+
+-- what a text prints goes there at once
+abbrev pub done_by : Option (List ℕ) → Option (List ℕ) → List Piece
+done_by file None = []
+done_by file (Some text) = displayed file text
+
+-- the file is made anew with the whole text, of which this was printed before
+abbrev pub with_earlier : Option (List ℕ) → Option (List ℕ) → List ℕ → List ℕ
+with_earlier None earlier text = text
+with_earlier (Some name) earlier text = unwrap_or earlier [] ++ text
+
+-- no statement stands behind `solve`
+abbrev pub nothing_behind : Behind
+nothing_behind = record { pieces = []; fault = None }
+
+abbrev pub behind_by : Option (List ℕ) → Option (List ℕ) → Option (List ℕ × Option ModelFault) → Behind
+behind_by file earlier None = nothing_behind
+behind_by file earlier (Some after) = record { pieces = displayed file (with_earlier file earlier after.0); fault = after.1 }
+
+-- the meaning of a model's text, with those of the data files
+abbrev pub meaning_in : Settings → List ℕ → List (List ℕ) → Meaning
+meaning_in s text data_texts = record {
+  done = done_by s.display (printed_in s.language text data_texts);
+  end = end_of s (declared_in s.language text data_texts);
+  behind = λ x. behind_by s.display (printed_in s.language text data_texts) (afterwards_in s.language text data_texts x);
+}
+
+-- the model's text stands first, and then those of the data files
 abbrev pub meaning_of : Settings → List (List ℕ) → Option Meaning
 meaning_of s [] = None
-meaning_of s (text ∷ others) = Some (record { done = []; end = end_of s (declared_in s.language text (take (length s.data_files) others)) })
+meaning_of s (text ∷ others) = Some (meaning_in s text (take (length s.data_files) others))
 
 abbrev pub end_in : Settings → List (List ℕ) → Option End
 end_in s texts = option_map (λ (m : Meaning). m.end) (meaning_of s texts)
@@ -113,7 +170,22 @@ found_pieces task p Nothing = Some []
 found_pieces task p Executed = Some []
 found_pieces task p Size = Some (printed (translated_report p))
 found_pieces task p Acceptance = Some (printed accepted_report)
-found_pieces task p (Verdict c) = option_map (solved_pieces task c) (solved_report p c)
+found_pieces task p (VerdictReached c) = option_map (solved_pieces task c) (solved_report p c)
+
+-- the statements behind `solve` are executed at a best point alone
+abbrev pub behind_at : (List Rational → Behind) → Verdict → Option (List Rational) → Behind
+behind_at behind kind.Optimal (Some x) = behind x
+behind_at behind kind.Optimal None = nothing_behind
+behind_at behind kind.Infeasible point = nothing_behind
+behind_at behind kind.Unbounded point = nothing_behind
+
+-- what they come to once this was reached
+abbrev pub behind_of : (List Rational → Behind) → Reached → Behind
+behind_of behind Nothing = nothing_behind
+behind_of behind Executed = nothing_behind
+behind_of behind Size = nothing_behind
+behind_of behind Acceptance = nothing_behind
+behind_of behind (VerdictReached c) = behind_at behind c.verdict c.point
 
 -- P holds of what is written while the texts are executed
 pub record HasDone (P : List Piece → Type 0) (s : Settings) (texts : List (List ℕ)) : Type 0 where
@@ -121,7 +193,7 @@ pub record HasDone (P : List Piece → Type 0) (s : Settings) (texts : List (Lis
   pub means : meaning_of s texts ≡ Some meaning
   pub has : P meaning.done
 
--- P holds of that, with what is written of the problem once this was reached
+-- P holds of that, with what is written of the problem once this was reached, and then behind `solve`
 pub record HasFound (reached : Reached) (P : List Piece → Type 0) (s : Settings) (texts : List (List ℕ)) : Type 0 where
   pub meaning : Meaning
   pub means : meaning_of s texts ≡ Some meaning
@@ -129,7 +201,7 @@ pub record HasFound (reached : Reached) (P : List Piece → Type 0) (s : Setting
   pub end : meaning.end ≡ Declared problem
   pub found : List Piece
   pub are : found_pieces s.task problem reached ≡ Some found
-  pub has : P (meaning.done ++ found)
+  pub has : P (meaning.done ++ (found ++ (behind_of meaning.behind reached).pieces))
 
 -- P holds of all that is to be written once this was reached
 abbrev pub OfPieces : List (List ℕ) → ToldNames → Reached → (List Piece → Type 0) → Type 0
@@ -137,4 +209,4 @@ OfPieces words told Nothing P = P []
 OfPieces words told Executed P = OfTexts words told (HasDone P)
 OfPieces words told Size P = OfTexts words told (HasFound Size P)
 OfPieces words told Acceptance P = OfTexts words told (HasFound Acceptance P)
-OfPieces words told (Verdict c) P = OfTexts words told (HasFound (Verdict c) P)
+OfPieces words told (VerdictReached c) P = OfTexts words told (HasFound (VerdictReached c) P)

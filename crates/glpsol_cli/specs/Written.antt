@@ -5,7 +5,7 @@ use Rattle.glpsol_cli.specs.Pieces.{Piece, Outside, IsWrittenInPart, Extent, Who
 use Rattle.glpsol_cli.specs.Meaning.{OfPieces}
 use Rattle.glpsol_cli.specs.Cause.{reached_of}
 use Rattle.glpsol_cli.specs.declared.answer.Answer.{Answer}
-use Rattle.glpsol_cli.specs.declared.answer.Answer.TheVariants.{Optimal, Infeasible, Unbounded, Translated, Accepted, Usage, Missing, OpenFault, ReadFault, WriteFault, TooLong, BadText, BadCertificate, Overflow, Undecided, Refused, NoMemory}
+use Rattle.glpsol_cli.specs.declared.answer.Answer.TheVariants.{Optimal, Infeasible, Unbounded, Translated, Accepted, Usage, Missing, OpenFault, ReadFault, WriteFault, TooLong, BadText, FaultBehindSolve, BadCertificate, Overflow, Undecided, Refused, NoMemory}
 use Rattle.glpsol_cli.specs.declared.answer.Limit.{Limit}
 use Rattle.glpsol_cli.specs.declared.answer.Limit.TheVariants.{Pivots, Splits}
 use Rattle.glpsol_cli.specs.declared.answer.Target.{Target}
@@ -42,6 +42,7 @@ line_of (ReadFault name) = named_line (codes "read fault") name
 line_of (WriteFault target reached) = target_line_of target
 line_of (TooLong name) = named_line (codes "too long") name
 line_of (BadText fault) = text_line fault
+line_of (FaultBehindSolve fault c) = model_line fault
 line_of (BadCertificate fault) = certificate_line fault
 line_of (Overflow at fault) = overflow_line fault
 line_of (Undecided limit) = undecided_line limit
@@ -62,6 +63,7 @@ extent_of (ReadFault name) = Whole
 extent_of (WriteFault target reached) = UpTo target
 extent_of (TooLong name) = Whole
 extent_of (BadText fault) = Whole
+extent_of (FaultBehindSolve fault c) = Whole
 extent_of (BadCertificate fault) = Whole
 extent_of (Overflow at fault) = Whole
 extent_of (Undecided limit) = Whole

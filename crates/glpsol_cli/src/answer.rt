@@ -73,7 +73,7 @@ pub enum Reached {
 /// What a run comes to, with the values that show it.
 #[derive(Drop)]
 pub enum Answer {
-    /// The certificate's point is best, and all was written.
+    /// The certificate's point is best, no statement behind `solve` has a fault there, and all was written.
     Optimal(Certificate),
     /// No point is feasible, as the certificate shows, and all was written.
     Infeasible(Certificate),
@@ -92,21 +92,34 @@ pub enum Answer {
     /// The file of this name can't be read.
     ReadFault(Name),
     /// The target can't be written, after this was reached.
-    WriteFault { target: Target, reached: Reached },
+    WriteFault {
+        target: Target,
+        reached: Reached,
+    },
     /// The file of this name is longer than 16,777,216 bytes.
     TooLong(Name),
     /// The model's text has this fault, and none before it.
     BadText(TextFault),
+    /// The certificate's point is best, and was reported; there a statement behind `solve` has this fault, and none before it.
+    FaultBehindSolve {
+        fault: ModelFault,
+        certificate: Certificate,
+    },
     /// The text of the certificate that was to be checked has this fault, and none before it.
     BadCertificate(CertFault),
     /// The result of this operation does not fit.
-    Overflow { at: OverflowSite, fault: NoFit },
+    Overflow {
+        at: OverflowSite,
+        fault: NoFit,
+    },
     /// The search came to this limit.
     Undecided(Limit),
     /// This part of the certificate that was to be checked is the first that does not hold.
     Refused(Part),
     /// The memory is not there, after this was reached.
-    NoMemory { reached: Reached },
+    NoMemory {
+        reached: Reached,
+    },
 }
 
 impl Answer {
@@ -127,7 +140,10 @@ impl Answer {
             | Answer::OpenFault(_)
             | Answer::ReadFault(_)
             | Answer::WriteFault { .. } => 1,
-            Answer::TooLong(_) | Answer::BadText(_) | Answer::BadCertificate(_) => 2,
+            Answer::TooLong(_)
+            | Answer::BadText(_)
+            | Answer::FaultBehindSolve { .. }
+            | Answer::BadCertificate(_) => 2,
             Answer::Overflow { .. } => 3,
             Answer::Undecided(_) => 4,
             Answer::NoMemory { .. } => 5,

@@ -1,21 +1,11 @@
 // What is found of a problem.
 ghost use Rattle.std.specs.Prelude.{◌≡◌};
-ghost use Rattle.glpsol_cli.specs.Stages.{reached_by, finding_answer, publish_answer};
+ghost use Rattle.glpsol_cli.specs.Stages.{reached_by};
 
-use crate::publish::PublishFault;
-use crate::{Answer, Reached};
-use certificate::{Certificate, Verdict};
-use command_line::Settings;
-use instance::Instance;
+use crate::Reached;
+use certificate::Certificate;
 
-// A problem, and what is found of it as the settings ask.
-#[derive(Drop)]
-pub struct Found {
-    pub settings: Settings,
-    pub problem: Instance,
-    pub finding: Finding,
-}
-
+// What is found of a problem, as the settings ask.
 #[derive(Drop)]
 pub enum Finding {
     // the problem's size
@@ -35,32 +25,6 @@ impl Finding {
             Finding::Size => Reached::Size,
             Finding::Acceptance => Reached::Acceptance,
             Finding::Verdict(certificate) => Reached::Verdict(certificate),
-        }
-    }
-
-    /// The answer where all is written.
-    pub fn answer(self) -> Answer
-        ensures { result ≡ finding_answer self }
-    {
-        match self {
-            Finding::Size => Answer::Translated,
-            Finding::Acceptance => Answer::Accepted,
-            Finding::Verdict(certificate) => match certificate.verdict() {
-                Verdict::Optimal => Answer::Optimal(certificate),
-                Verdict::Infeasible => Answer::Infeasible(certificate),
-                Verdict::Unbounded => Answer::Unbounded(certificate),
-            },
-        }
-    }
-
-    /// The answer where it is not all written.
-    pub fn unpublished(self, fault: PublishFault) -> Answer
-        ensures { result ≡ publish_answer self fault }
-    {
-        let reached = self.reached();
-        match fault {
-            PublishFault::Write(target) => Answer::WriteFault { target, reached },
-            PublishFault::NoMemory => Answer::NoMemory { reached },
         }
     }
 }

@@ -9,7 +9,7 @@ ghost use Rattle.glpsol_cli.specs.Meaning.{found_pieces, printed, saved_in, save
 ghost use Rattle.glpsol_cli.specs.Stages.{reached_by, piece_of, pieces_of, IsShown, EndsPiece, EndsWriting, HasFailed, IsPublished};
 
 use crate::Target;
-use crate::found::{Finding, Found};
+use crate::found::Finding;
 use certificate::Certificate;
 use certificate_writer::text;
 use command_line::{Outputs, Task};
@@ -25,7 +25,7 @@ pub struct Piece {
     pub text: Vec<u8>,
 }
 
-// Why what is found is not all written.
+// Why pieces are not all written.
 #[derive(Drop)]
 pub enum PublishFault {
     // this can't be written
@@ -38,13 +38,17 @@ pub fn publish<S: Store, O: Sink>(
     alloc: Global,
     files: &mut S,
     out: &mut O,
-    found: &Found,
+    task: &Task,
+    problem: &Instance,
+    finding: &Finding,
 ) -> Result<(), PublishFault>
-    requires { IsShown found.now.problem found.now.finding }
-    ensures published { IsPublished found.now (record { taken = O.taken out.old; told = S.told files.old }) (record { taken = O.taken out.new; told = S.told files.new }) result }
+    requires { IsShown problem.now finding.now }
+    ensures published { IsPublished task.now problem.now finding.now (record { taken = O.taken out.old; told = S.told files.old }) (record { taken = O.taken out.new; told = S.told files.new }) result }
     ensures failed { IfErr result (HasFailed (Rose (S.faults files.old) (S.faults files.new)) (Rose (O.faults out.old) (O.faults out.new))) }
+    ensures files_later { S.faults files.old ≤ S.faults files.new }
+    ensures out_later { O.faults out.old ≤ O.faults out.new }
 {
-    match pieces(alloc, found) {
+    match pieces(alloc, task, problem, finding) {
         Ok(pieces) => write_pieces(files, out, pieces),
         Err(_) => Err(PublishFault::NoMemory),
     }
@@ -53,16 +57,19 @@ pub fn publish<S: Store, O: Sink>(
 // ---- the pieces
 
 // The pieces of what is found.
-fn pieces(alloc: Global, found: &Found) -> Result<Vec<Piece>, AllocError>
-    requires { IsShown found.now.problem found.now.finding }
-    ensures { IfOk result (λ pieces. found_pieces found.now.settings.task found.now.problem (reached_by found.now.finding) ≡ Some (pieces_of pieces.items)) }
+fn pieces(
+    alloc: Global,
+    task: &Task,
+    problem: &Instance,
+    finding: &Finding,
+) -> Result<Vec<Piece>, AllocError>
+    requires { IsShown problem.now finding.now }
+    ensures { IfOk result (λ pieces. found_pieces task.now problem.now (reached_by finding.now) ≡ Some (pieces_of pieces.items)) }
 {
-    match &found.finding {
-        Finding::Size => output(alloc, &translated_report(alloc, &found.problem)?),
+    match finding {
+        Finding::Size => output(alloc, &translated_report(alloc, problem)?),
         Finding::Acceptance => output(alloc, &accepted_report(alloc)?),
-        Finding::Verdict(certificate) => {
-            solved(alloc, &found.settings.task, &found.problem, certificate)
-        }
+        Finding::Verdict(certificate) => solved(alloc, task, problem, certificate),
     }
 }
 
@@ -171,14 +178,16 @@ fn add_file(
 
 // ---- writing
 
-// Writes the pieces, in order.
-fn write_pieces<S: Store, O: Sink>(
+/// Writes the pieces, in order.
+pub fn write_pieces<S: Store, O: Sink>(
     files: &mut S,
     out: &mut O,
     pieces: Vec<Piece>,
 ) -> Result<(), PublishFault>
     ensures ends { EndsWriting (pieces_of pieces.items) (record { taken = O.taken out.old; told = S.told files.old }) (record { taken = O.taken out.new; told = S.told files.new }) result }
     ensures failed { IfErr result (HasFailed (Rose (S.faults files.old) (S.faults files.new)) (Rose (O.faults out.old) (O.faults out.new))) }
+    ensures files_later { S.faults files.old ≤ S.faults files.new }
+    ensures out_later { O.faults out.old ≤ O.faults out.new }
 {
     for piece in pieces {
         write_piece(files, out, piece)?;

@@ -1,8 +1,9 @@
-// Why nothing is found, by the stage of the work that says so.
+// Why the work stops, by the stage of it that says so.
 ghost use Rattle.std.specs.Prelude.{◌≡◌};
-ghost use Rattle.glpsol_cli.specs.Stages.{words_answer, unread_answer, text_answer, solve_answer, check_answer, unfound_answer, stop_answer};
+ghost use Rattle.glpsol_cli.specs.Stages.{words_answer, unread_answer, solve_answer, check_answer, unfound_answer, stop_answer, unwritten_answer};
 
-use crate::{Answer, Limit, OverflowSite, Reached, TextFault};
+use crate::publish::PublishFault;
+use crate::{Answer, Limit, OverflowSite, Reached};
 use cert_check::{CheckFault, Part};
 use certificate_reader::CertFault;
 use command_line::WordsFault;
@@ -10,11 +11,11 @@ use instance::Name;
 use mixed_solve::VerdictFault;
 use outside::LoadFault;
 
+// Why there are no texts.
 #[derive(Drop)]
 pub enum Stop {
     Words(WordsFault),
     File(Unread),
-    Work(Unfound),
     NoMemory,
 }
 
@@ -25,19 +26,11 @@ pub struct Unread {
     pub fault: LoadFault,
 }
 
-// Why the texts give nothing.
+// Why nothing is found of a problem.
 #[derive(Drop)]
 pub enum Unfound {
-    Text(TextStop),
     Solve(VerdictFault),
     Check(CheckStop),
-}
-
-// Why a text is no problem.
-#[derive(Drop)]
-pub enum TextStop {
-    Fault(TextFault),
-    NoMemory,
 }
 
 // Why a certificate is not accepted.
@@ -56,7 +49,6 @@ pub fn stop_answer(stop: Stop) -> Answer
     match stop {
         Stop::Words(fault) => words_answer(fault),
         Stop::File(unread) => unread_answer(unread.name, unread.fault),
-        Stop::Work(unfound) => unfound_answer(unfound),
         Stop::NoMemory => no_memory(Reached::Nothing),
     }
 }
@@ -82,22 +74,13 @@ fn unread_answer(name: Name, fault: LoadFault) -> Answer
     }
 }
 
-fn unfound_answer(unfound: Unfound) -> Answer
+/// The answer where nothing is found of a problem.
+pub fn unfound_answer(unfound: Unfound) -> Answer
     ensures { result ≡ unfound_answer unfound }
 {
     match unfound {
-        Unfound::Text(stop) => text_answer(stop),
         Unfound::Solve(fault) => solve_answer(fault),
         Unfound::Check(stop) => check_answer(stop),
-    }
-}
-
-fn text_answer(stop: TextStop) -> Answer
-    ensures { result ≡ text_answer stop }
-{
-    match stop {
-        TextStop::Fault(fault) => Answer::BadText(fault),
-        TextStop::NoMemory => no_memory(Reached::Nothing),
     }
 }
 
@@ -133,6 +116,16 @@ fn check_answer(stop: CheckStop) -> Answer
             fault,
         },
         CheckStop::NoMemory => no_memory(Reached::Executed),
+    }
+}
+
+/// The answer where not all is written of what was reached.
+pub fn unwritten_answer(reached: Reached, fault: PublishFault) -> Answer
+    ensures { result ≡ unwritten_answer reached fault }
+{
+    match fault {
+        PublishFault::Write(target) => Answer::WriteFault { target, reached },
+        PublishFault::NoMemory => no_memory(reached),
     }
 }
 

@@ -55,6 +55,7 @@ fn line(alloc: Global, answer: &Answer) -> Result<String, AllocError>
         Answer::BadText(TextFault::Data(fault)) => fault_line(alloc, &Fault::Data(*fault)),
         Answer::BadText(TextFault::Model(fault)) => fault_line(alloc, &Fault::Model(*fault)),
         Answer::BadText(TextFault::File(fault)) => fault_line(alloc, &Fault::File(*fault)),
+        Answer::FaultBehindSolve { fault, .. } => fault_line(alloc, &Fault::Model(*fault)),
         Answer::BadCertificate(fault) => fault_line(alloc, &Fault::Certificate(*fault)),
         Answer::Overflow { fault, .. } => fault_line(alloc, &Fault::Overflow(*fault)),
         Answer::Undecided(Limit::Pivots(..)) => fault_line(alloc, &Fault::UndecidedPivots),

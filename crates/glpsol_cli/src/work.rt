@@ -1,17 +1,21 @@
 // The whole of the program's work.
-ghost use Rattle.std.specs.Prelude.{◌≡◌, ℕ, List, map, string_bytes};
+ghost use Rattle.std.specs.Prelude.{◌≡◌, ◌<◌, ℕ, List, length, map, string_bytes};
 ghost use Rattle.verdicts.specs.Certificate.{Certificate};
 ghost use Rattle.outside.specs.Causes.{Rose};
 ghost use Rattle.glpsol_cli.specs.Asked.{OfTexts};
 ghost use Rattle.glpsol_cli.specs.Cause.{Cause, IsBest, HasNoPoint, HasRay, IsTrueOf, reached_of};
 ghost use Rattle.glpsol_cli.specs.Written.{Written};
 ghost use Rattle.glpsol_cli.specs.Complete.{IsComplete, IsVerdictOrNoMemory};
+ghost use Rattle.glpsol_cli.specs.Stages.{CauseIn, IsEndIn, IsExecution, IsSubject, LeftWritten, WrittenIn, texts_in};
 
-use crate::publish::publish;
-use crate::stop::stop_answer;
+use crate::execution::{Executed, ExecutionEnd, Later, execute};
+use crate::inputs::{Inputs, read_inputs};
+use crate::publish::write_pieces;
+use crate::stop::{stop_answer, unwritten_answer};
+use crate::task::from_problem;
 use crate::tell::tell;
-use crate::work_out::work_out;
 use crate::{Answer, Reached};
+use instance::Instance;
 use outside::{Sink, Store};
 use std::alloc::Global;
 use std::thread::Threads;
@@ -41,7 +45,8 @@ pub fn run<T: Threads + Sync, S: Store, O: Sink>(
     ensures cause { Cause (map string_bytes words.items) (S.told files.old)
         (Rose (S.faults files.old) (S.faults files.new)) (Rose (O.faults out.old) (O.faults out.new)) result }
 
-    // It writes the report and then the files, or the first part of this, and then the line of a fault or a part of it.
+    // It writes what the statements print, then the report and the files, and then what the statements behind `solve` print, or
+    // the first part of this, and then the line of a fault or a part of it.
     ensures written { Written (map string_bytes words.items) (record { taken = O.taken out.old; told = S.told files.old })
         (record { taken = O.taken out.new; told = S.told files.new }) result }
 
@@ -65,12 +70,95 @@ fn carried_out<S: Store, O: Sink>(
     ensures written { Written (map string_bytes words.now) (record { taken = O.taken out.old; told = S.told files.old })
         (record { taken = O.taken out.new; told = S.told files.new }) result }
 {
-    let found = match work_out(alloc, words, files) {
-        Ok(found) => found,
+    let inputs = match read_inputs(alloc, words, files) {
+        Ok(inputs) => inputs,
         Err(stop) => return tell(alloc, out, stop_answer(stop)),
     };
-    match publish(alloc, files, out, &found) {
-        Ok(()) => found.finding.answer(),
-        Err(fault) => tell(alloc, out, found.finding.unpublished(fault)),
+    from_inputs(alloc, &inputs, files, out)
+}
+
+// The texts are executed.
+fn from_inputs<S: Store, O: Sink>(
+    alloc: Global,
+    inputs: &Inputs,
+    files: &mut S,
+    out: &mut O,
+) -> Answer
+    requires { length inputs.now.settings.data_files < length inputs.now.texts.items }
+    ensures cause { CauseIn inputs.now.settings (texts_in inputs.now)
+        (Rose (S.faults files.old) (S.faults files.new)) (Rose (O.faults out.old) (O.faults out.new)) result }
+    ensures written { WrittenIn inputs.now.settings (texts_in inputs.now) (record { taken = O.taken out.old; told = S.told files.old })
+        (record { taken = O.taken out.new; told = S.told files.new }) result }
+{
+    match execute(alloc, &inputs.settings, &inputs.texts) {
+        Ok(executed) => from_execution(alloc, inputs, executed, files, out),
+        Err(_) => tell(
+            alloc,
+            out,
+            Answer::NoMemory {
+                reached: Reached::Nothing,
+            },
+        ),
     }
+}
+
+// What was printed is written.
+fn from_execution<S: Store, O: Sink>(
+    alloc: Global,
+    inputs: &Inputs,
+    executed: Executed,
+    files: &mut S,
+    out: &mut O,
+) -> Answer
+    requires { IsExecution inputs.now.settings (texts_in inputs.now) executed }
+    ensures cause { CauseIn inputs.now.settings (texts_in inputs.now)
+        (Rose (S.faults files.old) (S.faults files.new)) (Rose (O.faults out.old) (O.faults out.new)) result }
+    ensures written { WrittenIn inputs.now.settings (texts_in inputs.now) (record { taken = O.taken out.old; told = S.told files.old })
+        (record { taken = O.taken out.new; told = S.told files.new }) result }
+{
+    let Executed { done, end } = executed;
+    match write_pieces(files, out, done) {
+        Ok(()) => from_end(alloc, inputs, end, files, out),
+        Err(fault) => tell(alloc, out, unwritten_answer(Reached::Executed, fault)),
+    }
+}
+
+// The execution ended at a problem, or at a fault.
+fn from_end<S: Store, O: Sink>(
+    alloc: Global,
+    inputs: &Inputs,
+    end: ExecutionEnd,
+    files: &mut S,
+    out: &mut O,
+) -> Answer
+    requires { IsEndIn inputs.now.settings (texts_in inputs.now) end }
+    ensures cause { CauseIn inputs.now.settings (texts_in inputs.now)
+        (Rose (S.faults files.old) (S.faults files.new)) (Rose (O.faults out.old) (O.faults out.new)) result }
+    ensures written { LeftWritten inputs.now.settings (texts_in inputs.now) (record { taken = O.taken out.old; told = S.told files.old })
+        (record { taken = O.taken out.new; told = S.told files.new }) result }
+{
+    match end {
+        ExecutionEnd::Problem(problem, later) => {
+            at_problem(alloc, inputs, problem, later, files, out)
+        }
+        ExecutionEnd::Fault(fault) => tell(alloc, out, Answer::BadText(fault)),
+    }
+}
+
+// The problem is handed over, and lent further in.
+fn at_problem<S: Store, O: Sink>(
+    alloc: Global,
+    inputs: &Inputs,
+    problem: Instance,
+    later: Option<Later>,
+    files: &mut S,
+    out: &mut O,
+) -> Answer
+    requires { IsSubject inputs.now.settings (texts_in inputs.now) problem later }
+    ensures cause { CauseIn inputs.now.settings (texts_in inputs.now)
+        (Rose (S.faults files.old) (S.faults files.new)) (Rose (O.faults out.old) (O.faults out.new)) result }
+    ensures written { LeftWritten inputs.now.settings (texts_in inputs.now) (record { taken = O.taken out.old; told = S.told files.old })
+        (record { taken = O.taken out.new; told = S.told files.new }) result }
+{
+    from_problem(alloc, inputs, &problem, later, files, out)
 }

@@ -5,8 +5,8 @@ use std::alloc::{AllocError, Global};
 use std::process::Abort;
 use std::test::Fail;
 
-// What words ask for, and the words, parted by `|`: the language, the model's file, its data files, the direction, what is
-// relaxed, limits that are given, the task and its file.
+// What words ask for, and the words, parted by `|`: the language, the model's file, its data files, the file that it prints to,
+// the direction, what is relaxed, limits that are given, the task and its file.
 const COMMANDS: &str = "\
 mps f, own direction, solve, no cert <- --freemps|f
 lp f, own direction, solve, no cert <- --lp|f
@@ -52,6 +52,10 @@ math f, data a b c a, own direction, solve, no cert <- -d|a|-d|b|--math|f|-d|c|-
 math f, data  d=e, own direction, solve, no cert <- --math|f|--data=|--data=d=e
 math f, data d, min, relaxed, at most 0 splits, translate <- -d|d|--math|f|--check|--min|--nomip|--nodlim=0
 math f, data d e, own direction, check c <- -d|d|--math|f|--checkcert|c|-d|e
+math f, display y, own direction, solve, no cert <- --math|f|-y|y
+math f, display y, own direction, solve, no cert <- -yy|-m|f
+math f, display y=z, own direction, translate <- --display=y=z|--math|f|--check
+math f, data d, display , max, check c <- --math|f|--display=|-d|d|--max|--checkcert|c
 ";
 
 // Words that are no command.
@@ -132,6 +136,12 @@ usage <- --math|f|-d|d|e
 usage <- --math|f|--dat|d
 usage <- --math|-d|f
 usage <- --math|f|-D|d
+usage <- --freemps|f|-y|y
+usage <- --lp|f|--display|y
+usage <- --math|f|-y
+usage <- --math|f|-y|y|-y|z
+usage <- --math|f|-y|y|--display|y
+usage <- --math|f|-Y|y
 ";
 
 fn check_table(rt: &impl Abort, alloc: Global, table: &str) -> Result<(), Fail> {
@@ -186,11 +196,14 @@ fn shown(alloc: Global, settings: &Settings) -> Result<String, AllocError> {
     };
     let model = settings.model.as_str();
     let data = data_shown(alloc, &settings.data_files)?;
+    let display = display_shown(alloc, &settings.display)?;
     let relaxed = if settings.relaxed { ", relaxed" } else { "" };
     let splits = limit_shown(alloc, settings.split_limit, 10_000, "splits")?;
     let steps = limit_shown(alloc, settings.pivot_limit, 100_000, "steps")?;
     let task = task_shown(alloc, &settings.task)?;
-    format!(in alloc; "{language} {model}{data}, {direction}{relaxed}{splits}{steps}, {task}")
+    format!(in alloc;
+        "{language} {model}{data}{display}, {direction}{relaxed}{splits}{steps}, {task}"
+    )
 }
 
 fn data_shown(alloc: Global, files: &DataFiles) -> Result<String, AllocError> {
@@ -203,6 +216,13 @@ fn data_shown(alloc: Global, files: &DataFiles) -> Result<String, AllocError> {
         shown.push_str(name.as_str())?;
     }
     Ok(shown)
+}
+
+fn display_shown(alloc: Global, file: &Option<Name>) -> Result<String, AllocError> {
+    match file {
+        Some(name) => format!(in alloc; ", display {}", name.as_str()),
+        None => Ok(String::new(alloc)),
+    }
 }
 
 // A limit, where it is not the one that stands without its option.

@@ -21,4 +21,6 @@ mod math_prog;
 #[cfg(test)]
 mod memory_files;
 #[cfg(test)]
+mod printing;
+#[cfg(test)]
 mod runs;

@@ -1,4 +1,4 @@
-//! A model together with what data give to its sets and parameters.
+//! A model together with what data give to its sets and parameters and, behind `solve`, with its solution.
 #![tactic(auto)]
 
 mod tables;

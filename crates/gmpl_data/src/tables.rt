@@ -4,7 +4,8 @@ ghost use Rattle.gmpl_data.specs.Given as spec;
 ghost use Rattle.std.specs.Option.{option_copied};
 
 use gmpl_members::{Members, Value};
-use gmpl_resolved::{Check, Numbered};
+use gmpl_resolved::{Numbered, NumberedStep};
+use gmpl_solution::Solution;
 use gmpl_value::{SetValue, Symbol, Tuple};
 use sqlite_items::Items;
 use std::alloc::Global;
@@ -40,11 +41,13 @@ impl DataTables {
 /// A model whose names are resolved, with what data give to its objects.
 #[derive(Drop)]
 pub struct LoadedModel {
-    /// The statements that declare in order, each behind its checks.
+    /// The statements that declare in order, each behind its steps.
     pub statements: Items<Numbered>,
-    /// The checks behind the last of them.
-    pub checks: Items<Check>,
+    /// The steps behind the last of them.
+    pub steps: Items<NumberedStep>,
     pub tables: DataTables,
+    /// Behind `solve`: the numbers of its members at the solution. There variables are numbers and no forms.
+    pub solution: Option<Solution>,
 }
 
 impl LoadedModel {

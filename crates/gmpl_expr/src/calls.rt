@@ -1,14 +1,15 @@
 // The evaluators.
-ghost use Rattle.std.specs.Prelude.{◌≡◌, Ok};
+ghost use Rattle.std.specs.Prelude.{◌≡◌, Ok, Some};
 ghost use Rattle.gmpl_fault.specs.Outcome.{Gives, then_do};
 ghost use Rattle.gmpl_forms.specs.Amounts.{form_in};
 ghost use Rattle.gmpl_kept.specs.Right.{AreRight};
-ghost use Rattle.gmpl_meaning.specs.Members.{evaluated, elements_of, bounds_at};
+ghost use Rattle.gmpl_meaning.specs.Members.{evaluated, elements_of, bounds_at, member_at};
 ghost use Rattle.gmpl_operations.specs.Values.{number_in, symbol_in, set_in, truth_in, amount_in};
 
 use crate::context::Context;
 use crate::evaluate::eval;
 use crate::indexing::walked;
+use crate::members::demanded;
 use crate::places::start;
 use crate::variables::bounds_by;
 use fraction::Frac;
@@ -28,7 +29,8 @@ const MOST_HEIGHT: u32 = 400;
 // How many expressions may stand within one another, through members too.
 const ROOM: u32 = 1300;
 
-fn evaluated(
+/// The value that an expression comes to, of whatever kind.
+pub fn eval_value(
     alloc: Global,
     context: &mut Context<'_>,
     whole: &Expr,
@@ -48,7 +50,7 @@ fn evaluated(
     )
 }
 
-/// The number that an expression comes to. `Nonlinear` where a variable stands in it.
+/// The number that an expression comes to. `Nonlinear` where before `solve` a variable stands in it.
 pub fn eval_num(
     alloc: Global,
     context: &mut Context<'_>,
@@ -58,7 +60,7 @@ pub fn eval_num(
     ensures value { Gives result (then_do number_in (evaluated context.old whole.now bindings.now)) }
     ensures same { context.new ≡ context.old }
 {
-    let value = evaluated(alloc, context, whole, bindings)?;
+    let value = eval_value(alloc, context, whole, bindings)?;
     value.as_number()
 }
 
@@ -72,7 +74,7 @@ pub fn eval_sym(
     ensures value { Gives result (then_do symbol_in (evaluated context.old whole.now bindings.now)) }
     ensures same { context.new ≡ context.old }
 {
-    let value = evaluated(alloc, context, whole, bindings)?;
+    let value = eval_value(alloc, context, whole, bindings)?;
     value.into_symbol()
 }
 
@@ -86,7 +88,7 @@ pub fn eval_set(
     ensures value { Gives result (then_do set_in (evaluated context.old whole.now bindings.now)) }
     ensures same { context.new ≡ context.old }
 {
-    let value = evaluated(alloc, context, whole, bindings)?;
+    let value = eval_value(alloc, context, whole, bindings)?;
     value.into_set()
 }
 
@@ -100,7 +102,7 @@ pub fn eval_bool(
     ensures value { Gives result (then_do truth_in (evaluated context.old whole.now bindings.now)) }
     ensures same { context.new ≡ context.old }
 {
-    let value = evaluated(alloc, context, whole, bindings)?;
+    let value = eval_value(alloc, context, whole, bindings)?;
     value.as_truth()
 }
 
@@ -114,7 +116,7 @@ pub fn eval_form(
     ensures value { Gives result (then_do (λ a. Ok (form_in a)) (then_do amount_in (evaluated context.old whole.now bindings.now))) }
     ensures same { context.new ≡ context.old }
 {
-    let value = evaluated(alloc, context, whole, bindings)?;
+    let value = eval_value(alloc, context, whole, bindings)?;
     let amount = value.into_amount()?;
     Ok(form(alloc, amount))
 }
@@ -143,6 +145,33 @@ fn elements_by(
         None => Ok(start(alloc)?),
         Some(indexing) => { walked(alloc, model, kept, MOST_HEIGHT, ROOM, indexing, bindings) }
     }
+}
+
+fn elements_in(
+    alloc: Global,
+    model: &LoadedModel,
+    kept: &mut Kept,
+    indexing: &Indexing,
+    bindings: &Tuple,
+) -> Result<Walk, EvalFault>
+    requires right { AreRight model.now kept.old }
+    ensures right { AreRight model.now kept.new }
+    ensures value { Gives result (Ok (elements_of model.now (Some indexing.now) bindings.now)) }
+{
+    walked(alloc, model, kept, MOST_HEIGHT, ROOM, indexing, bindings)
+}
+
+/// What an indexing expression goes over: its elements in order, up to the first fault. The only error is want of memory.
+pub fn elements_over(
+    alloc: Global,
+    context: &mut Context<'_>,
+    indexing: &Indexing,
+    bindings: &Tuple,
+) -> Result<Walk, EvalFault>
+    ensures value { Gives result (Ok (elements_of context.old (Some indexing.now) bindings.now)) }
+    ensures same { context.new ≡ context.old }
+{
+    elements_in(alloc, context.model, &mut context.kept, indexing, bindings)
 }
 
 /// What a domain goes over: its elements in order, up to the first fault; without a domain, one element without components. The
@@ -178,4 +207,42 @@ pub fn bounds_of(
         place,
         subscripts,
     )
+}
+
+fn member_by(
+    alloc: Global,
+    model: &LoadedModel,
+    kept: &mut Kept,
+    place: usize,
+    subscripts: &Tuple,
+) -> Result<Value, EvalFault>
+    requires right { AreRight model.now kept.old }
+    ensures right { AreRight model.now kept.new }
+    ensures value { Gives result (member_at model.now place subscripts.now) }
+{
+    let value = demanded(
+        alloc,
+        model,
+        kept,
+        MOST_HEIGHT,
+        ROOM,
+        place,
+        None,
+        subscripts,
+    )?;
+    Ok(value.into_value(alloc)?)
+}
+
+/// What a member of the object at this place comes to: of a variable before `solve` its form, and behind it its number; of a
+/// constraint or an objective the value of its row, which it has behind `solve` alone.
+pub fn member_value(
+    alloc: Global,
+    context: &mut Context<'_>,
+    place: usize,
+    subscripts: &Tuple,
+) -> Result<Value, EvalFault>
+    ensures value { Gives result (member_at context.old place subscripts.now) }
+    ensures same { context.new ≡ context.old }
+{
+    member_by(alloc, context.model, &mut context.kept, place, subscripts)
 }

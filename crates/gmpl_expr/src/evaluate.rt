@@ -174,14 +174,11 @@ fn named(
 {
     match name {
         Meaning::Index(place) => bound_to(alloc, bindings, place),
-        Meaning::Object(place) => match suffix {
-            None => {
-                let subscripts = symbols(alloc, model, kept, height, room, subscripts, bindings)?;
-                let value = demanded(alloc, model, kept, height, room, place, &subscripts)?;
-                Ok(value.into_value(alloc)?)
-            }
-            Some(_) => Err(EvalFault::NoValue),
-        },
+        Meaning::Object(place) => {
+            let subscripts = symbols(alloc, model, kept, height, room, subscripts, bindings)?;
+            let value = demanded(alloc, model, kept, height, room, place, suffix, &subscripts)?;
+            Ok(value.into_value(alloc)?)
+        }
     }
 }
 

@@ -14,9 +14,13 @@ mod places;
 mod restrictions;
 mod set_kinds;
 mod sets;
+mod solved;
 mod values;
 mod variables;
 
 pub use attributes::with_bound;
-pub use calls::{bounds_of, elements_of, eval_bool, eval_form, eval_num, eval_set, eval_sym};
+pub use calls::{
+    bounds_of, elements_of, elements_over, eval_bool, eval_form, eval_num, eval_set, eval_sym,
+    eval_value, member_value,
+};
 pub use context::Context;

@@ -1,5 +1,5 @@
-// What members come to: those of parameters and sets.
-ghost use Rattle.std.specs.Prelude.{◌≡◌};
+// What members come to: demands, and the members of parameters and sets.
+ghost use Rattle.std.specs.Prelude.{◌≡◌, None};
 ghost use Rattle.gmpl_fault.specs.Outcome.{Gives, GivesAs};
 ghost use Rattle.gmpl_meaning.specs.Restrictions as restrictions;
 ghost use Rattle.gmpl_meaning.specs.Members as members;
@@ -13,20 +13,47 @@ use crate::indexing::within_domain;
 use crate::parts::kept_value;
 use crate::places::copied;
 use crate::restrictions::{inclusions_hold, restricted};
+use crate::solved::row_member;
 use crate::variables::variable_member;
 use gmpl_data::LoadedModel;
 use gmpl_fault::EvalFault;
 use gmpl_kept::{Kept, KeptValue};
 use gmpl_operations::Value;
 use gmpl_resolved::{Attribute, Declaration, Statement};
+use gmpl_syntax::Suffix;
 use gmpl_value::Tuple;
 use std::alloc::Global;
 
 // ---- demands
 
-/// A member: what is kept of it, or else its value anew.
+/// A member, or the number of its that a suffix asks for.
 #[cycle(evaluation)]
 pub(crate) fn demanded(
+    alloc: Global,
+    model: &LoadedModel,
+    kept: &mut Kept,
+    height: u32,
+    room: u32,
+    place: usize,
+    asked: Option<Suffix>,
+    subscripts: &Tuple,
+) -> Result<KeptValue, EvalFault>
+    requires right { AreRight model.now kept.old }
+    ensures right { AreRight model.now kept.new }
+    ensures value { GivesAs value_seen result (member model.now height place asked subscripts.now) }
+{
+    match asked {
+        None => without_suffix(alloc, model, kept, height, room, place, subscripts),
+        Some(_) => {
+            let value = anew(alloc, model, kept, height, room, place, asked, subscripts)?;
+            Ok(KeptValue::of(alloc, value)?)
+        }
+    }
+}
+
+// What is kept of a member, or else its value anew.
+#[cycle(evaluation)]
+fn without_suffix(
     alloc: Global,
     model: &LoadedModel,
     kept: &mut Kept,
@@ -37,12 +64,12 @@ pub(crate) fn demanded(
 ) -> Result<KeptValue, EvalFault>
     requires right { AreRight model.now kept.old }
     ensures right { AreRight model.now kept.new }
-    ensures value { GivesAs value_seen result (member model.now height place subscripts.now) }
+    ensures value { GivesAs value_seen result (member model.now height place None subscripts.now) }
 {
     match kept.member(alloc, place, height, subscripts) {
         Some(value) => Ok(value),
         None => {
-            let value = anew(alloc, model, kept, height, room, place, subscripts)?;
+            let value = anew(alloc, model, kept, height, room, place, None, subscripts)?;
             Ok(kept.remember_member(alloc, place, height, subscripts, value)?)
         }
     }
@@ -56,16 +83,26 @@ fn anew(
     height: u32,
     room: u32,
     place: usize,
+    asked: Option<Suffix>,
     subscripts: &Tuple,
 ) -> Result<Value, EvalFault>
     requires right { AreRight model.now kept.old }
     ensures right { AreRight model.now kept.new }
-    ensures value { Gives result (member model.now height place subscripts.now) }
+    ensures value { Gives result (member model.now height place asked subscripts.now) }
 {
     if height == 0 {
         return Err(EvalFault::Depth);
     }
-    declared(alloc, model, kept, height - 1, room, place, subscripts)
+    declared(
+        alloc,
+        model,
+        kept,
+        height - 1,
+        room,
+        place,
+        asked,
+        subscripts,
+    )
 }
 
 #[cycle(evaluation)]
@@ -76,11 +113,12 @@ fn declared(
     height: u32,
     room: u32,
     place: usize,
+    asked: Option<Suffix>,
     subscripts: &Tuple,
 ) -> Result<Value, EvalFault>
     requires right { AreRight model.now kept.old }
     ensures right { AreRight model.now kept.new }
-    ensures value { Gives result (members.declared model.now (member model.now height) place (given.statement_at model.now place) subscripts.now) }
+    ensures value { Gives result (members.declared model.now (member model.now height) place (given.statement_at model.now place) asked subscripts.now) }
 {
     match model.statement(place) {
         None => Err(EvalFault::NoValue),
@@ -93,6 +131,7 @@ fn declared(
                 room,
                 place,
                 &found.statement,
+                asked,
                 subscripts,
             )
         }
@@ -108,11 +147,12 @@ fn member_of(
     room: u32,
     place: usize,
     statement: &Statement,
+    asked: Option<Suffix>,
     subscripts: &Tuple,
 ) -> Result<Value, EvalFault>
     requires right { AreRight model.now kept.old }
     ensures right { AreRight model.now kept.new }
-    ensures value { Gives result (members.member_of model.now (member model.now height) place statement.now subscripts.now) }
+    ensures value { Gives result (members.member_of model.now (member model.now height) place statement.now asked subscripts.now) }
 {
     match statement {
         Statement::Set(set) => set_member(alloc, model, kept, height, room, place, set, subscripts),
@@ -121,10 +161,12 @@ fn member_of(
         ),
         Statement::Var(variable) => {
             variable_member(
-                alloc, model, kept, height, room, place, variable, subscripts,
+                alloc, model, kept, height, room, place, variable, asked, subscripts,
             )
         }
-        _ => Err(EvalFault::NoValue),
+        Statement::Constraint(_) | Statement::Objective(_) => {
+            row_member(alloc, &model.solution, place, asked, subscripts)
+        }
     }
 }
 

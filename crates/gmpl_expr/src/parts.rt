@@ -1,20 +1,16 @@
 // Steps of the evaluation that evaluate nothing themselves.
-ghost use Rattle.std.specs.Prelude.{◌≡◌, slice_get, IfOk, [], ◌∷◌, IfSome};
-ghost use Rattle.rational.specs.Rational.{one_ℚ, zero_ℚ};
+ghost use Rattle.std.specs.Prelude.{◌≡◌, slice_get, IfOk};
 ghost use Rattle.gmpl_fault.specs.Outcome.{Gives, GivesAs, Outcome, then_do};
 ghost use Rattle.gmpl_operations.specs.Relations.{negated};
 ghost use Rattle.gmpl_operations.specs.Values.{as_truth, set_in};
-ghost use Rattle.gmpl_forms.specs.Linear.{linear};
 ghost use Rattle.gmpl_meaning.specs.Expressions as spec;
 ghost use Rattle.gmpl_meaning.specs.Members as members;
-ghost use Rattle.gmpl_operations.specs.declared.value.Value.TheVariants as values;
 ghost use Rattle.std.specs.Prelude.{Bool, Ok};
 ghost use Rattle.gmpl_data.specs.declared.tables.LoadedModel.{LoadedModel};
 ghost use Rattle.gmpl_kept.specs.Right.{AreRight};
 
 use fraction::Frac;
 use gmpl_fault::EvalFault;
-use gmpl_forms::{Form, Variable};
 use gmpl_functions::card;
 use gmpl_kept::{Asked, Kept};
 use gmpl_members::Value as Given;
@@ -141,22 +137,4 @@ pub(crate) fn kept_value(alloc: Global, kept: &Given) -> Result<Value, AllocErro
         Given::Scalar(symbol) => Ok(Value::Scalar(symbol.copied(alloc)?)),
         Given::Elements(set) => Ok(Value::Elements(set.copied(alloc)?)),
     }
-}
-
-/// The form of a variable's member. A place that is no 32-bit number, which no text reaches, counts as want of memory.
-pub(crate) fn variable_form(
-    alloc: Global,
-    place: usize,
-    subscripts: &Tuple,
-) -> Result<Value, EvalFault>
-    ensures { Gives result (Ok (values.Linear (linear ((members.variable place subscripts.now, one_ℚ) ∷ []) zero_ℚ))) }
-{
-    if place > u32::MAX as usize {
-        return Err(EvalFault::NoMemory);
-    }
-    let variable = Variable {
-        statement: place as u32,
-        subscripts: subscripts.copied(alloc)?,
-    };
-    Ok(Value::Linear(Form::variable(alloc, variable)?))
 }

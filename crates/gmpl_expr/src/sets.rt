@@ -101,22 +101,12 @@ fn shared_member(
     }
     match name {
         Meaning::Index(place) => index_set(alloc, bindings, place),
-        Meaning::Object(place) => match suffix {
-            None => {
-                let subscripts = symbols(
-                    alloc,
-                    model,
-                    kept,
-                    height,
-                    room - 1,
-                    subscripts,
-                    bindings,
-                )?;
-                let value = demanded(alloc, model, kept, height, room - 1, place, &subscripts)?;
-                value.into_set(alloc)
-            }
-            Some(_) => Err(EvalFault::NoValue),
-        },
+        Meaning::Object(place) => {
+            let room = room - 1;
+            let subscripts = symbols(alloc, model, kept, height, room, subscripts, bindings)?;
+            let value = demanded(alloc, model, kept, height, room, place, suffix, &subscripts)?;
+            value.into_set(alloc)
+        }
     }
 }
 

@@ -9,7 +9,7 @@ ghost use Rattle.gmpl_kept.specs.Right.{AreRight};
 
 use crate::attributes::{where_binary, with_bound};
 use crate::indexing::within_domain;
-use crate::parts::variable_form;
+use crate::solved::variable_value;
 use crate::values::number;
 use gmpl_data::LoadedModel;
 use gmpl_fault::EvalFault;
@@ -17,6 +17,7 @@ use gmpl_kept::Kept;
 use gmpl_meaning::Bounds;
 use gmpl_operations::Value;
 use gmpl_resolved::{Attribute, Declaration, Statement};
+use gmpl_syntax::Suffix;
 use gmpl_value::Tuple;
 use std::alloc::Global;
 
@@ -29,14 +30,15 @@ pub(crate) fn variable_member(
     room: u32,
     place: usize,
     variable: &Declaration,
+    asked: Option<Suffix>,
     subscripts: &Tuple,
 ) -> Result<Value, EvalFault>
     requires right { AreRight model.now kept.old }
     ensures right { AreRight model.now kept.new }
-    ensures value { Gives result (members.variable_member model.now (member model.now height) place variable.now subscripts.now) }
+    ensures value { Gives result (members.variable_member model.now (member model.now height) place variable.now asked subscripts.now) }
 {
     match variable_bounds(alloc, model, kept, height, room, variable, subscripts) {
-        Ok(_) => variable_form(alloc, place, subscripts),
+        Ok(bounds) => variable_value(alloc, place, subscripts, &model.solution, asked, bounds),
         Err(fault) => Err(fault),
     }
 }

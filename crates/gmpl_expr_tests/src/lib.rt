@@ -6,4 +6,6 @@ mod expressions;
 #[cfg(test)]
 mod models;
 #[cfg(test)]
+mod solved;
+#[cfg(test)]
 mod texts;

@@ -28,7 +28,11 @@ fn statement_text(alloc: Global, kind: &str, expression: &str) -> Result<String,
     }
 }
 
-fn statements_of(alloc: Global, text: &str) -> Result<Option<Items<Numbered>>, AllocError> {
+/// The statements of a model's text that declare, where it is a model.
+pub(crate) fn statements_of(
+    alloc: Global,
+    text: &str,
+) -> Result<Option<Items<Numbered>>, AllocError> {
     let tokens = read_tokens(alloc, text.as_bytes())?;
     match parse(alloc, &tokens) {
         Ok(model) => Ok(Some(model.statements)),
@@ -45,8 +49,8 @@ fn assigned(attributes: &[Attribute]) -> Option<&Expr> {
     None
 }
 
-// The expression of the last statement.
-fn asked(statements: &[Numbered]) -> Option<&Expr> {
+/// The expression of the last statement.
+pub(crate) fn asked(statements: &[Numbered]) -> Option<&Expr> {
     let Some(last) = statements.last() else {
         return None;
     };
@@ -110,8 +114,9 @@ pub(crate) fn answer(
     };
     let model = LoadedModel {
         statements,
-        checks: Items::new(alloc),
+        steps: Items::new(alloc),
         tables: DataTables::empty(alloc),
+        solution: None,
     };
     asked_word(alloc, &model, kind)
 }
@@ -218,14 +223,14 @@ fn binary(statements: Items<Numbered>) -> Result<Items<Numbered>, AllocError> {
         return Ok(left);
     };
     let Numbered {
-        checks,
+        steps,
         number,
         line,
         statement,
     } = only;
     let statement = statement_with_binary(statement)?;
     left.push(Numbered {
-        checks,
+        steps,
         number,
         line,
         statement,
@@ -233,7 +238,8 @@ fn binary(statements: Items<Numbered>) -> Result<Items<Numbered>, AllocError> {
     Ok(left)
 }
 
-fn tuple_of(alloc: Global, text: &str) -> Result<Tuple, AllocError> {
+/// Numbers with points between them.
+pub(crate) fn tuple_of(alloc: Global, text: &str) -> Result<Tuple, AllocError> {
     let mut made = Tuple::new(alloc);
     for word in text.split('.') {
         made.push(Symbol::Number(number(word)))?;
@@ -304,8 +310,9 @@ fn changed(
     objects.push(given)?;
     Ok(LoadedModel {
         statements,
-        checks: Items::new(alloc),
+        steps: Items::new(alloc),
         tables: DataTables { objects },
+        solution: None,
     })
 }
 

@@ -1,1 +1,3 @@
 pub mod TermSteps
+pub mod SolvedRows
+pub mod Looped

@@ -1,5 +1,5 @@
--- The problem that a model with its data means, or its first fault.
-use Rattle.std.specs.Prelude.{ℕ, Bool, true, false, Result, Ok, List, [], ◌∷◌, map, if◌then◌else◌}
+-- The problem that a model with its data means, or its first fault, and what its execution prints.
+use Rattle.std.specs.Prelude.{◌≡◌, ℕ, Bool, true, false, Result, Ok, Err, List, [], ◌∷◌, map, if◌then◌else◌}
 use Rattle.milp.specs.Problem.{Problem}
 use Rattle.gmpl_resolved.specs.declared.statement.Attribute.{Attribute}
 use Rattle.gmpl_resolved.specs.declared.statement.Attribute.TheVariants as a
@@ -8,11 +8,13 @@ use Rattle.gmpl_resolved.specs.declared.statement.Statement.{Statement}
 use Rattle.gmpl_resolved.specs.declared.statement.Statement.TheVariants as statement
 use Rattle.gmpl_data.specs.declared.tables.LoadedModel.{LoadedModel}
 use Rattle.gmpl_rows.specs.declared.declared.Declared.{Declared}
-use Rattle.gmpl_rows.specs.Draft.{no_rows}
-use Rattle.gmpl_rows.specs.Problem.{problem_of}
+use Rattle.gmpl_rows.specs.Draft.{Draft, no_rows}
+use Rattle.gmpl_rows.specs.Problem.{column_members, problem_of, row_members}
 use Rattle.gmpl_generate.specs.declared.fault.ModelFault.{ModelFault}
-use Rattle.gmpl_generate.specs.Faults.{then_on}
-use Rattle.gmpl_generate.specs.Checks.{checked}
+use Rattle.gmpl_generate.specs.declared.problem.End.{End}
+use Rattle.gmpl_generate.specs.declared.problem.End.TheVariants as ends
+use Rattle.gmpl_generate.specs.declared.problem.Generated.{Generated}
+use Rattle.gmpl_generate.specs.Running.{Ran, Running, result_of, text_of, then_on}
 use Rattle.gmpl_generate.specs.Execution.{executed_from}
 
 -- ---- what statements declare
@@ -44,9 +46,39 @@ declared_at s = declared_by s.statement
 abbrev pub all_declared : LoadedModel → List Declared
 all_declared model = map declared_at model.statements
 
--- ---- the problem
+-- ---- the execution
 
--- the problem of the rows that the statements make, or the first fault
+-- the rows that the statements make and what they print, where nothing is printed before
+abbrev pub all_executed : LoadedModel → Running ModelFault Draft
+all_executed model = executed_from model 0 model.statements model.steps (no_rows (all_declared model))
+
+unfoldable pub execution : LoadedModel → Ran ModelFault Draft
+execution model = all_executed model []
+
+-- what a model prints up to `solve`, or up to its first fault
+abbrev pub printed_by : LoadedModel → List ℕ
+printed_by model = text_of (execution model)
+
+-- the rows that the statements make, or the first fault
+abbrev pub drafted : LoadedModel → Result Draft ModelFault
+drafted model = result_of (execution model)
+
+-- the problem that they are
 abbrev pub generated : LoadedModel → Result Problem ModelFault
-generated model =
-    then_on (λ d. then_on (λ _. Ok (problem_of d)) (checked model model.checks)) (executed_from model 0 model.statements (no_rows (all_declared model)))
+generated model = then_on (λ d. Ok (problem_of d)) (drafted model)
+
+-- ---- what a call answers
+
+-- the problem of a draft, with the members that its columns and rows come from
+pub record IsMade (d : Draft) (g : Generated) : Type 0 where
+  pub problem : g.problem ≡ problem_of d
+  pub columns : g.columns.items ≡ column_members d
+  pub rows : g.rows.items ≡ row_members d
+
+abbrev pub IsGenerated : Result Draft ModelFault → Generated → Type 0
+IsGenerated (Ok d) g = IsMade d g
+IsGenerated (Err fault) g = ⊥
+
+abbrev pub IsEnd : Result Draft ModelFault → End → Type 0
+IsEnd right (ends.Problem g) = IsGenerated right g
+IsEnd right (ends.Fault fault) = right ≡ Err fault

@@ -1,92 +1,51 @@
 // Checks: what has to hold.
-ghost use Rattle.std.specs.Prelude.{◌≡◌, true, Ok};
-ghost use Rattle.gmpl_fault.specs.Outcome.{Gives};
-ghost use Rattle.gmpl_meaning.specs.Expressions.{unless};
+ghost use Rattle.std.specs.Prelude.{◌≡◌};
 ghost use Rattle.gmpl_generate.specs.Checks as spec;
-ghost use Rattle.gmpl_generate.specs.Faults.{IsAnswer};
+ghost use Rattle.gmpl_generate.specs.Running.{Gives};
 
-use crate::evaluation::{elements_of, truth_of};
-use crate::fault::{GenerateError, ModelFault, ModelFaultKind};
+use crate::evaluation::truth_of;
+use crate::fault::Stop;
+use crate::scopes::{Scopes, behind};
 use gmpl_data::LoadedModel;
 use gmpl_expr::Context;
 use gmpl_fault::EvalFault;
-use gmpl_meaning::Walk;
-use gmpl_resolved::{Check, Expr};
+use gmpl_resolved::Expr;
+use gmpl_value::Tuple;
 use std::alloc::Global;
 
-// Behind the last element.
-fn unless(fault: Option<EvalFault>) -> Result<bool, EvalFault>
-    ensures { Gives result (unless fault (Ok true)) }
-{
-    match fault {
-        None => Ok(true),
-        Some(fault) => Err(fault),
-    }
-}
-
-// Whether the condition is true at each element.
-fn all_hold(
+fn check_at(
     alloc: Global,
     model: &LoadedModel,
     context: &mut Context<'_>,
     condition: &Expr,
-    walk: &Walk,
-) -> Result<bool, EvalFault>
+    bindings: &Tuple,
+) -> Result<(), Stop<EvalFault>>
     requires of { context.old ≡ model.now }
     ensures of { context.new ≡ model.now }
-    ensures value { Gives result (spec.all_hold (spec.holds_at model.now condition.now) walk.now.elements walk.now.fault) }
+    ensures value { Gives (spec.check_at model.now condition.now bindings.now) result }
 {
-    for element in walk.elements.as_slice() {
-        if !truth_of(alloc, model, context, &element.indices, condition)? {
-            return Ok(false);
-        }
+    match truth_of(alloc, model, context, bindings, condition) {
+        Ok(true) => Ok(()),
+        Ok(false) => Err(Stop::CheckFailed),
+        Err(EvalFault::NoMemory) => Err(Stop::NoMemory),
+        Err(fault) => Err(Stop::Fault(fault)),
     }
-    unless(walk.fault)
 }
 
-fn holds(
+/// The condition is true at each element, up to the first at which it is not.
+pub(crate) fn check_each(
     alloc: Global,
     model: &LoadedModel,
     context: &mut Context<'_>,
-    check: &Check,
-) -> Result<bool, EvalFault>
+    condition: &Expr,
+    scopes: &Scopes,
+) -> Result<(), Stop<EvalFault>>
     requires of { context.old ≡ model.now }
     ensures of { context.new ≡ model.now }
-    ensures value { Gives result (spec.holds model.now check.now) }
+    ensures value { Gives (spec.check_each model.now condition.now scopes.now.all scopes.now.fault) result }
 {
-    let walk = elements_of(alloc, model, context, &check.domain)?;
-    all_hold(alloc, model, context, &check.condition, &walk)
-}
-
-fn fault_of(check: &Check, kind: ModelFaultKind) -> ModelFault
-    ensures { result ≡ spec.fault_of check.now kind }
-{
-    ModelFault {
-        statement: check.number,
-        line: check.line,
-        kind,
+    for bindings in scopes.all.as_slice() {
+        check_at(alloc, model, context, condition, bindings)?;
     }
-}
-
-/// These checks hold, up to the first that does not.
-pub(crate) fn checked(
-    alloc: Global,
-    model: &LoadedModel,
-    context: &mut Context<'_>,
-    checks: &[Check],
-) -> Result<(), GenerateError>
-    requires of { context.old ≡ model.now }
-    ensures of { context.new ≡ model.now }
-    ensures value { IsAnswer (spec.checked model.now checks.now) result }
-{
-    for check in checks {
-        let kind = match holds(alloc, model, context, check) {
-            Ok(true) => continue,
-            Ok(false) => ModelFaultKind::CheckFailed,
-            Err(EvalFault::NoMemory) => return Err(GenerateError::NoMemory),
-            Err(fault) => ModelFaultKind::Evaluation(fault),
-        };
-        return Err(GenerateError::Fault(fault_of(check, kind)));
-    }
-    Ok(())
+    behind(scopes.fault)
 }

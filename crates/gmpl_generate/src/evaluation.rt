@@ -1,19 +1,23 @@
 // What is asked of the evaluators. The context is that of the model, and keeps the members that were evaluated.
-ghost use Rattle.std.specs.Prelude.{◌≡◌, [], Ok};
+ghost use Rattle.std.specs.Prelude.{◌≡◌, [], Ok, Some, IfOk};
 ghost use Rattle.gmpl_fault.specs.Outcome.{Gives};
 ghost use Rattle.gmpl_generate.specs.Rows as spec;
 ghost use Rattle.gmpl_generate.specs.Checks as checks;
+ghost use Rattle.gmpl_generate.specs.Printing as printing;
 ghost use Rattle.gmpl_meaning.specs.Members as members;
 
 use fraction::Frac;
 use gmpl_data::LoadedModel;
-use gmpl_expr::{Context, eval_bool, eval_form, eval_num};
+use gmpl_expr::{
+    Context, elements_over, eval_bool, eval_form, eval_num, eval_sym, eval_value, member_value,
+};
 use gmpl_fault::EvalFault;
 use gmpl_forms::Form;
 use gmpl_meaning::{Bounds, Walk};
+use gmpl_operations::Value;
 use gmpl_resolved::{Expr, Indexing};
-use gmpl_value::Tuple;
-use std::alloc::Global;
+use gmpl_value::{Symbol, Tuple};
+use std::alloc::{AllocError, Global};
 
 /// The number that an expression comes to, where the indices in scope have these values.
 pub(crate) fn number_of(
@@ -87,4 +91,85 @@ pub(crate) fn bounds_of(
     ensures value { Gives result (members.bounds_at model.now place subscripts.now) }
 {
     gmpl_expr::bounds_of(alloc, context, place, subscripts)
+}
+
+/// The symbol that an expression comes to, where the indices in scope have these values.
+pub(crate) fn symbol_of(
+    alloc: Global,
+    model: &LoadedModel,
+    context: &mut Context<'_>,
+    bindings: &Tuple,
+    whole: &Expr,
+) -> Result<Symbol, EvalFault>
+    requires of { context.old ≡ model.now }
+    ensures of { context.new ≡ model.now }
+    ensures value { Gives result (printing.symbol_of model.now bindings.now whole.now) }
+{
+    eval_sym(alloc, context, whole, bindings)
+}
+
+/// What an expression comes to, where the indices in scope have these values.
+pub(crate) fn value_of(
+    alloc: Global,
+    model: &LoadedModel,
+    context: &mut Context<'_>,
+    bindings: &Tuple,
+    whole: &Expr,
+) -> Result<Value, EvalFault>
+    requires of { context.old ≡ model.now }
+    ensures of { context.new ≡ model.now }
+    ensures value { Gives result (members.evaluated model.now whole.now bindings.now) }
+{
+    eval_value(alloc, context, whole, bindings)
+}
+
+/// What a member of an object comes to.
+pub(crate) fn member_value_of(
+    alloc: Global,
+    model: &LoadedModel,
+    context: &mut Context<'_>,
+    place: usize,
+    subscripts: &Tuple,
+) -> Result<Value, EvalFault>
+    requires of { context.old ≡ model.now }
+    ensures of { context.new ≡ model.now }
+    ensures value { Gives result (members.member_at model.now place subscripts.now) }
+{
+    member_value(alloc, context, place, subscripts)
+}
+
+/// What a domain goes over, where the indices in scope have these values.
+pub(crate) fn over_domain(
+    alloc: Global,
+    model: &LoadedModel,
+    context: &mut Context<'_>,
+    domain: &Option<Indexing>,
+    bindings: &Tuple,
+) -> Result<Walk, AllocError>
+    requires of { context.old ≡ model.now }
+    ensures of { context.new ≡ model.now }
+    ensures value { IfOk result (λ walk. walk ≡ members.elements_of model.now domain.now bindings.now) }
+{
+    match gmpl_expr::elements_of(alloc, context, domain, bindings) {
+        Ok(walk) => Ok(walk),
+        Err(_) => Err(AllocError),
+    }
+}
+
+/// What an indexing expression goes over, where the indices in scope have these values.
+pub(crate) fn over_head(
+    alloc: Global,
+    model: &LoadedModel,
+    context: &mut Context<'_>,
+    head: &Indexing,
+    bindings: &Tuple,
+) -> Result<Walk, AllocError>
+    requires of { context.old ≡ model.now }
+    ensures of { context.new ≡ model.now }
+    ensures value { IfOk result (λ walk. walk ≡ members.elements_of model.now (Some head.now) bindings.now) }
+{
+    match elements_over(alloc, context, head, bindings) {
+        Ok(walk) => Ok(walk),
+        Err(_) => Err(AllocError),
+    }
 }

@@ -1,4 +1,7 @@
 // Why a model has no problem.
+ghost use Rattle.std.specs.Prelude.{◌≡◌};
+ghost use Rattle.gmpl_generate.specs.Running.{fault_at};
+
 use gmpl_fault::EvalFault;
 use std::alloc::AllocError;
 
@@ -20,20 +23,51 @@ pub struct ModelFault {
     pub kind: ModelFaultKind,
 }
 
-/// Why a model has no problem.
+/// A fault of the statement with this number, at this line.
+pub(crate) fn fault_at(number: usize, line: usize, kind: ModelFaultKind) -> ModelFault
+    ensures { result ≡ fault_at number line kind }
+{
+    ModelFault {
+        statement: number,
+        line,
+        kind,
+    }
+}
+
+// Why a statement stops: something in it has no value, or a condition is false.
 #[derive(Clone, Copy, Drop)]
-pub enum GenerateError {
-    Fault(ModelFault),
+pub(crate) enum Stop<F> {
+    Fault(F),
+    CheckFailed,
     NoMemory,
 }
 
-impl From<AllocError> for GenerateError {
+impl<F> From<AllocError> for Stop<F> {
     ghost use Rattle.std.specs.Prelude.{◌≡◌};
-    ghost use Rattle.gmpl_generate.specs.declared.fault.GenerateError.TheVariants as errors;
+    ghost use Rattle.gmpl_generate.specs.declared.fault.Stop.TheVariants as stops;
 
-    ghost from_gives = { λ _ error. error ≡ errors.NoMemory };
+    ghost from_gives = { λ _ stop. stop ≡ stops.NoMemory };
 
-    fn from(_: AllocError) -> GenerateError {
-        GenerateError::NoMemory
+    fn from(_: AllocError) -> Stop<F> {
+        Stop::NoMemory
+    }
+}
+
+// Why an execution stops, with the number and the line of the statement that does.
+#[derive(Clone, Copy, Drop)]
+pub(crate) enum Halt<F> {
+    Fault(usize, usize, F),
+    CheckFailed(usize, usize),
+    NoMemory,
+}
+
+impl<F> From<AllocError> for Halt<F> {
+    ghost use Rattle.std.specs.Prelude.{◌≡◌};
+    ghost use Rattle.gmpl_generate.specs.declared.fault.Halt.TheVariants as halts;
+
+    ghost from_gives = { λ _ halt. halt ≡ halts.NoMemory };
+
+    fn from(_: AllocError) -> Halt<F> {
+        Halt::NoMemory
     }
 }

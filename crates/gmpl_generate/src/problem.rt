@@ -1,106 +1,93 @@
 // The problem of a model.
-ghost use Rattle.std.specs.Prelude.{◌≡◌};
-ghost use Rattle.gmpl_generate.specs.Execution as spec;
-ghost use Rattle.gmpl_generate.specs.Faults.{IsAnswer, of_statement};
-ghost use Rattle.gmpl_generate.specs.Problem.{all_declared, generated};
+ghost use Rattle.std.specs.Prelude.{◌≡◌, IfOk, string_bytes};
+ghost use Rattle.gmpl_generate.specs.Problem.{all_declared, all_executed, drafted, printed_by, IsEnd, IsMade};
+ghost use Rattle.gmpl_generate.specs.Running.{Runs};
 ghost use Rattle.gmpl_rows.specs.Premises.{AreObjects};
 
-use crate::checks::checked;
 use crate::declared::all_declared;
-use crate::execution::executed;
-use crate::fault::{GenerateError, ModelFault, ModelFaultKind};
+use crate::fault::{Halt, ModelFault, ModelFaultKind, fault_at};
+use crate::turns::executed_all;
 use gmpl_data::LoadedModel;
 use gmpl_expr::Context;
 use gmpl_fault::EvalFault;
-use gmpl_resolved::Numbered;
-use gmpl_rows::{Draft, finish};
+use gmpl_rows::{Draft, column_members, finish, row_members};
+use gmpl_solution::Member;
 use instance::Instance;
-use std::alloc::Global;
+use std::alloc::{AllocError, Global};
 
-// The rows so far with those of the statement at a place. A place that is no 32-bit number, which no text reaches, counts as want
-// of memory.
-fn statement_executed(
-    alloc: Global,
-    model: &LoadedModel,
-    context: &mut Context<'_>,
-    place: usize,
-    numbered: &Numbered,
-    draft: Draft,
-) -> Result<Draft, GenerateError>
-    requires of { context.old ≡ model.now }
-    ensures of { context.new ≡ model.now }
-    ensures value { IsAnswer (of_statement numbered.now.number numbered.now.line (spec.executed model.now place numbered.now.statement draft)) result }
-{
-    if place > u32::MAX as usize {
-        return Err(GenerateError::NoMemory);
-    }
-    match executed(
-        alloc,
-        model,
-        context,
-        place as u32,
-        &numbered.statement,
-        draft,
-    ) {
-        Ok(draft) => Ok(draft),
-        Err(EvalFault::NoMemory) => Err(GenerateError::NoMemory),
-        Err(fault) => Err(GenerateError::Fault(ModelFault {
-            statement: numbered.number,
-            line: numbered.line,
-            kind: ModelFaultKind::Evaluation(fault),
-        })),
-    }
+/// What the execution of a model comes to, up to `solve`.
+#[derive(Drop)]
+pub struct Executed {
+    /// What its statements print.
+    pub printed: String,
+    pub end: End,
 }
 
-// The same behind the checks before it.
-fn executed_at(
-    alloc: Global,
-    model: &LoadedModel,
-    context: &mut Context<'_>,
-    place: usize,
-    numbered: &Numbered,
-    draft: Draft,
-) -> Result<Draft, GenerateError>
-    requires of { context.old ≡ model.now }
-    ensures of { context.new ≡ model.now }
-    ensures value { IsAnswer (spec.executed_at model.now place numbered.now draft) result }
-{
-    checked(alloc, model, context, numbered.checks.as_slice())?;
-    statement_executed(alloc, model, context, place, numbered, draft)
+/// The problem that a model means, or its first fault.
+#[derive(Drop)]
+pub enum End {
+    Problem(Generated),
+    Fault(ModelFault),
 }
 
-// Statement by statement, up to the first fault.
-fn executed_all(
-    alloc: Global,
-    model: &LoadedModel,
-    context: &mut Context<'_>,
-    statements: &[Numbered],
-    draft: Draft,
-) -> Result<Draft, GenerateError>
-    requires of { context.old ≡ model.now }
-    ensures of { context.new ≡ model.now }
-    ensures value { IsAnswer (spec.executed_from model.now 0 statements.now draft) result }
-{
-    let mut draft = draft;
-    for (place, numbered) in statements.iter().enumerate() {
-        draft = executed_at(alloc, model, context, place, numbered, draft)?;
-    }
-    Ok(draft)
+/// A problem, with the members that its columns and rows come from, in their order.
+#[derive(Drop)]
+pub struct Generated {
+    pub problem: Instance,
+    pub columns: Vec<Member>,
+    pub rows: Vec<Member>,
 }
 
-/// The problem that a model with its data means: the rows that its constraints and objectives make, statement by statement, where
-/// each check holds, the columns of its variables that have a coefficient other than 0 in some row, and the first row of an objective as the objective.
-/// Objects have names, of which no two are the same.
-/// Errors: the first fault of the model, exactly where the definition has one; want of memory.
-pub fn generate(alloc: Global, model: &LoadedModel) -> Result<Instance, GenerateError>
+fn all_executed(
+    alloc: Global,
+    model: &LoadedModel,
+    so_far: &mut String,
+) -> Result<Draft, Halt<EvalFault>>
     requires { AreObjects (all_declared model.now) }
-    ensures { IsAnswer (generated model.now) result }
+    ensures { Runs (all_executed model.now (string_bytes so_far.old)) result (string_bytes so_far.new) }
 {
     let objects = all_declared(alloc, model)?;
     let draft = Draft::new(alloc, objects)?;
     let mut context = Context::new(alloc, model);
-    let statements = model.statements.as_slice();
-    let draft = executed_all(alloc, model, &mut context, statements, draft)?;
-    checked(alloc, model, &mut context, model.checks.as_slice())?;
-    Ok(finish(alloc, &draft)?)
+    executed_all(alloc, model, &mut context, draft, so_far)
+}
+
+// The problem of these rows.
+fn made(alloc: Global, draft: &Draft) -> Result<Generated, AllocError>
+    ensures { IfOk result (λ made. IsMade draft.now made) }
+{
+    Ok(Generated {
+        problem: finish(alloc, draft)?,
+        columns: column_members(alloc, draft)?,
+        rows: row_members(alloc, draft)?,
+    })
+}
+
+/// What the execution of a model with its data comes to, in the order of its text, up to `solve` or to its end: what it prints, and
+/// the problem, or the first fault. The problem has the rows that constraints and objectives make, the columns of the variables that
+/// have a coefficient other than 0 in some row, and the first row of an objective as the objective.
+/// Objects have names, of which no two are the same.
+/// Errors: want of memory.
+#[tactic(auto, unfolding(crate::specs::Problem::execution))]
+pub fn generate(alloc: Global, model: &LoadedModel) -> Result<Executed, AllocError>
+    requires { AreObjects (all_declared model.now) }
+    ensures printed { IfOk result (λ done. string_bytes done.printed ≡ printed_by model.now) }
+    ensures end { IfOk result (λ done. IsEnd (drafted model.now) done.end) }
+{
+    let mut printed = String::new(alloc);
+    match all_executed(alloc, model, &mut printed) {
+        Ok(draft) => {
+            let end = End::Problem(made(alloc, &draft)?);
+            Ok(Executed { printed, end })
+        }
+        Err(Halt::Fault(number, line, fault)) => {
+            let end = End::Fault(fault_at(number, line, ModelFaultKind::Evaluation(fault)));
+            Ok(Executed { printed, end })
+        }
+        Err(Halt::CheckFailed(number, line)) => {
+            let end = End::Fault(fault_at(number, line, ModelFaultKind::CheckFailed));
+            Ok(Executed { printed, end })
+        }
+        Err(Halt::NoMemory) => Err(AllocError),
+    }
 }

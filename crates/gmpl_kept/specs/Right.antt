@@ -1,5 +1,5 @@
 -- What is kept of a model is right: it is what the definition gives, evaluated anew.
-use Rattle.std.specs.Prelude.{◌≡◌, Bool, Ok, List}
+use Rattle.std.specs.Prelude.{◌≡◌, Bool, None, Ok, List}
 use Rattle.std.specs.List.{AllByRecursion}
 use Rattle.gmpl_data.specs.declared.tables.LoadedModel.{LoadedModel}
 use Rattle.gmpl_fault.specs.Outcome.{Outcome}
@@ -24,9 +24,9 @@ value_seen (kept.Scalar s) = values.Scalar s
 value_seen (kept.Elements set) = values.Elements set.value
 value_seen (kept.Other v) = v
 
--- what is asked for, evaluated anew
+-- what is asked for, evaluated anew: a member without suffix
 abbrev pub anew : LoadedModel → Asked → Outcome Value
-anew model (asked.Member place height subscripts) = member model height place subscripts
+anew model (asked.Member place height subscripts) = member model height place None subscripts
 anew model (asked.Range from to by) = range_by from to by
 
 abbrev pub IsRight : LoadedModel → Asked × KeptValue → Type 0

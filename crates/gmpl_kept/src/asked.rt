@@ -5,8 +5,8 @@ use gmpl_value::Tuple;
 /// What is asked for, and kept where it has a value.
 #[derive(PartialEq, Eq, Hash, Drop)]
 pub enum Asked {
-    /// A member: the place of its object among the statements, how many members may stand in the chain of demands that begins
-    /// with it, and its subscripts.
+    /// A member without suffix: the place of its object among the statements, how many members may stand in the chain of demands
+    /// that begins with it, and its subscripts.
     Member(usize, u32, Tuple),
     /// The numbers from one to another, by a step.
     Range(Frac, Frac, Frac),

@@ -1,5 +1,5 @@
 // What is kept.
-ghost use Rattle.std.specs.Prelude.{◌≡◌, [], Ok, IfOk, IfSome, OnOk, OnErr, option_copied};
+ghost use Rattle.std.specs.Prelude.{◌≡◌, [], None, Ok, IfOk, IfSome, OnOk, OnErr, option_copied};
 ghost use Rattle.std.specs.Map.{lookup};
 ghost use Rattle.indexmap.specs.IndexMap.{insert_entry};
 ghost use Rattle.gmpl_data.specs.declared.tables.LoadedModel.{LoadedModel};
@@ -96,7 +96,7 @@ impl Kept {
         Ok(value)
     }
 
-    /// The value that is kept of a member, once more.
+    /// The value that is kept of a member without suffix, once more.
     pub fn member(
         &self,
         alloc: Global,
@@ -104,7 +104,7 @@ impl Kept {
         height: u32,
         subscripts: &Tuple,
     ) -> Option<KeptValue>
-        ensures { (model : LoadedModel) → AreRight model self.now → IfSome result (λ value. member model height place subscripts.now ≡ Ok (value_seen value)) }
+        ensures { (model : LoadedModel) → AreRight model self.now → IfSome result (λ value. member model height place None subscripts.now ≡ Ok (value_seen value)) }
     {
         match subscripts.copied(alloc) {
             Err(_) => None,
@@ -112,7 +112,7 @@ impl Kept {
         }
     }
 
-    /// A member's value to share, which is kept where there is room for it.
+    /// The value of a member without suffix to share, which is kept where there is room for it.
     pub fn remember_member(
         &mut self,
         alloc: Global,
@@ -121,7 +121,7 @@ impl Kept {
         subscripts: &Tuple,
         value: Value,
     ) -> Result<KeptValue, AllocError>
-        ensures right { (model : LoadedModel) → AreRight model self.old → member model height place subscripts.now ≡ Ok value → AreRight model self.new }
+        ensures right { (model : LoadedModel) → AreRight model self.old → member model height place None subscripts.now ≡ Ok value → AreRight model self.new }
         ensures value { IfOk result (λ made. value_seen made ≡ value) }
     {
         let subscripts = subscripts.copied(alloc)?;

@@ -17,7 +17,7 @@ use std::rc::Rc;
 pub enum KeptValue {
     Scalar(Symbol),
     Elements(Rc<SetValue>),
-    /// What is not kept: the member of a variable.
+    /// What is not kept: the form of a variable's member.
     Other(Boxed<Value>),
 }
 

@@ -61,3 +61,12 @@ object_at objects own place = or_own own (slice_get objects place)
 abbrev pub named : List Object → Site → Meaning → ℕ → Bool → Judged
 named objects site (m.Index place) count has_suffix = index_shape count has_suffix
 named objects site (m.Object place) count has_suffix = shape_at site.position (object_at objects site.own place) count has_suffix
+
+-- ---- the name of an object alone, which means all of its members
+
+abbrev pub whole_shape : Position → Option Object → Judged
+whole_shape stands None = Err WrongKind
+whole_shape stands (Some object) = if may_stand stands object.sort false then Ok (shape_by object.sort object.elements) else Err WrongKind
+
+abbrev pub whole_object : List Object → Site → ℕ → Judged
+whole_object objects site place = whole_shape site.position (object_at objects site.own place)

@@ -93,7 +93,8 @@ pub(crate) fn as_element(shape: Shape) -> Result<usize, SyntaxFaultKind>
     }
 }
 
-pub(crate) fn as_branch(shape: Shape) -> Result<Shape, SyntaxFaultKind>
+/// `Scalar` or a set, or `WrongKind`.
+pub fn as_branch(shape: Shape) -> Result<Shape, SyntaxFaultKind>
     ensures { result ≡ spec.as_branch shape }
 {
     match shape {

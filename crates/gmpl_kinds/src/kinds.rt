@@ -78,8 +78,9 @@ pub fn shape_of(objects: &[Object], site: Site, whole: &Expr) -> Result<Shape, S
     }
 }
 
+/// `Scalar` where all of these are numbers or symbols, else the first fault.
 #[cycle(kinds)]
-fn all_scalars(objects: &[Object], site: Site, all: &[Expr]) -> Result<Shape, SyntaxFaultKind>
+pub fn all_scalars(objects: &[Object], site: Site, all: &[Expr]) -> Result<Shape, SyntaxFaultKind>
     ensures { result ≡ spec.all_scalars (spec.shapes_of objects.now site all.now) }
 {
     for one in all {

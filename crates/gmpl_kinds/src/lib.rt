@@ -8,6 +8,7 @@ mod kinds;
 mod objects;
 mod shape;
 
-pub use demands::{as_logic, as_scalar, as_set, or_one, same_dimension};
-pub use kinds::{indexing_dimension, shape_of};
+pub use demands::{as_branch, as_logic, as_scalar, as_set, or_one, same_dimension};
+pub use kinds::{all_scalars, indexing_dimension, shape_of};
+pub use objects::whole_object;
 pub use shape::{Object, Position, Shape, Site, Sort};

@@ -101,3 +101,25 @@ pub(crate) fn named(
         },
     }
 }
+
+fn whole_shape(position: Position, object: Option<Object>) -> Result<Shape, SyntaxFaultKind>
+    ensures { result ≡ spec.whole_shape position object }
+{
+    match object {
+        None => Err(SyntaxFaultKind::WrongKind),
+        Some(object) => {
+            if may_stand(position, object.sort, false) {
+                Ok(shape_by(object.sort, object.elements))
+            } else {
+                Err(SyntaxFaultKind::WrongKind)
+            }
+        }
+    }
+}
+
+/// All members of the object at a place, where its name may stand: else `WrongKind`.
+pub fn whole_object(objects: &[Object], site: Site, place: usize) -> Result<Shape, SyntaxFaultKind>
+    ensures { result ≡ spec.whole_object objects.now site place }
+{
+    whole_shape(site.position, object_at(objects, site.own, place))
+}

@@ -60,11 +60,10 @@ abbrev pub bound_to : Option Symbol → Outcome Value
 bound_to (Some s) = Ok (Scalar s)
 bound_to None = Err NoValue
 
--- an index, or a member behind its subscripts; no suffix has a value before `solve`
+-- an index, or behind its subscripts a member
 abbrev pub named : Demanding → Name → List Meant → Option Suffix → Meaning
 named demand (name.Index place) subscripts suffix b = bound_to (slice_get b place)
-named demand (name.Object place) subscripts None b = then_do (demand place) (symbols [] subscripts b)
-named demand (name.Object place) subscripts (Some suffix) b = Err NoValue
+named demand (name.Object place) subscripts suffix b = then_do (demand place suffix) (symbols [] subscripts b)
 
 abbrev pub declares_set_by : Statement → Bool
 declares_set_by (statement.Set d) = true

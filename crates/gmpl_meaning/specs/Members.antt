@@ -1,7 +1,12 @@
 -- What members come to (GNU MathProg Language Reference, sections on the set, the parameter and the variable statement): with at
--- most so many members in a chain of demands, each evaluated anew.
+-- most so many members in a chain of demands, each evaluated anew. Behind `solve` the model has its solution, and then members of
+-- variables, constraints and objectives are numbers, of which suffixes ask for one.
 use Rattle.std.specs.Prelude.{ℕ, zero, suc, Bool, true, false, Option, Some, None, Ok, Err, List, [], ◌∷◌, if◌then◌else◌}
 use Rattle.rational.specs.Rational.{Rational, zero_ℚ, one_ℚ}
+use Rattle.gmpl_syntax.specs.declared.expression.Suffix.{Suffix}
+use Rattle.gmpl_syntax.specs.declared.expression.Suffix.TheVariants as suffix
+use Rattle.gmpl_solution.specs.declared.solution.SolvedRow.{SolvedRow}
+use Rattle.gmpl_solution.specs.Solution.{Solution, member as member_named, value_of, row_of}
 use Rattle.gmpl_resolved.specs.declared.expression.Expr.{Expr}
 use Rattle.gmpl_resolved.specs.declared.expression.Indexing.{Indexing}
 use Rattle.gmpl_resolved.specs.declared.statement.Attribute.{Attribute}
@@ -15,13 +20,13 @@ use Rattle.gmpl_members.specs.declared.value.Value.{Value as Kept}
 use Rattle.gmpl_members.specs.declared.value.Value.TheVariants as kept
 use Rattle.gmpl_data.specs.declared.tables.LoadedModel.{LoadedModel}
 use Rattle.gmpl_data.specs.Given.{statement_at, value_given, is_overfull, default_given}
-use Rattle.gmpl_fault.specs.declared.fault.EvalFault.TheVariants.{NoValue, TooMany, Depth}
+use Rattle.gmpl_fault.specs.declared.fault.EvalFault.TheVariants.{NoValue, OutOfDomain, TooMany, Depth}
 use Rattle.gmpl_fault.specs.Outcome.{Outcome, then_do}
 use Rattle.gmpl_forms.specs.declared.variable.Variable.{Variable}
 use Rattle.gmpl_forms.specs.Linear.{linear}
 use Rattle.gmpl_operations.specs.declared.value.Value.{Value}
 use Rattle.gmpl_operations.specs.declared.value.Value.TheVariants.{Scalar, Elements, Linear}
-use Rattle.gmpl_operations.specs.Values.{set_in}
+use Rattle.gmpl_operations.specs.Values.{set_in, of_number}
 use Rattle.gmpl_meaning.specs.declared.bounds.Bounds.{Bounds}
 use Rattle.gmpl_meaning.specs.declared.walk.Walk.{Walk}
 use Rattle.gmpl_meaning.specs.Parts.{Bindings, Demanding, Meant}
@@ -46,6 +51,41 @@ variable place subscripts = record { statement = place; subscripts = subscripts 
 
 abbrev pub no_bounds : Bounds
 no_bounds = record { lower = None; upper = None }
+
+-- ---- numbers of a solution
+
+-- without a bound there is no value
+abbrev pub bound_value : Option Rational → Outcome Value
+bound_value None = Err NoValue
+bound_value (Some q) = Ok (of_number q)
+
+-- what is asked of a member of a variable: before `solve` it is its form, and has no suffix
+abbrev pub variable_asked : ℕ → List Symbol → Option Solution → Option Suffix → Bounds → Outcome Value
+variable_asked place subscripts None None bounds = Ok (Linear (linear ((variable place subscripts, one_ℚ) ∷ []) zero_ℚ))
+variable_asked place subscripts None (Some asked) bounds = Err NoValue
+variable_asked place subscripts (Some s) None bounds = Ok (of_number (value_of s (member_named place subscripts)))
+variable_asked place subscripts (Some s) (Some suffix.Value) bounds = Ok (of_number (value_of s (member_named place subscripts)))
+variable_asked place subscripts (Some s) (Some suffix.LowerBound) bounds = bound_value bounds.lower
+variable_asked place subscripts (Some s) (Some suffix.UpperBound) bounds = bound_value bounds.upper
+variable_asked place subscripts (Some s) (Some suffix.LeftOut) bounds = Err NoValue
+
+-- what is asked of a member of a constraint or of an objective, which is its row's
+abbrev pub row_asked : Option Suffix → SolvedRow → Outcome Value
+row_asked None row = Ok (of_number row.value)
+row_asked (Some suffix.Value) row = Ok (of_number row.value)
+row_asked (Some suffix.LowerBound) row = bound_value row.lower
+row_asked (Some suffix.UpperBound) row = bound_value row.upper
+row_asked (Some suffix.LeftOut) row = Err NoValue
+
+-- there is a row for each member of the domain
+abbrev pub row_found : Option Suffix → Option SolvedRow → Outcome Value
+row_found asked None = Err OutOfDomain
+row_found asked (Some row) = row_asked asked row
+
+-- before `solve` there is none
+abbrev pub row_member : Option Solution → ℕ → Option Suffix → List Symbol → Outcome Value
+row_member None place asked subscripts = Err NoValue
+row_member (Some s) place asked subscripts = row_found asked (row_of s (member_named place subscripts))
 
 module _ (model : LoadedModel) (demand : Demanding) where
   abbrev pub value_at : Bindings → Expr → Outcome Value
@@ -105,19 +145,20 @@ module _ (model : LoadedModel) (demand : Demanding) where
   abbrev pub variable_bounds : Declaration → List Symbol → Outcome Bounds
   variable_bounds d subscripts = then_do (bounds_within d) (domain_of d subscripts)
 
-  abbrev pub variable_member : ℕ → Declaration → List Symbol → Outcome Value
-  variable_member place d subscripts = then_do (λ _. Ok (Linear (linear ((variable place subscripts, one_ℚ) ∷ []) zero_ℚ))) (variable_bounds d subscripts)
+  abbrev pub variable_member : ℕ → Declaration → Option Suffix → List Symbol → Outcome Value
+  variable_member place d asked subscripts = then_do (variable_asked place subscripts model.solution asked) (variable_bounds d subscripts)
 
-  -- constraints and objectives have no value before `solve`
-  abbrev pub member_of : ℕ → Statement → List Symbol → Outcome Value
-  member_of place (statement.Set d) subscripts = set_member place d subscripts
-  member_of place (statement.Param d) subscripts = param_member place d subscripts
-  member_of place (statement.Var d) subscripts = variable_member place d subscripts
-  member_of place _ subscripts = Err NoValue
+  -- no suffix stands behind a set or a parameter
+  abbrev pub member_of : ℕ → Statement → Option Suffix → List Symbol → Outcome Value
+  member_of place (statement.Set d) asked subscripts = set_member place d subscripts
+  member_of place (statement.Param d) asked subscripts = param_member place d subscripts
+  member_of place (statement.Var d) asked subscripts = variable_member place d asked subscripts
+  member_of place (statement.Constraint c) asked subscripts = row_member model.solution place asked subscripts
+  member_of place (statement.Objective o) asked subscripts = row_member model.solution place asked subscripts
 
-  abbrev pub declared : ℕ → Option Numbered → List Symbol → Outcome Value
-  declared place None subscripts = Err NoValue
-  declared place (Some x) subscripts = member_of place x.statement subscripts
+  abbrev pub declared : ℕ → Option Numbered → Option Suffix → List Symbol → Outcome Value
+  declared place None asked subscripts = Err NoValue
+  declared place (Some x) asked subscripts = member_of place x.statement asked subscripts
 
   abbrev pub bounds_of : Statement → List Symbol → Outcome Bounds
   bounds_of (statement.Var d) subscripts = variable_bounds d subscripts
@@ -129,14 +170,18 @@ module _ (model : LoadedModel) (demand : Demanding) where
 
 -- a member with so many members left in the chain: Depth before anything of it is evaluated
 unfoldable pub member : LoadedModel → ℕ → Demanding
-member model zero place subscripts = Err Depth
-member model (suc height) place subscripts = declared model (member model height) place (statement_at model place) subscripts
+member model zero place asked subscripts = Err Depth
+member model (suc height) place asked subscripts = declared model (member model height) place (statement_at model place) asked subscripts
 
 -- ---- what is asked of a model with its data
 
 -- an expression, where the indices in scope have these values
 abbrev pub evaluated : LoadedModel → Expr → Bindings → Outcome Value
 evaluated model x b = (meaning model.statements (member model most_height) x).value b
+
+-- a member of an object, the first in the chain of demands
+abbrev pub member_at : LoadedModel → ℕ → List Symbol → Outcome Value
+member_at model place subscripts = member model most_height place None subscripts
 
 -- what a domain goes over: without a domain, once
 abbrev pub elements_of : LoadedModel → Option Indexing → Bindings → Walk

@@ -1,6 +1,7 @@
 -- What the parts of an expression mean: what each comes to where the indices in scope have these values.
 use Rattle.std.specs.Prelude.{ℕ, Bool, true, false, Option, Some, None, List, [], ◌∷◌}
 use Rattle.gmpl_syntax.specs.declared.expression.Operator.{Operator}
+use Rattle.gmpl_syntax.specs.declared.expression.Suffix.{Suffix}
 use Rattle.gmpl_value.specs.declared.symbol.Symbol.{Symbol}
 use Rattle.gmpl_fault.specs.Outcome.{Outcome}
 use Rattle.gmpl_operations.specs.declared.value.Value.{Value}
@@ -12,9 +13,9 @@ Bindings = List Symbol
 abbrev pub Meaning : Type 0
 Meaning = Bindings → Outcome Value
 
--- what a member comes to, by the place of its object and its subscripts
+-- what a member comes to, or the number of its that a suffix asks for, by the place of its object and its subscripts
 abbrev pub Demanding : Type 0
-Demanding = ℕ → List Symbol → Outcome Value
+Demanding = ℕ → Option Suffix → List Symbol → Outcome Value
 
 -- an expression: whether it is a set, and what it comes to
 pub record Meant : Type 0 where

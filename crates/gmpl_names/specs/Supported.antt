@@ -1,13 +1,14 @@
--- What of the language is supported so far. What is left out for good is `LeftOut` in the trees.
-use Rattle.std.specs.Prelude.{Bool, true, false, Option, Some, None}
+-- What of the language is supported: all functions and suffixes but those that are `LeftOut` in the trees.
+use Rattle.std.specs.Prelude.{Bool, true, false, Option, Some}
 use Rattle.gmpl_syntax.specs.declared.expression.Function.{Function}
 use Rattle.gmpl_syntax.specs.declared.expression.Function.TheVariants as f
 use Rattle.gmpl_syntax.specs.declared.expression.Suffix.{Suffix}
+use Rattle.gmpl_syntax.specs.declared.expression.Suffix.TheVariants as suffix
 
 abbrev pub supports_function : Function → Bool
 supports_function f.LeftOut = false
 supports_function _ = true
 
 abbrev pub supports_suffix : Option Suffix → Bool
-supports_suffix None = true
-supports_suffix (Some suffix) = false
+supports_suffix (Some suffix.LeftOut) = false
+supports_suffix _ = true

@@ -46,7 +46,10 @@ pub(crate) fn supports_function(function: Function) -> bool
 fn supports_suffix(suffix: Option<Suffix>) -> bool
     ensures { result ≡ supported.supports_suffix suffix }
 {
-    suffix.is_none()
+    match suffix {
+        Some(Suffix::LeftOut) => false,
+        _ => true,
+    }
 }
 
 /// A name with its subscripts and its suffix.

@@ -13,7 +13,9 @@ use Rattle.gmpl_syntax.specs.declared.statement.Constraint.{Constraint}
 use Rattle.gmpl_syntax.specs.declared.statement.Objective.{Objective}
 use Rattle.gmpl_syntax.specs.declared.statement.Direction.{Direction}
 use Rattle.gmpl_syntax.specs.declared.statement.Direction.TheVariants as direction
+use Rattle.gmpl_syntax.specs.declared.statement.TableOutput.{TableOutput}
 use Rattle.gmpl_syntax.specs.declared.statement.Action.{Action}
+use Rattle.gmpl_syntax.specs.declared.statement.Action.TheVariants as a
 use Rattle.gmpl_syntax.specs.declared.statement.Statement.{Statement}
 use Rattle.gmpl_syntax.specs.declared.statement.Statement.TheVariants as s
 use Rattle.gmpl_syntax.specs.declared.statement.Numbered.{Numbered}
@@ -41,7 +43,8 @@ use Rattle.gmpl_rows.specs.Premises.{IsName}
 use Rattle.gmpl_object_names.proofs.NamedTokens.{HasText, AreNamed}
 use Rattle.gmpl_object_names.proofs.KeptTokens.{Kept, Left, Keeps, then_left, made_left, next_kept, after_kept, either_rule, either_left, given_left, expect_keeps, optional_keeps}
 use Rattle.gmpl_object_names.proofs.ExpressionTokens.{number_keeps, expression_keeps, indexing_expression_keeps}
-use Rattle.gmpl_object_names.proofs.ActionTokens.{IsAction, action_is_action}
+use Rattle.gmpl_object_names.proofs.TableTokens.{titled_name_keeps, table_output_keeps}
+use Rattle.gmpl_object_names.proofs.ActionTokens.{action_keeps}
 use Rattle.gmpl_object_names.proofs.Heads.{HeadThen, HeadsThen, heads_then, heads_more}
 
 -- ---- a value of which something holds, with names behind it that are names
@@ -209,6 +212,10 @@ told_as : {A : Type 0} (P : A → Type 0) (make : A → Statement) (outcome : Ou
 told_as P make (Ok r) h f = f r.0 r.1 h.0 h.1
 told_as P make (Err fault) h f = tt
 
+then_read : {A : Type 0} (outcome : Outcome A) (go : A → Rule Statement) → Left outcome → ((a : A) (j : Input) → Kept j → IsRead (go a j)) → IsRead (and_then outcome go)
+then_read (Ok r) go h f = f r.0 r.1 h
+then_read (Err fault) go h f = tt
+
 -- where nothing is said of it
 then_any : {A : Type 0} (outcome : Outcome A) (go : A → Rule Statement) → ((a : A) (j : Input) → IsRead (go a j)) → IsRead (and_then outcome go)
 then_any (Ok r) go f = f r.0 r.1
@@ -218,13 +225,17 @@ read_table_is_read : (depth : ℕ) (solved : Bool) (said : List ℕ) (i : Input)
 unfolding read_table
 read_table_is_read depth solved said i = then_any (input_word solved i) _ (λ _ j. then_any (table_input depth said j) _ (λ _ _. tt))
 
-table_by_is_read : (depth : ℕ) (solved : Bool) (said : List ℕ) (kind : Option TokenKind) (i : Input) → IsRead (table_by depth solved said kind i)
-table_by_is_read depth solved said (Some k.OpenBrace) i = then_any (table_output depth said i) _ (λ _ _. tt)
-table_by_is_read depth solved said _ i = read_table_is_read depth solved said i
+written_told : (outcome : Outcome TableOutput) → Left outcome → IsRead (and_then outcome (λ x. pure (s.Action (a.TableOutput x))))
+written_told (Ok r) h = h
+written_told (Err fault) h = tt
 
-table_is_read : (depth : ℕ) (solved : Bool) (i : Input) → IsRead (table depth solved i)
+table_by_is_read : (depth : ℕ) (solved : Bool) (said : List ℕ) (kind : Option TokenKind) (i : Input) → Kept i → IsRead (table_by depth solved said kind i)
+table_by_is_read depth solved said (Some k.OpenBrace) i h = written_told (table_output depth said i) (table_output_keeps depth said i h)
+table_by_is_read depth solved said _ i h = read_table_is_read depth solved said i
+
+table_is_read : (depth : ℕ) (solved : Bool) (i : Input) → Kept i → IsRead (table depth solved i)
 unfolding table
-table_is_read depth solved i = then_any (titled_name i) _ (λ said j. table_by_is_read depth solved said (kind j) j)
+table_is_read depth solved i h = then_read (titled_name i) _ (titled_name_keeps i h) (λ said j kept. table_by_is_read depth solved said (kind j) j kept)
 
 solve_told : (outcome : Outcome (Unit {0})) → Left outcome → IsRead (and_then outcome (λ _. pure s.Solve))
 solve_told (Ok r) h = h
@@ -234,12 +245,12 @@ solve_is_read : (i : Input) → Kept i → IsRead (solve i)
 unfolding solve
 solve_is_read i h = solve_told (expect k.Semicolon i) (expect_keeps k.Semicolon i h)
 
-action_told : (outcome : Outcome Action) → IsAction outcome → IsRead (and_then outcome (λ a. pure (s.Action a)))
+action_told : (outcome : Outcome Action) → Left outcome → IsRead (and_then outcome (λ a. pure (s.Action a)))
 action_told (Ok r) h = h
 action_told (Err fault) h = tt
 
 action_is_read : (depth : ℕ) (i : Input) → Kept i → IsRead (and_then (action depth i) (λ a. pure (s.Action a)))
-action_is_read depth i h = action_told (action depth i) (action_is_action depth i h)
+action_is_read depth i h = action_told (action depth i) (action_keeps depth i h)
 
 set_is_read : (depth : ℕ) (i : Input) → Kept i → IsRead (and_then (declaration depth declared.Set (next i)) (λ d. pure (s.Set d)))
 set_is_read depth i h = told_as DeclarationIsNamed s.Set (declaration depth declared.Set (next i)) (declaration_gives depth declared.Set (next i) (next_kept i h)) (λ _ _ is kept. (is, kept))
@@ -267,7 +278,7 @@ statement_by_is_read depth false b.Name i h = constraint_is_read (constraint dep
 statement_by_is_read depth false b.Minimize i h = objective_is_read (objective depth direction.Minimize (next i)) (objective_gives depth direction.Minimize (next i) (next_kept i h))
 statement_by_is_read depth false b.Maximize i h = objective_is_read (objective depth direction.Maximize (next i)) (objective_gives depth direction.Maximize (next i) (next_kept i h))
 statement_by_is_read depth false b.Solve i h = solve_is_read (next i) (next_kept i h)
-statement_by_is_read depth solved b.Table i h = table_is_read depth solved (next i)
+statement_by_is_read depth solved b.Table i h = table_is_read depth solved (next i) (next_kept i h)
 statement_by_is_read depth solved b.Check i h = action_is_read depth i h
 statement_by_is_read depth solved b.Display i h = action_is_read depth i h
 statement_by_is_read depth solved b.Printf i h = action_is_read depth i h

@@ -1,29 +1,8 @@
 -- What holds of the names in the heads of statements, as far as statements declare.
 use Rattle.std.proofs.Common.{ℕ, List, [], ◌∷◌, ◌++◌}
-use Rattle.gmpl_syntax.specs.declared.statement.Action.{Action}
-use Rattle.gmpl_syntax.specs.declared.statement.Action.TheVariants as a
 use Rattle.gmpl_syntax.specs.declared.statement.Statement.{Statement}
 use Rattle.gmpl_syntax.specs.declared.statement.Statement.TheVariants as s
 use Rattle.gmpl_syntax.specs.declared.statement.Numbered.{Numbered}
-
--- what is said of what stands behind a check; behind another action, which is refused, nothing
-abbrev pub CheckThen : Action → Type 0 → Type 0
-CheckThen (a.Check domain condition) behind = behind
-CheckThen _ behind = Unit {0}
-
-pub check_then : (x : Action) (A B : Type 0) → (A → B) → CheckThen x A → CheckThen x B
-check_then (a.Check domain condition) A B f h = f h
-check_then (a.Display domain items) A B f h = tt
-check_then (a.Printf domain arguments file) A B f h = tt
-check_then (a.TableOutput table) A B f h = tt
-check_then _ A B f h = tt
-
-pub check_then_any : (x : Action) (behind : Type 0) → behind → CheckThen x behind
-check_then_any (a.Check domain condition) behind h = h
-check_then_any (a.Display domain items) behind h = tt
-check_then_any (a.Printf domain arguments file) behind h = tt
-check_then_any (a.TableOutput table) behind h = tt
-check_then_any _ behind h = tt
 
 module _ (P : List ℕ → Type 0) where
   -- the name of its head where it declares an object, and what is said of what stands behind it; nothing, where it is refused
@@ -33,7 +12,7 @@ module _ (P : List ℕ → Type 0) where
   HeadThen (s.Var declaration) behind = P declaration.head.name × behind
   HeadThen (s.Constraint constraint) behind = P constraint.head.name × behind
   HeadThen (s.Objective objective) behind = P objective.head.name × behind
-  HeadThen (s.Action action) behind = CheckThen action behind
+  HeadThen (s.Action action) behind = behind
   HeadThen s.Solve behind = behind
   HeadThen s.Data behind = behind
   HeadThen _ behind = Unit {0}
@@ -50,7 +29,7 @@ module _ (P : List ℕ → Type 0) where
   head_then (s.Objective objective) A B f h = (h.0, f h.1)
   head_then (s.TableInput table) A B f h = tt
   head_then s.Solve A B f h = f h
-  head_then (s.Action action) A B f h = check_then action A B f h
+  head_then (s.Action action) A B f h = f h
   head_then s.Data A B f h = f h
 
   pub heads_then : (xs : List Numbered) (A B : Type 0) → (A → B) → HeadsThen xs A → HeadsThen xs B

@@ -3,6 +3,7 @@ mod NamedTokens
 mod LexedNames
 mod KeptTokens
 mod ExpressionTokens
+mod TableTokens
 mod ActionTokens
 mod HeadNames
 mod ResolvedNames

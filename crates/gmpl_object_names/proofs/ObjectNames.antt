@@ -12,7 +12,6 @@ use Rattle.gmpl_syntax.specs.declared.statement.Statements.{Statements}
 use Rattle.gmpl_statements.specs.Statements.{statements_of}
 use Rattle.gmpl_resolved.specs.declared.statement.Statement.{Statement as ResolvedStatement}
 use Rattle.gmpl_names.specs.Names.{Name}
-use Rattle.gmpl_statement_names.specs.declared.resolved.Resolved.{Resolved}
 use Rattle.gmpl_statement_names.specs.declared.resolved.Resolved.TheVariants as made
 use Rattle.gmpl_statement_names.specs.Statements.{statement, statements}
 use Rattle.gmpl_statement_kinds.specs.StatementKinds.{judgement}
@@ -21,7 +20,7 @@ use Rattle.gmpl_parse.specs.Models.{unless_bad, model_of, parsed}
 use Rattle.gmpl_rows.specs.declared.declared.Declared.{Declared}
 use Rattle.gmpl_rows.specs.Premises.{AreDifferent, AreObjects, IsName, declared_name}
 use Rattle.gmpl_object_names.specs.Names.{head_of, names_of}
-use Rattle.gmpl_object_names.proofs.Heads.{HeadThen, HeadsThen, check_then_any}
+use Rattle.gmpl_object_names.proofs.Heads.{HeadThen, HeadsThen}
 use Rattle.gmpl_object_names.proofs.LexedNames.{lexed_named}
 use Rattle.gmpl_object_names.proofs.HeadNames.{statements_named}
 use Rattle.gmpl_object_names.proofs.ResolvedNames.{HaveNames, Declares, statement_declares, resolved_named}
@@ -33,7 +32,7 @@ given_where P (Some fault) made model h is = subst (λ (outcome : Result Model S
 
 model_names : (P : List ℕ → Type 0) (found : Statements) (model : Model) → HeadsThen P found.items (Unit {0}) → model_of found ≡ Ok model → HaveNames P model.statements
 model_names P found model heads is =
-    given_where P (judgement (statements found)).fault (record { statements = (statements found).items; checks = (statements found).checks; objects = (judgement (statements found)).objects; data_at = found.data_at }) model (resolved_named P found.items found.fault heads) is
+    given_where P (judgement (statements found)).fault (record { statements = (statements found).items; steps = (statements found).steps; objects = (judgement (statements found)).objects; data_at = found.data_at }) model (resolved_named P found.items found.fault heads) is
 
 -- ---- letters, digits and underscores
 
@@ -51,7 +50,7 @@ any_head (s.Param declaration) behind h = (tt, h)
 any_head (s.Var declaration) behind h = (tt, h)
 any_head (s.Constraint constraint) behind h = (tt, h)
 any_head (s.Objective objective) behind h = (tt, h)
-any_head (s.Action action) behind h = check_then_any action behind h
+any_head (s.Action action) behind h = h
 any_head s.Solve behind h = h
 any_head s.Data behind h = h
 any_head _ behind h = tt

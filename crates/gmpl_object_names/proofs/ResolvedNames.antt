@@ -1,30 +1,30 @@
 -- The second pass keeps the names of heads, and of a name that is there already it makes a fault.
-use Rattle.std.proofs.Common.{◌≡◌, ◌∙◌, ℕ, ◌+◌, Bool, true, false, true≢false, ◌||◌, ◌&&◌, if◌then◌else◌, List, [], ◌∷◌, ◌++◌, Option, Ok, Err, IfOk, refl, ap, sym, subst}
+use Rattle.std.proofs.Common.{◌≡◌, ◌∙◌, ℕ, ◌+◌, Bool, true, false, true≢false, ◌||◌, if◌then◌else◌, List, [], ◌∷◌, ◌++◌, Option, Ok, Err, IfOk, refl, ap, sym, subst}
 use Rattle.std.specs.List.{AllByRecursion}
 use Rattle.std.specs.Str.{bytes_eq}
 use Rattle.std.proofs.lemmas.List.{map-append}
 use Rattle.std.proofs.lemmas.Slice.Eq.{bytes_eq-Decides}
 use Rattle.gmpl_syntax.specs.declared.fault.SyntaxFault.{SyntaxFault}
-use Rattle.gmpl_syntax.specs.declared.fault.SyntaxFaultKind.TheVariants.{Declared as DeclaredAgain, Unsupported}
+use Rattle.gmpl_syntax.specs.declared.fault.SyntaxFaultKind.TheVariants.{Declared as DeclaredAgain}
 use Rattle.gmpl_syntax.specs.declared.statement.Head.{Head}
 use Rattle.gmpl_syntax.specs.declared.statement.Declaration.{Declaration}
 use Rattle.gmpl_syntax.specs.declared.statement.Constraint.{Constraint}
 use Rattle.gmpl_syntax.specs.declared.statement.Objective.{Objective}
-use Rattle.gmpl_syntax.specs.declared.expression.Expr.{Expr}
-use Rattle.gmpl_syntax.specs.declared.expression.Indexing.{Indexing}
-use Rattle.gmpl_syntax.specs.declared.statement.Action.TheVariants as act
+use Rattle.gmpl_syntax.specs.declared.statement.TableInput.{TableInput}
 use Rattle.gmpl_syntax.specs.declared.statement.Statement.{Statement}
 use Rattle.gmpl_syntax.specs.declared.statement.Statement.TheVariants as s
 use Rattle.gmpl_syntax.specs.declared.statement.Numbered.{Numbered}
 use Rattle.gmpl_resolved.specs.declared.statement.Statement.{Statement as ResolvedStatement}
 use Rattle.gmpl_resolved.specs.declared.statement.Statement.TheVariants as rs
+use Rattle.gmpl_resolved.specs.declared.statement.Action.{Action as ResolvedAction}
+use Rattle.gmpl_resolved.specs.declared.statement.Step.TheVariants as step
 use Rattle.gmpl_resolved.specs.declared.statement.Numbered.{Numbered as ResolvedNumbered}
 use Rattle.gmpl_resolved.specs.declared.statement.Statements.{Statements as ResolvedStatements}
 use Rattle.gmpl_names.specs.Names.{Name, has}
-use Rattle.gmpl_names.specs.Expressions.{Outcome, Pass, and_then, beside, expr}
+use Rattle.gmpl_names.specs.Expressions.{Outcome, Pass, pure, and_then, expr}
 use Rattle.gmpl_statement_names.specs.declared.resolved.Resolved.{Resolved}
 use Rattle.gmpl_statement_names.specs.declared.resolved.Resolved.TheVariants as made
-use Rattle.gmpl_statement_names.specs.Statements.{Judged, optional_indexing, optional_side, head, attributes, declaration, constraint, objective, check, alone, declaring, declaring_by, refused, told_as, statement, makes_something, behind_solve, statement_behind, is_solve, none, with_statement, behind, statements_from}
+use Rattle.gmpl_statement_names.specs.Statements.{Judged, optional_indexing, optional_side, head, attributes, declaration, constraint, objective, driver, new_name, optional_name, parameters, table_input, action, alone, declaring, declaring_by, told_as, statement, none, with_statement, behind, statements_from}
 use Rattle.gmpl_rows.specs.Premises.{AreDifferent}
 use Rattle.gmpl_object_names.specs.Names.{head_of, object_name, names_of}
 use Rattle.gmpl_object_names.proofs.Heads.{HeadThen, HeadsThen}
@@ -67,7 +67,7 @@ pub record DeclaresNew (P : List ℕ → Type 0) (rest : Type 0) (objects : List
   pub named : P (head_of x).name
   pub left : rest
 
--- a check declares none, and neither do `solve` and `data`
+-- a statement that is executed declares none, and neither do `solve` and `data`
 pub record DeclaresNone (rest : Type 0) (objects : List Name) (after : List Name) : Type 0 where
   pub names : after ≡ objects
   pub left : rest
@@ -75,7 +75,7 @@ pub record DeclaresNone (rest : Type 0) (objects : List Name) (after : List Name
 module _ (P : List ℕ → Type 0) (rest : Type 0) (objects : List Name) where
   abbrev pub DeclaresBy : Resolved → List Name → Type 0
   DeclaresBy (made.Declaration x) after = DeclaresNew P rest objects x after
-  DeclaresBy (made.Check domain condition) after = DeclaresNone rest objects after
+  DeclaresBy (made.Step step) after = DeclaresNone rest objects after
   DeclaresBy made.Nothing after = DeclaresNone rest objects after
 
   abbrev pub Declares : Resolved × List Name → Type 0
@@ -97,20 +97,24 @@ module _ (P : List ℕ → Type 0) (rest : Type 0) (objects : List Name) where
       → IfOk (told_as make (declaring name pass objects)) Declares
   told make name pass h same = told_where make name pass (has name objects) refl h same
 
-  refused_all : {A : Type 0} (outcome : Outcome A) → IfOk (refused outcome) Declares
-  refused_all (Ok r) = tt
-  refused_all (Err fault) = tt
+  -- ---- a table is refused, and what is executed declares none
 
-  -- ---- a check
+  never_table : (t : TableInput) → IfOk (table_input objects t []) (λ r. ⊥)
+  unfolding table_input
+  never_table t =
+      then_any (new_name objects t.name []) _ _
+      (λ _ a. then_any (driver t.driver a) _ _
+      (λ _ b. then_any (expr objects t.file b) _ _
+      (λ _ c. then_any (optional_name objects t.set c) _ _
+      (λ _ d. then_any (parameters objects t.columns d) _ _ (λ _ _. tt)))))
 
-  check_declares : (domain : Option Indexing) (condition : Expr) → rest → IfOk (check objects domain condition []) (λ r. DeclaresBy r.0 objects)
-  check_declares domain condition h =
-      then_any (optional_indexing objects domain []) _ _
-      (λ _ after. then_any (expr objects condition after) _ _ (λ _ _. record { names = refl; left = h }))
+  never_alone : (outcome : Outcome Resolved) → IfOk outcome (λ r. ⊥) → IfOk (alone objects outcome) Declares
+  never_alone (Ok r) h = absurd h
+  never_alone (Err fault) h = tt
 
-  check_alone : (outcome : Outcome Resolved) → IfOk outcome (λ r. DeclaresBy r.0 objects) → IfOk (alone objects outcome) Declares
-  check_alone (Ok r) h = h
-  check_alone (Err fault) h = tt
+  executed_alone : (outcome : Outcome ResolvedAction) → rest → IfOk (alone objects (and_then outcome (λ x. pure (made.Step (step.Action x))))) Declares
+  executed_alone (Ok r) h = record { names = refl; left = h }
+  executed_alone (Err fault) h = tt
 
   pub statement_declares : (x : Statement) → HeadThen P x rest → IfOk (statement x objects) Declares
   statement_declares (s.Set d) h = told rs.Set d.head.name (λ os. declaration os d) h (λ os. declaration_kept os d [])
@@ -118,22 +122,10 @@ module _ (P : List ℕ → Type 0) (rest : Type 0) (objects : List Name) where
   statement_declares (s.Var d) h = told rs.Var d.head.name (λ os. declaration os d) h (λ os. declaration_kept os d [])
   statement_declares (s.Constraint x) h = told rs.Constraint x.head.name (λ os. constraint os x) h (λ os. constraint_kept os x [])
   statement_declares (s.Objective x) h = told rs.Objective x.head.name (λ os. objective os x) h (λ os. objective_kept os x [])
-  statement_declares (s.TableInput t) h = refused_all _
+  statement_declares (s.TableInput t) h = never_alone (table_input objects t []) (never_table t)
   statement_declares s.Solve h = record { names = refl; left = h }
-  statement_declares (s.Action (act.Check domain condition)) h = check_alone (check objects domain condition []) (check_declares domain condition h)
-  statement_declares (s.Action (act.Display domain items)) h = refused_all _
-  statement_declares (s.Action (act.Printf domain arguments file)) h = refused_all _
-  statement_declares (s.Action (act.TableOutput table)) h = refused_all _
-  statement_declares (s.Action _) h = refused_all _
+  statement_declares (s.Action x) h = executed_alone (action objects x []) h
   statement_declares s.Data h = record { names = refl; left = h }
-
-  unless_declares : (refused : Bool) (r : Resolved × List Name) → Declares r → IfOk (beside (if refused then Err Unsupported else Ok r.0) r.1) Declares
-  unless_declares true r h = tt
-  unless_declares false r h = h
-
-  behind_solve_declares : (solved : Bool) (outcome : Judged Resolved) → IfOk outcome Declares → IfOk (behind_solve solved outcome) Declares
-  behind_solve_declares solved (Ok r) h = unless_declares (solved && makes_something r.0) r h
-  behind_solve_declares solved (Err fault) h = tt
 
 -- ---- one more name that is new
 
@@ -183,10 +175,10 @@ module _ (P : List ℕ → Type 0) where
       → names_of found.items ≡ objects → HaveNames P found.items → DeclaresBy P rest objects x after → Goes rest go
       → HaveNames P (go (with_statement found number line x) after).items
   one_statement found objects number line rest (made.Declaration x) after go same named declares then_all =
-      let more = one_declaration found objects (record { checks = found.checks; number = number; line = line; statement = x }) after rest same named declares in
+      let more = one_declaration found objects (record { steps = found.steps; number = number; line = line; statement = x }) after rest same named declares in
       then_all (with_statement found number line (made.Declaration x)) after more.0 more.1 declares.left
-  one_statement found objects number line rest (made.Check domain condition) after go same named declares then_all =
-      then_all (with_statement found number line (made.Check domain condition)) after (same ∙ sym declares.names) named declares.left
+  one_statement found objects number line rest (made.Step x) after go same named declares then_all =
+      then_all (with_statement found number line (made.Step x)) after (same ∙ sym declares.names) named declares.left
   one_statement found objects number line rest made.Nothing after go same named declares then_all = then_all found after (same ∙ sym declares.names) named declares.left
 
   one_more : (found : ResolvedStatements) (objects : List Name) (number line : ℕ) (rest : Type 0) (judged : Judged Resolved) (go : ResolvedStatements → List Name → ResolvedStatements)
@@ -195,13 +187,13 @@ module _ (P : List ℕ → Type 0) where
   one_more found objects number line rest (Ok r) go same named declares then_all = one_statement found objects number line rest r.0 r.1 go same named declares then_all
   one_more found objects number line rest (Err kind) go same named declares then_all = named
 
-  all_named : (found : ResolvedStatements) (count : ℕ) (solved : Bool) (objects : List Name) (xs : List Numbered) (fault : Option SyntaxFault) → names_of found.items ≡ objects → HaveNames P found.items → HeadsThen P xs (Unit {0})
-      → HaveNames P (statements_from found count solved objects xs fault).items
-  all_named found count solved objects [] fault same named heads = named
-  all_named found count solved objects (x ∷ xs) fault same named heads =
-      one_more found objects (count + 1) x.line (HeadsThen P xs (Unit {0})) (statement_behind solved x.statement objects) (λ more os. statements_from more (count + 1) (solved || is_solve x.statement) os xs fault) same named
-      (behind_solve_declares P (HeadsThen P xs (Unit {0})) objects solved (statement x.statement objects) (statement_declares P (HeadsThen P xs (Unit {0})) objects x.statement heads))
-      (λ more os same_names now left. all_named more (count + 1) (solved || is_solve x.statement) os xs fault same_names now left)
+  all_named : (found : ResolvedStatements) (count : ℕ) (objects : List Name) (xs : List Numbered) (fault : Option SyntaxFault) → names_of found.items ≡ objects → HaveNames P found.items → HeadsThen P xs (Unit {0})
+      → HaveNames P (statements_from found count objects xs fault).items
+  all_named found count objects [] fault same named heads = named
+  all_named found count objects (x ∷ xs) fault same named heads =
+      one_more found objects (count + 1) x.line (HeadsThen P xs (Unit {0})) (statement x.statement objects) (λ more os. statements_from more (count + 1) os xs fault) same named
+      (statement_declares P (HeadsThen P xs (Unit {0})) objects x.statement heads)
+      (λ more os same_names now left. all_named more (count + 1) os xs fault same_names now left)
 
-  pub resolved_named : (xs : List Numbered) (fault : Option SyntaxFault) → HeadsThen P xs (Unit {0}) → HaveNames P (statements_from none 0 false [] xs fault).items
-  resolved_named xs fault heads = all_named none 0 false [] xs fault refl (record { names = tt; differ = tt }) heads
+  pub resolved_named : (xs : List Numbered) (fault : Option SyntaxFault) → HeadsThen P xs (Unit {0}) → HaveNames P (statements_from none 0 [] xs fault).items
+  resolved_named xs fault heads = all_named none 0 [] xs fault refl (record { names = tt; differ = tt }) heads

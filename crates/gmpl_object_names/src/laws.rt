@@ -16,7 +16,7 @@ ghost use Rattle.gmpl_object_names.specs.Names.{head_of, names_of};
 /// The objects that the statements of a model declare have names of letters, digits and underscores, where the model is read from
 /// the tokens of a text. No two of a model have the same name, whatever its tokens. The object that a statement declares comes
 /// behind those that were declared before it, so that its place is that of the statement among those that declare.
-#[tactic(auto, using(crate::proofs::ObjectNames::are_names, crate::proofs::ObjectNames::differ, crate::proofs::ObjectNames::are_objects, crate::proofs::ObjectNames::comes_last))]
+#[tactic(auto, using(crate::proofs::ObjectNames::are_names, crate::proofs::ObjectNames::differ, crate::proofs::ObjectNames::are_objects))]
 pub fn objects_have_names()
     ensures names { (text : List ℕ) (model : Model) → parsed (tokens_of text) ≡ Ok model → AllByRecursion IsName (names_of model.statements) }
     ensures differ { (tokens : Tokens) (model : Model) → parsed tokens ≡ Ok model → AreDifferent (names_of model.statements) }

@@ -17,7 +17,7 @@ unless_bad (Some fault) model = Err fault
 
 -- the statements that the first pass found, judged by the two passes behind it
 abbrev pub model_of : Statements → Result Model SyntaxFault
-model_of found = unless_bad (judgement (statements found)).fault (record { statements = (statements found).items; checks = (statements found).checks; objects = (judgement (statements found)).objects; data_at = found.data_at })
+model_of found = unless_bad (judgement (statements found)).fault (record { statements = (statements found).items; steps = (statements found).steps; objects = (judgement (statements found)).objects; data_at = found.data_at })
 
 -- the model that the tokens of a text make, or its first fault
 abbrev pub parsed : Tokens → Result Model SyntaxFault
@@ -25,17 +25,21 @@ parsed tokens = model_of (statements_of tokens)
 
 -- ---- the first fault, pass by pass
 
+abbrev pub or_else : Option SyntaxFault → Option SyntaxFault → Option SyntaxFault
+or_else (Some fault) other = Some fault
+or_else None other = other
+
 abbrev pub fault_of : Result Model SyntaxFault → Option SyntaxFault
 fault_of (Ok model) = None
 fault_of (Err fault) = Some fault
 
 -- the fault that the second pass finds among the statements before the first bad one of the first pass
 abbrev pub own_of_names : Statements → Option SyntaxFault
-own_of_names found = (statements_from none 0 false [] found.items None).fault
+own_of_names found = (statements_from none 0 [] found.items None).fault
 
 -- the fault that the third pass finds among the statements before the first bad one of the second pass
 abbrev pub own_of_kinds : Statements → Option SyntaxFault
-own_of_kinds found = (judged_from [] (statements found).items (statements found).checks None).fault
+own_of_kinds found = (judged_from [] false (statements found).items (statements found).steps None).fault
 
 -- the code and the definition go the same way; want of memory is free
 abbrev pub IsOutcome : Result Model SyntaxFault → Result Model ParseError → Type 0

@@ -1,6 +1,6 @@
 // A model, and why there is none.
 use gmpl_kinds::Object;
-use gmpl_resolved::{Check, Numbered};
+use gmpl_resolved::{Numbered, NumberedStep};
 use gmpl_syntax::SyntaxFault;
 use sqlite_items::Items;
 use std::alloc::AllocError;
@@ -8,10 +8,10 @@ use std::alloc::AllocError;
 /// A model, with its names resolved.
 #[derive(Drop)]
 pub struct Model {
-    /// The statements that declare in order, each behind its checks.
+    /// The statements that declare in order, each behind the steps before it.
     pub statements: Items<Numbered>,
-    /// The checks behind the last of them.
-    pub checks: Items<Check>,
+    /// The steps behind the last of them.
+    pub steps: Items<NumberedStep>,
     /// The objects that they declare, one each.
     pub objects: Items<Object>,
     /// Where a data section stands behind the model: the place of the semicolon before it.

@@ -19,7 +19,7 @@ pub fn model_of(alloc: Global, found: &Statements) -> Result<Model, ParseError>
         Some(fault) => Err(ParseError::Fault(fault)),
         None => Ok(Model {
             statements: resolved.items,
-            checks: resolved.checks,
+            steps: resolved.steps,
             objects: judgement.objects,
             data_at: found.data_at,
         }),

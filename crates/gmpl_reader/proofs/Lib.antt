@@ -1,2 +1,3 @@
 pub mod Names
 pub mod Given
+pub mod Readings

@@ -1,5 +1,5 @@
 -- The names of what statements declare.
-use Rattle.std.proofs.Common.{◌≡◌, ℕ, List, [], ◌∷◌, map, Ok, Result, refl, ap, subst}
+use Rattle.std.proofs.Common.{◌≡◌, ℕ, List, [], ◌∷◌, map, Ok, Result, refl, subst}
 use Rattle.gmpl_token.specs.Token.{Tokens}
 use Rattle.gmpl_lexer.specs.Tokens.{tokens_of}
 use Rattle.gmpl_syntax.specs.declared.fault.SyntaxFault.{SyntaxFault}
@@ -10,12 +10,10 @@ use Rattle.gmpl_resolved.specs.declared.statement.Statement.{Statement}
 use Rattle.gmpl_resolved.specs.declared.statement.Statement.TheVariants as s
 use Rattle.gmpl_rows.specs.declared.declared.Declared.{Declared}
 use Rattle.gmpl_rows.specs.Premises.{AreObjects, declared_name}
-use Rattle.milp.specs.Problem.{Problem}
 use Rattle.gmpl_load.specs.Tables.{Tables}
-use Rattle.gmpl_generate.specs.declared.fault.ModelFault.{ModelFault}
-use Rattle.gmpl_generate.specs.Problem.{all_declared, declared_at, declared_by, generated}
+use Rattle.gmpl_generate.specs.Problem.{all_declared, declared_at, declared_by}
 use Rattle.gmpl_object_names.specs.Names.{names_of, head_of}
-use Rattle.gmpl_reader.specs.MathProg.{loaded, model_in, executed, of_execution}
+use Rattle.gmpl_reader.specs.MathProg.{loaded, model_in}
 
 same_name : (x : Statement) → declared_name (declared_by x) ≡ (head_of x).name
 same_name (s.Set d) = refl
@@ -41,8 +39,3 @@ module _ (text : List ℕ) (tokens : Tokens) (is : tokens ≡ tokens_of text) wh
   pub is_model : (r : Result Parsed SyntaxFault) → parsed tokens ≡ r → model_in text ≡ r
   unfolding model_in
   is_model r read = subst (λ ts. parsed ts ≡ r) is read
-
--- a model with these data is executed as this
-pub is_executed : (model : Parsed) (tables : Tables) (r : Result Problem ModelFault) → generated (loaded model tables) ≡ r → executed model tables ≡ of_execution r
-unfolding executed
-is_executed model tables r e = ap of_execution e

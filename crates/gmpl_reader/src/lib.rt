@@ -1,4 +1,4 @@
-//! Reads MathProg texts with their data.
+//! Reads MathProg texts with their data: the problems that they declare, and what they print.
 #![tactic(auto)]
 
 mod data;
@@ -6,4 +6,5 @@ mod fault;
 mod read;
 
 pub use fault::MathProgFault;
-pub use read::read_math_prog;
+pub use gmpl_generate::Afterwards;
+pub use read::{Reading, ReadingEnd, Rest, after_solve, read_math_prog};

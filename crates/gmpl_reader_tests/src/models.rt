@@ -49,7 +49,8 @@ model fault: statement 3, line 1: Depth => param f{n in 0..400} := if n = 0 then
 model fault: statement 4, line 1: Depth => param a := a; var x >= 0; minimize z: x; s.t. r: x >= a; end;
 min obj + 0 | => set A := 1..20000; check: card({i in A: i in A}) = 20000; end;
 model fault: statement 2, line 1: Depth => param p := p; check: p = 1; end;
-syntax fault: statement 3, line 1: Unsupported => check: 1 = 1; solve; printf 'x'; end;
+syntax fault: statement 3, line 1: Unsupported => check: 1 = 1; solve; printf 'x' > 'f'; end;
+min obj + 0 | => check: 1 = 1; solve; check: 1 = 2; end;
 min obj + 0; r[a] 3.. 1*x[a]; r['b c'] 4.. 1*x['b c'] |; x[a] 0..5; x['b c'] 0..6 => set S; param p{S}; param u{S} default 5; var x{s in S} >= 0, <= u[s]; s.t. r{s in S}: x[s] >= p[s]; data; set S := a 'b c'; param p := a 3 'b c' 4; param u := ['b c'] 6; end;
 min obj + 0; r 8.. 1*x |; x .. => set E dimen 2; param w{E}; var x; s.t. r: x >= sum{(i,j) in E} w[i,j]; data; param : E : w := 1 2 3, 2 1 5; end;
 min obj + 0; r 2.. 1*x |; x .. => param n, integer, > 0; set S{1..n}; var x; s.t. r: x >= sum{i in 1..n} card(S[i] inter 1..2); solve; data; param n := 2; set S[1] := 1 5; set S[2] := 2 7; end;
@@ -95,8 +96,8 @@ fn problems_of_models(rt: HostRuntime) -> Result<(), Fail> {
 fn numbers_are_exact(rt: HostRuntime) -> Result<(), Fail> {
     let alloc = rt.alloc();
     for text in EXACT.lines() {
-        let found = answer(alloc, text)?;
-        assert_eq!(rt; found.as_str(), "min obj + 0 |", "at {text}");
+        let found = answer(alloc, text, "|")?;
+        assert_eq!(rt; found.end.as_str(), "min obj + 0 |", "at {text}");
     }
     Ok(())
 }

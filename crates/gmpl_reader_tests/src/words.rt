@@ -1,6 +1,6 @@
 // How the tables write problems and faults.
 use fraction::Frac;
-use gmpl_reader::{MathProgFault, read_math_prog};
+use gmpl_reader::{MathProgFault, Reading, ReadingEnd, read_math_prog};
 use instance::{Column, Direction, Entry, Instance, Name, Row};
 use model_text::ReadError;
 use solution_writer::{Fault, fault_line};
@@ -116,36 +116,55 @@ fn told<'a>(name: &'a Name, fault: Option<MathProgFault>) -> Fault<'a> {
     }
 }
 
-fn fault_word(alloc: Global, fault: MathProgFault) -> Result<String, AllocError> {
+pub(crate) fn fault_word(alloc: Global, fault: MathProgFault) -> Result<String, AllocError> {
     let name = Name::new(alloc, "text")?;
     let line = fault_line(alloc, &told(&name, Some(fault)))?;
     line.as_str().trim().to_string(alloc)
 }
 
-// The problem of a text, or why there is none.
-fn answer_word(
+fn end_word(alloc: Global, end: ReadingEnd) -> Result<String, AllocError> {
+    match end {
+        ReadingEnd::Problem(problem, _rest) => problem_word(alloc, &problem),
+        ReadingEnd::Fault(fault) => fault_word(alloc, MathProgFault::Model(fault)),
+    }
+}
+
+/// What a text prints, and its problem or why there is none.
+#[derive(Drop)]
+pub(crate) struct Outcome {
+    pub(crate) printed: String,
+    pub(crate) end: String,
+}
+
+fn answer_of(
     alloc: Global,
-    answer: Result<Instance, ReadError<MathProgFault>>,
-) -> Result<String, AllocError> {
+    answer: Result<Reading, ReadError<MathProgFault>>,
+) -> Result<Outcome, AllocError> {
     match answer {
-        Ok(problem) => problem_word(alloc, &problem),
-        Err(ReadError::Fault(fault)) => fault_word(alloc, fault),
-        Err(ReadError::NoMemory) => "no memory".to_string(alloc),
+        Ok(reading) => Ok(Outcome {
+            printed: reading.printed,
+            end: end_word(alloc, reading.end)?,
+        }),
+        Err(ReadError::Fault(fault)) => Ok(Outcome {
+            printed: String::new(alloc),
+            end: fault_word(alloc, fault)?,
+        }),
+        Err(ReadError::NoMemory) => Err(AllocError),
     }
 }
 
 // ---- rows
 
-// A text of a row, with its line ends.
-fn with_lines(alloc: Global, text: &str) -> Result<Vec<u8>, AllocError> {
-    Ok(text.replace(alloc, "|", "\n")?.into_bytes())
+// A text of a row, with a line end for each mark.
+fn with_lines(alloc: Global, text: &str, mark: &str) -> Result<Vec<u8>, AllocError> {
+    Ok(text.replace(alloc, mark, "\n")?.into_bytes())
 }
 
 // The files behind a model.
-fn files_in(alloc: Global, texts: &str) -> Result<Vec<Vec<u8>>, AllocError> {
+fn files_in(alloc: Global, texts: &str, mark: &str) -> Result<Vec<Vec<u8>>, AllocError> {
     let mut files = Vec::new(alloc);
     for text in texts.split(" <-").skip(1) {
-        files.push(with_lines(alloc, text)?)?;
+        files.push(with_lines(alloc, text, mark)?)?;
     }
     Ok(files)
 }
@@ -157,22 +176,32 @@ fn model_in(texts: &str) -> &str {
     }
 }
 
-/// The problem of a model with its files of data, or why there is none.
-pub(crate) fn answer(alloc: Global, texts: &str) -> Result<String, AllocError> {
-    let model = with_lines(alloc, model_in(texts))?;
-    let files = files_in(alloc, texts)?;
-    answer_word(alloc, read_math_prog(alloc, &model, &files))
+/// What comes of a model with its files of data, each behind ` <- `, where a mark ends a line.
+pub(crate) fn read(
+    alloc: Global,
+    texts: &str,
+    mark: &str,
+) -> Result<Result<Reading, ReadError<MathProgFault>>, AllocError> {
+    let model = with_lines(alloc, model_in(texts), mark)?;
+    let files = files_in(alloc, texts, mark)?;
+    Ok(read_math_prog(alloc, &model, &files))
+}
+
+/// What a model with its files of data prints, and its problem or why there is none.
+pub(crate) fn answer(alloc: Global, texts: &str, mark: &str) -> Result<Outcome, AllocError> {
+    answer_of(alloc, read(alloc, texts, mark)?)
 }
 
 /// A row has a problem or a fault, and behind ` => ` a model with its files of data, each behind ` <- `; `|` in these texts ends a
-/// line.
+/// line. Nothing is printed.
 pub(crate) fn check_table(rt: &impl Abort, alloc: Global, table: &str) -> Result<(), Fail> {
     for row in table.lines() {
         let Some((want, texts)) = row.split_once(" => ") else {
             panic!(rt; "a problem and its texts: {row}");
         };
-        let found = answer(alloc, texts)?;
-        assert_eq!(rt; found.as_str(), want, "at {row}");
+        let found = answer(alloc, texts, "|")?;
+        assert_eq!(rt; found.end.as_str(), want, "at {row}");
+        assert_eq!(rt; found.printed.as_str(), "", "at {row}");
     }
     Ok(())
 }

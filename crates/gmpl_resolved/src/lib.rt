@@ -11,5 +11,6 @@ mod statement;
 
 pub use expression::{Component, Entry, Expr, Indexing, Link, Meaning};
 pub use statement::{
-    Attribute, Check, Constraint, Declaration, Head, Numbered, Objective, Statement, Statements,
+    Action, Attribute, Constraint, Declaration, Head, Numbered, NumberedStep, Objective, Statement,
+    Statements, Step,
 };

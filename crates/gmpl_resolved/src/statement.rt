@@ -68,22 +68,43 @@ pub enum Statement {
     Objective(Objective),
 }
 
-/// A `check` statement: what has to hold at each element of its domain.
+/// A statement that is executed and declares nothing. It may stand in a `for`.
+#[cycle(actions)]
 #[derive(Drop)]
-pub struct Check {
+pub enum Action {
+    /// A domain, and what has to hold at each of its elements.
+    Check(Option<Indexing>, Expr),
+    /// A domain, and what is shown at each of its elements: expressions, or the names of objects alone.
+    Display(Option<Indexing>, Items<Expr>),
+    /// A domain, and what is printed at each of its elements: a format, and behind it its arguments.
+    Printf(Option<Indexing>, Items<Expr>),
+    /// The domains of one or more heads, the outer first, then what they govern.
+    For(Items<Indexing>, Items<Action>),
+}
+
+/// What is done where a statement stands that declares nothing.
+#[derive(Drop)]
+pub enum Step {
+    Action(Action),
+    /// The problem is solved.
+    Solve,
+}
+
+/// A step with its statement.
+#[derive(Drop)]
+pub struct NumberedStep {
     /// Of the statement, counted from 1.
     pub number: usize,
     /// Of the statement's first token, counted from 1.
     pub line: usize,
-    pub domain: Option<Indexing>,
-    pub condition: Expr,
+    pub step: Step,
 }
 
-/// A statement that declares an object, behind the checks that stand between it and the declaration before it. The place of an
+/// A statement that declares an object, behind the steps that stand between it and the declaration before it. The place of an
 /// object is that of its statement among those that declare.
 #[derive(Drop)]
 pub struct Numbered {
-    pub checks: Items<Check>,
+    pub steps: Items<NumberedStep>,
     /// Of the statement, counted from 1.
     pub number: usize,
     /// Of the statement's first token, counted from 1.
@@ -95,8 +116,8 @@ pub struct Numbered {
 #[derive(Drop)]
 pub struct Statements {
     pub items: Items<Numbered>,
-    /// The checks behind the last declaration.
-    pub checks: Items<Check>,
+    /// The steps behind the last declaration.
+    pub steps: Items<NumberedStep>,
     /// The first bad statement.
     pub fault: Option<SyntaxFault>,
 }

@@ -9,3 +9,4 @@ pub mod RowNames
 pub mod MemberCells
 pub mod RowTerms
 pub mod RowMembers
+pub mod MemberNames

@@ -3,13 +3,13 @@ use Rattle.std.specs.Prelude.{◌-◌, ◌&&◌, not, Bool, List, map, [], ◌�
 use Rattle.std.specs.List.{list_any}
 use Rattle.rational.specs.Rational.{Rational}
 use Rattle.milp.specs.declared.Direction.{Direction}
+use Rattle.gmpl_solution.specs.declared.member.Member.{Member}
+use Rattle.gmpl_solution.specs.Solution.{member_eq}
 use Rattle.gmpl_rows.specs.Demanded.{Demanded, all_none, note_all}
 use Rattle.gmpl_rows.specs.declared.declared.Declared.{Declared}
 use Rattle.gmpl_rows.specs.Follows.{then_do}
 use Rattle.gmpl_rows.specs.declared.draft.ObjectiveRow.{ObjectiveRow}
 use Rattle.gmpl_rows.specs.declared.draft.RowHead.{RowHead}
-use Rattle.gmpl_rows.specs.declared.row_member.RowMember.{RowMember}
-use Rattle.gmpl_rows.specs.contracts.row_member.RowMemberPartialEq.TheImpl as impl
 use Rattle.gmpl_rows.specs.declared.term.Term.{Term}
 use Rattle.gmpl_rows.specs.declared.fault.DraftFault.{DraftFault}
 use Rattle.gmpl_rows.specs.declared.fault.DraftFault.TheVariants.{TooMany}
@@ -25,15 +25,11 @@ pub record Draft : Type 0 where
 abbrev pub no_rows : List Declared → Draft
 no_rows objects = record { objects = objects; rows = []; variables = all_none (length objects); objective = None }
 
-abbrev pub row_member : RowHead → RowMember
+abbrev pub row_member : RowHead → Member
 row_member h = record { statement = h.statement; subscripts = h.subscripts }
 
--- the same statement, and equal subscripts
-abbrev pub member_eq : RowMember → RowMember → Bool
-member_eq = (impl.ghosts).eq
-
 -- a row comes from this member
-abbrev pub is_row : RowMember → List RowHead → Bool
+abbrev pub is_row : Member → List RowHead → Bool
 is_row m hs = list_any (member_eq m) (map row_member hs)
 
 -- TooMany at the row, entry or column that would pass a limit

@@ -9,7 +9,9 @@ use Rattle.gmpl_value.specs.declared.symbol.Symbol.{Symbol}
 use Rattle.gmpl_member_names.specs.Names.{member_name}
 use Rattle.gmpl_rows.specs.MemberColumn.{MemberColumn, is_used}
 use Rattle.gmpl_rows.specs.Demanded.{Demanded}
-use Rattle.gmpl_rows.specs.Draft.{Draft}
+use Rattle.gmpl_solution.specs.declared.member.Member.{Member}
+use Rattle.gmpl_solution.specs.Solution.{member}
+use Rattle.gmpl_rows.specs.Draft.{Draft, row_member}
 use Rattle.gmpl_rows.specs.declared.declared.Declared.{Declared}
 use Rattle.gmpl_rows.specs.declared.draft.ObjectiveRow.{ObjectiveRow}
 use Rattle.gmpl_rows.specs.declared.draft.RowHead.{RowHead}
@@ -93,3 +95,36 @@ rows_of d = rows_from d.objects (laid_out d.objects d.variables) 0 d.rows
 
 abbrev pub problem_of : Draft → Problem
 problem_of d = aimed_at d.objective (rows_of d) (plain (columns_of d) (rows_of d))
+
+-- ---- the members that columns and rows come from
+
+abbrev pub used_member : ℕ → List Symbol → MemberColumn → List Member
+used_member statement m k = cond (is_used k) (member statement m ∷ []) []
+
+-- those of a variable with a coefficient other than 0 in some row
+abbrev pub used_members : ℕ → List (List Symbol) → List MemberColumn → List Member
+used_members statement (m ∷ ms) (k ∷ ks) = used_member statement m k ++ used_members statement ms ks
+used_members statement _ _ = []
+
+-- of the statements from a place on
+abbrev pub members_from : ℕ → List Declared → List Demanded → List Member
+members_from place (v ∷ vs) (d ∷ ds) = used_members place d.members d.columns ++ members_from (place + 1) vs ds
+members_from place _ _ = []
+
+-- in the columns' order
+abbrev pub column_members : Draft → List Member
+column_members d = members_from 0 d.objects d.variables
+
+-- in the rows' order
+abbrev pub row_members : Draft → List Member
+row_members d = map row_member d.rows
+
+-- the name of a member of one of these objects
+abbrev pub named_among : List Declared → Member → List ℕ
+named_among vs m = member_name (name_of vs m.statement) m.subscripts
+
+abbrev pub column_name : Column → List ℕ
+column_name c = c.name
+
+abbrev pub row_name : Row → List ℕ
+row_name r = r.name

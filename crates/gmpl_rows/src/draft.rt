@@ -8,10 +8,10 @@ ghost use Rattle.gmpl_rows.specs.Follows.{Follows};
 use crate::declared::Declared;
 use crate::demanded::Demanded;
 use crate::fault::DraftFault;
-use crate::row_member::RowMember;
 use crate::term::Term;
 use crate::variables::Variables;
 use fraction::Frac;
+use gmpl_solution::Member;
 use gmpl_value::Tuple;
 use indexmap::IndexSet;
 use instance::{MAX_COLUMNS, MAX_ENTRIES, MAX_ROWS};
@@ -30,10 +30,10 @@ pub struct RowHead {
 
 impl RowHead {
     // The member that the row comes from.
-    fn member(&self, alloc: Global) -> Result<RowMember, AllocError>
+    pub(crate) fn member(&self, alloc: Global) -> Result<Member, AllocError>
         ensures { IfOk result (λ member. member ≡ row_member self.now) }
     {
-        Ok(RowMember {
+        Ok(Member {
             statement: self.statement,
             subscripts: self.subscripts.copied(alloc)?,
         })
@@ -53,7 +53,7 @@ pub struct ObjectiveRow {
 pub struct Draft {
     objects: Vec<Declared>,
     rows: Vec<RowHead>,
-    members: IndexSet<RowMember>,
+    members: IndexSet<Member>,
     variables: Variables,
     objective: Option<ObjectiveRow>,
 }

@@ -1,9 +1,10 @@
 // Laws of drafts.
-ghost use Rattle.std.specs.Prelude.{◌≡◌, ◌<◌, ◌==◌, ℕ, List, Ok, cond, false, length, true};
+ghost use Rattle.std.specs.Prelude.{◌≡◌, ◌<◌, ◌==◌, ℕ, List, Ok, cond, false, length, map, true};
 ghost use Rattle.rational.specs.Rational.{Rational};
 ghost use Rattle.milp.specs.declared.Direction.{Direction};
 ghost use Rattle.gmpl_value.specs.declared.symbol.Symbol.{Symbol};
 ghost use Rattle.gmpl_rows.specs.Draft.{Draft, is_new, no_rows, with_row, with_objective};
+ghost use Rattle.gmpl_rows.specs.Problem.{column_members, column_name, named_among, problem_of, row_members, row_name};
 ghost use Rattle.gmpl_rows.specs.Terms.{IsDraft, coefficient_at, coefficient_in};
 ghost use Rattle.gmpl_rows.specs.declared.declared.Declared.{Declared};
 ghost use Rattle.gmpl_rows.specs.declared.draft.RowHead.{RowHead};
@@ -19,4 +20,12 @@ pub fn rows_have_their_terms()
     ensures objective { (direction : Direction) (constant : Rational) (d : Draft) → IsDraft d → IsDraft (with_objective direction constant d) }
     ensures terms { (head : RowHead) (terms : List Term) (d e : Draft) (i s : ℕ) (m : List Symbol) → is_new head d ≡ true → with_row head terms d ≡ Ok e → IsDraft d → s < length d.variables
         → coefficient_at i s m e.variables ≡ cond (i == length d.rows) (coefficient_in s m terms) (coefficient_at i s m d.variables) }
+{}
+
+/// Each column and each row of the problem comes from a member, whose name it has: so they are as many.
+pub fn columns_have_members()
+    ensures columns { (d : Draft) → map column_name (problem_of d).columns ≡ map (named_among d.objects) (column_members d) }
+    ensures rows { (d : Draft) → map row_name (problem_of d).rows ≡ map (named_among d.objects) (row_members d) }
+    ensures column_count { (d : Draft) → length (problem_of d).columns ≡ length (column_members d) }
+    ensures row_count { (d : Draft) → length (problem_of d).rows ≡ length (row_members d) }
 {}

@@ -97,13 +97,14 @@ fn agree(
 // The dimension of a set on which its attributes agree, and with this one too where the set's own is known.
 fn agreed_dimension(
     objects: &[Object],
+    solved: bool,
     subscripts: usize,
     own: Option<usize>,
     attributes: &[Attribute],
 ) -> Result<Option<usize>, SyntaxFaultKind>
-    ensures { result ≡ spec.agreed_with objects.now subscripts own attributes.now }
+    ensures { result ≡ spec.agreed_with objects.now solved subscripts own attributes.now }
 {
-    let site = beside(set_of(subscripts, own));
+    let site = beside(solved, set_of(subscripts, own));
     let mut agreed = Ok(own);
     for one in attributes {
         agreed = agree(agreed, told_by(objects, site, one)?);
@@ -115,13 +116,14 @@ fn agreed_dimension(
 /// then have to agree.
 pub(crate) fn set_dimension(
     objects: &[Object],
+    solved: bool,
     subscripts: usize,
     attributes: &[Attribute],
 ) -> Result<usize, SyntaxFaultKind>
-    ensures { result ≡ spec.set_dimension objects.now subscripts attributes.now }
+    ensures { result ≡ spec.set_dimension objects.now solved subscripts attributes.now }
 {
-    let told = or_one(agreed_dimension(objects, subscripts, None, attributes)?);
-    Ok(or_one(agreed_dimension(objects, subscripts, Some(told), attributes)?))
+    let told = or_one(agreed_dimension(objects, solved, subscripts, None, attributes)?);
+    Ok(or_one(agreed_dimension(objects, solved, subscripts, Some(told), attributes)?))
 }
 
 // ---- parameters and variables

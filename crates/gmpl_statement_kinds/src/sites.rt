@@ -4,14 +4,34 @@ ghost use Rattle.gmpl_statement_kinds.specs.StatementKinds as spec;
 
 use gmpl_kinds::{Object, Position, Site, Sort};
 
-/// In a part that holds no variable, and in which no name means the statement's own object.
-#[tactic(auto, unfolding(crate::specs::StatementKinds::constant))]
-pub(crate) fn constant() -> Site
-    ensures { result ≡ spec.constant }
+fn position(solved: bool) -> Position
+    ensures { result ≡ spec.position solved }
+{
+    if solved {
+        Position::Solved
+    } else {
+        Position::Constant
+    }
+}
+
+/// Outside of constraints and objectives, and where no name means the statement's own object.
+#[tactic(auto, unfolding(crate::specs::StatementKinds::plain))]
+pub(crate) fn plain(solved: bool) -> Site
+    ensures { result ≡ spec.plain solved }
 {
     Site {
-        position: Position::Constant,
+        position: position(solved),
         own: None,
+    }
+}
+
+/// In an attribute of this object.
+pub(crate) fn beside(solved: bool, own: Object) -> Site
+    ensures { result ≡ spec.beside solved own }
+{
+    Site {
+        position: position(solved),
+        own: Some(own),
     }
 }
 
@@ -23,16 +43,6 @@ pub(crate) fn linear() -> Site
     Site {
         position: Position::Linear,
         own: None,
-    }
-}
-
-/// In an attribute of this object.
-pub(crate) fn beside(own: Object) -> Site
-    ensures { result ≡ spec.beside own }
-{
-    Site {
-        position: Position::Constant,
-        own: Some(own),
     }
 }
 

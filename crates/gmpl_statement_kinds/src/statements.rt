@@ -2,39 +2,50 @@
 ghost use Rattle.std.specs.Prelude.{◌≡◌, IfOk};
 ghost use Rattle.gmpl_statement_kinds.specs.StatementKinds as spec;
 
-use crate::attributes::{logic_at, scalar_at, set_dimension, subscripts, value_attributes};
+use crate::actions::action;
+use crate::attributes::{scalar_at, set_dimension, subscripts, value_attributes};
 use crate::judgement::Judgement;
-use crate::sites::{beside, constant, linear, set_of, value_of};
+use crate::sites::{beside, linear, plain, set_of, value_of};
 use gmpl_kinds::{Object, Shape, Sort};
-use gmpl_resolved::{Check, Constraint, Declaration, Numbered, Objective, Statement, Statements};
+use gmpl_resolved::{
+    Action, Constraint, Declaration, Numbered, NumberedStep, Objective, Statement, Statements, Step,
+};
 use gmpl_syntax::{SyntaxFault, SyntaxFaultKind};
 use sqlite_items::Items;
 use std::alloc::{AllocError, Global};
 
-fn set_object(objects: &[Object], whole: &Declaration) -> Result<Object, SyntaxFaultKind>
-    ensures { result ≡ spec.set_object objects.now whole.now }
+fn set_object(
+    objects: &[Object],
+    solved: bool,
+    whole: &Declaration,
+) -> Result<Object, SyntaxFaultKind>
+    ensures { result ≡ spec.set_object objects.now solved whole.now }
 {
-    let subscripts = subscripts(objects, constant(), &whole.head.domain)?;
-    let dimension = set_dimension(objects, subscripts, whole.attributes.as_slice())?;
+    let subscripts = subscripts(objects, plain(solved), &whole.head.domain)?;
+    let dimension = set_dimension(objects, solved, subscripts, whole.attributes.as_slice())?;
     Ok(set_of(subscripts, Some(dimension)))
 }
 
 fn value_object(
     objects: &[Object],
+    solved: bool,
     sort: Sort,
     whole: &Declaration,
 ) -> Result<Object, SyntaxFaultKind>
-    ensures { result ≡ spec.value_object objects.now sort whole.now }
+    ensures { result ≡ spec.value_object objects.now solved sort whole.now }
 {
-    let object = value_of(sort, subscripts(objects, constant(), &whole.head.domain)?);
-    value_attributes(objects, beside(object), whole.attributes.as_slice())?;
+    let object = value_of(
+        sort,
+        subscripts(objects, plain(solved), &whole.head.domain)?,
+    );
+    value_attributes(objects, beside(solved, object), whole.attributes.as_slice())?;
     Ok(object)
 }
 
 fn sides(objects: &[Object], whole: &Constraint) -> Result<Shape, SyntaxFaultKind>
     ensures { result ≡ spec.sides objects.now whole.now whole.now.last }
 {
-    let (inner, outer) = (linear(), constant());
+    let (inner, outer) = (linear(), plain(false));
     match &whole.last {
         None => {
             scalar_at(objects, inner, &whole.left)?;
@@ -65,70 +76,82 @@ fn objective_object(objects: &[Object], whole: &Objective) -> Result<Object, Syn
     Ok(value_of(Sort::Objective, subscripts))
 }
 
-fn object_of(objects: &[Object], whole: &Statement) -> Result<Object, SyntaxFaultKind>
-    ensures { result ≡ spec.object_of objects.now whole.now }
+fn object_of(objects: &[Object], solved: bool, whole: &Statement) -> Result<Object, SyntaxFaultKind>
+    ensures { result ≡ spec.object_of objects.now solved whole.now }
 {
     match whole {
-        Statement::Set(whole) => set_object(objects, whole),
-        Statement::Param(whole) => value_object(objects, Sort::Param, whole),
-        Statement::Var(whole) => value_object(objects, Sort::Var, whole),
+        Statement::Set(whole) => set_object(objects, solved, whole),
+        Statement::Param(whole) => value_object(objects, solved, Sort::Param, whole),
+        Statement::Var(whole) => value_object(objects, solved, Sort::Var, whole),
         Statement::Constraint(whole) => constraint_object(objects, whole),
         Statement::Objective(whole) => objective_object(objects, whole),
     }
 }
 
-// ---- checks
-
-fn condition(objects: &[Object], whole: &Check) -> Result<Shape, SyntaxFaultKind>
-    ensures { result ≡ spec.condition objects.now whole.now }
-{
-    let site = constant();
-    subscripts(objects, site, &whole.domain)?;
-    logic_at(objects, site, &whole.condition)
-}
-
-// The first bad one of these checks.
-fn bad_check(objects: &[Object], all: &[Check]) -> Option<SyntaxFault>
-    ensures { result ≡ spec.bad_check objects.now all.now }
-{
-    for one in all {
-        if let Err(kind) = condition(objects, one) {
-            return Some(SyntaxFault {
-                statement: one.number,
-                line: one.line,
-                kind,
-            });
-        }
-    }
-    None
-}
-
 // ---- statements in order
 
-// The object of a statement behind its checks, or the first fault.
-fn judged(objects: &[Object], whole: &Numbered) -> Result<Object, SyntaxFault>
-    ensures { result ≡ spec.judged objects.now whole.now }
+#[tactic(auto, unfolding(crate::specs::StatementKinds::executed))]
+fn executed(objects: &[Object], solved: bool, whole: &Action) -> Result<(), SyntaxFaultKind>
+    ensures { result ≡ spec.executed objects.now solved whole.now }
 {
-    match bad_check(objects, whole.checks.as_slice()) {
-        Some(fault) => Err(fault),
-        None => match object_of(objects, &whole.statement) {
-            Ok(object) => Ok(object),
-            Err(kind) => Err(SyntaxFault {
-                statement: whole.number,
-                line: whole.line,
-                kind,
-            }),
-        },
+    action(objects, plain(solved), whole)
+}
+
+// Whether `solve` stands before what follows this step.
+fn behind(objects: &[Object], solved: bool, whole: &Step) -> Result<bool, SyntaxFaultKind>
+    ensures { result ≡ spec.behind objects.now solved whole.now }
+{
+    match whole {
+        Step::Action(whole) => {
+            executed(objects, solved, whole)?;
+            Ok(solved)
+        }
+        Step::Solve => Ok(true),
     }
 }
 
-fn or_else(fault: Option<SyntaxFault>, other: Option<SyntaxFault>) -> Option<SyntaxFault>
-    ensures { result ≡ spec.or_else fault other }
+fn fault_at(number: usize, line: usize, kind: SyntaxFaultKind) -> SyntaxFault
+    ensures { result ≡ spec.fault_at number line kind }
 {
-    match fault {
-        Some(fault) => Some(fault),
-        None => other,
+    SyntaxFault {
+        statement: number,
+        line,
+        kind,
     }
+}
+
+fn behind_step(objects: &[Object], solved: bool, whole: &NumberedStep) -> Result<bool, SyntaxFault>
+    ensures { result ≡ spec.numbered whole.now.number whole.now.line (spec.behind objects.now solved whole.now.step) }
+{
+    match behind(objects, solved, &whole.step) {
+        Ok(solved) => Ok(solved),
+        Err(kind) => Err(fault_at(whole.number, whole.line, kind)),
+    }
+}
+
+fn behind_all(objects: &[Object], solved: bool, all: &[NumberedStep]) -> Result<bool, SyntaxFault>
+    ensures { result ≡ spec.behind_all objects.now solved all.now }
+{
+    let mut solved = solved;
+    for one in all {
+        solved = behind_step(objects, solved, one)?;
+    }
+    Ok(solved)
+}
+
+fn declared(objects: &[Object], solved: bool, whole: &Numbered) -> Result<Object, SyntaxFault>
+    ensures { result ≡ spec.declared objects.now solved whole.now }
+{
+    match object_of(objects, solved, &whole.statement) {
+        Ok(object) => Ok(object),
+        Err(kind) => Err(fault_at(whole.number, whole.line, kind)),
+    }
+}
+
+fn stopped(objects: Items<Object>, fault: Option<SyntaxFault>) -> Judgement
+    ensures { result ≡ spec.stopped objects fault }
+{
+    Judgement { objects, fault }
 }
 
 /// The objects of the statements before the first bad one, and its fault: `WrongKind` or `WrongDimension`, or what the passes
@@ -137,20 +160,19 @@ pub fn judge_statements(alloc: Global, whole: &Statements) -> Result<Judgement, 
     ensures { IfOk result (λ found. found ≡ spec.judgement whole.now) }
 {
     let mut objects = Items::new(alloc);
+    let mut solved = false;
     for one in whole.items.as_slice() {
-        match judged(objects.as_slice(), one) {
+        match behind_all(objects.as_slice(), solved, one.steps.as_slice()) {
+            Ok(now) => solved = now,
+            Err(fault) => return Ok(stopped(objects, Some(fault))),
+        }
+        match declared(objects.as_slice(), solved, one) {
             Ok(object) => objects.push(object)?,
-            Err(fault) => {
-                return Ok(Judgement {
-                    objects,
-                    fault: Some(fault),
-                });
-            }
+            Err(fault) => return Ok(stopped(objects, Some(fault))),
         }
     }
-    let last = bad_check(objects.as_slice(), whole.checks.as_slice());
-    Ok(Judgement {
-        objects,
-        fault: or_else(last, whole.fault),
-    })
+    match behind_all(objects.as_slice(), solved, whole.steps.as_slice()) {
+        Ok(_) => Ok(stopped(objects, whole.fault)),
+        Err(fault) => Ok(stopped(objects, Some(fault))),
+    }
 }

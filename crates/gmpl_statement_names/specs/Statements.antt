@@ -1,10 +1,12 @@
 -- What the names of statements mean, or the first fault: from left to right, inner parts before outer ones (GNU MathProg
 -- Language Reference, chapter on statements).
-use Rattle.std.specs.Prelude.{◌≡◌, ℕ, ◌+◌, codes, Bool, true, false, ◌||◌, ◌&&◌, if◌then◌else◌, List, [], ◌∷◌, ◌++◌, length, map, Option, Some, None, Result, Ok, Err}
+use Rattle.std.specs.Prelude.{◌≡◌, ℕ, ◌+◌, codes, if◌then◌else◌, List, [], ◌∷◌, ◌++◌, map, Option, Some, None, Result, Ok, Err}
 use Rattle.std.specs.Str.{bytes_eq}
+use Rattle.gmpl_syntax.specs.Index.{Root}
 use Rattle.gmpl_syntax.specs.declared.fault.SyntaxFault.{SyntaxFault}
 use Rattle.gmpl_syntax.specs.declared.fault.SyntaxFaultKind.TheVariants.{Declared, Unsupported}
-use Rattle.gmpl_syntax.specs.declared.expression.Expr.{Expr}
+use Rattle.gmpl_syntax.specs.declared.expression.Expr.{Expr, out-Expr}
+use Rattle.gmpl_syntax.specs.declared.expression.Component.TheOpen.{Expr-F}
 use Rattle.gmpl_syntax.specs.declared.expression.Indexing.{Indexing}
 use Rattle.gmpl_syntax.specs.declared.statement.Head.{Head}
 use Rattle.gmpl_syntax.specs.declared.statement.Attribute.{Attribute}
@@ -17,7 +19,6 @@ use Rattle.gmpl_syntax.specs.declared.statement.OutputColumn.{OutputColumn}
 use Rattle.gmpl_syntax.specs.declared.statement.TableInput.{TableInput}
 use Rattle.gmpl_syntax.specs.declared.statement.TableOutput.{TableOutput}
 use Rattle.gmpl_syntax.specs.declared.statement.Action.{Action}
-use Rattle.gmpl_syntax.specs.declared.statement.Action.TheVariants as act
 use Rattle.gmpl_syntax.specs.declared.statement.Action.TheOpen.{Action-F}
 use Rattle.gmpl_syntax.specs.declared.statement.Action.TheFolds.{fold-Action}
 use Rattle.gmpl_syntax.specs.declared.statement.Statement.{Statement}
@@ -34,13 +35,15 @@ use Rattle.gmpl_resolved.specs.declared.statement.Constraint.{Constraint as Reso
 use Rattle.gmpl_resolved.specs.declared.statement.Objective.{Objective as ResolvedObjective}
 use Rattle.gmpl_resolved.specs.declared.statement.Statement.{Statement as ResolvedStatement}
 use Rattle.gmpl_resolved.specs.declared.statement.Statement.TheVariants as rs
-use Rattle.gmpl_resolved.specs.declared.statement.Numbered.{Numbered as ResolvedNumbered}
+use Rattle.gmpl_resolved.specs.declared.statement.Action.{Action as ResolvedAction}
+use Rattle.gmpl_resolved.specs.declared.statement.Action.TheVariants as ract
+use Rattle.gmpl_resolved.specs.declared.statement.Step.TheVariants as step
 use Rattle.gmpl_resolved.specs.declared.statement.Statements.{Statements as ResolvedStatements}
 use Rattle.gmpl_names.specs.declared.error.NamesError.{NamesError}
 use Rattle.gmpl_names.specs.declared.error.NamesError.TheVariants.{Fault, NoMemory}
 use Rattle.gmpl_names.specs.Names.{Name, has, with_name}
 use Rattle.gmpl_names.specs.Meanings.{Or_fault, used}
-use Rattle.gmpl_names.specs.Expressions.{Outcome, Pass, ◌>>=◌, pure, ◌<$>◌, beside, all, expr, exprs, indexing}
+use Rattle.gmpl_names.specs.Expressions.{Outcome, Pass, ◌>>=◌, pure, ◌<$>◌, beside, all, within, expr, exprs, indexing}
 use Rattle.gmpl_statement_names.specs.declared.resolved.Resolved.{Resolved}
 use Rattle.gmpl_statement_names.specs.declared.resolved.Resolved.TheVariants as made
 
@@ -65,8 +68,22 @@ each (p ∷ ps) = p >>= (λ _. each ps)
 abbrev pub driver : Name → Pass (Unit {0})
 driver name = beside (if bytes_eq name (codes "CSV") then Ok tt else Err Unsupported)
 
-abbrev pub unsupported : Pass (Unit {0})
+abbrev pub unsupported : {A : Type 0} → Pass A
 unsupported = λ scope. Err Unsupported
+
+-- what a `printf` prints: its list may stand in one pair of parentheses
+abbrev pub listed_by : Root → List Expr → List Expr
+listed_by (Expr-F.Group parts) xs = parts
+listed_by _ xs = xs
+
+abbrev pub listed : List Expr → List Expr
+listed (x ∷ []) = listed_by (out-Expr x) (x ∷ [])
+listed xs = xs
+
+-- a file to which it prints is not supported
+abbrev pub printed : Option ResolvedIndexing → List ResolvedExpr → Option ResolvedExpr → Or_fault ResolvedAction
+printed domain xs None = Ok (ract.Printf domain xs)
+printed domain xs (Some file) = Err Unsupported
 
 module _ (objects : List Name) where
   abbrev pub optional_indexing : Option Indexing → Pass (Option ResolvedIndexing)
@@ -112,14 +129,7 @@ module _ (objects : List Name) where
     f ← expr objects x.form
     pure (record { direction = x.direction; head = h; form = f })
 
-  -- what has to hold, and where
-  abbrev pub check : Option Indexing → Expr → Pass Resolved
-  check domain x = do
-    d ← optional_indexing domain
-    held ← expr objects x
-    pure (made.Check d held)
-
-  -- ---- statements that are not supported so far: what is wrong inside comes first
+  -- ---- tables, which are not supported so far: what is wrong inside comes first
 
   abbrev pub new_name : Name → Pass (Unit {0})
   new_name name = beside (if has name objects then Err Declared else Ok tt)
@@ -137,7 +147,7 @@ module _ (objects : List Name) where
   abbrev pub parameters : List InputColumn → Pass (Unit {0})
   parameters xs = each (map (λ x. known_name x.parameter) xs)
 
-  unfoldable pub table_output : TableOutput → Pass (Unit {0})
+  unfoldable pub table_output : TableOutput → Pass ResolvedAction
   table_output t = do
     new_name t.name
     indexing objects t.domain
@@ -146,7 +156,7 @@ module _ (objects : List Name) where
     values t.columns
     unsupported
 
-  unfoldable pub table_input : TableInput → Pass (Unit {0})
+  unfoldable pub table_input : TableInput → Pass Resolved
   table_input t = do
     new_name t.name
     driver t.driver
@@ -155,47 +165,49 @@ module _ (objects : List Name) where
     parameters t.columns
     unsupported
 
-  -- one that stands in a `for`
-  unfoldable pub refused_check : Option Indexing → Expr → Pass (Unit {0})
-  refused_check domain x = do
-    optional_indexing domain
-    expr objects x
-    unsupported
+  -- ---- statements that may stand in a `for`: the indices of a domain are in scope in what it governs, and nowhere else
 
-  unfoldable pub display : Option Indexing → List Expr → Pass (Unit {0})
-  display domain xs = do
-    optional_indexing domain
-    exprs objects xs
-    unsupported
+  unfoldable pub check : Option Indexing → Expr → Pass ResolvedAction
+  check domain x = within do
+    d ← optional_indexing domain
+    held ← expr objects x
+    pure (ract.Check d held)
 
-  unfoldable pub printf : Option Indexing → List Expr → Option Expr → Pass (Unit {0})
-  printf domain xs file = do
-    optional_indexing domain
-    exprs objects xs
-    optional_side file
-    unsupported
+  unfoldable pub display : Option Indexing → List Expr → Pass ResolvedAction
+  display domain xs = within do
+    d ← optional_indexing domain
+    items ← exprs objects xs
+    pure (ract.Display d items)
 
-  abbrev pub loop_over : List Indexing → List (Pass (Unit {0})) → Pass (Unit {0})
-  loop_over heads body = do
-    each (map (indexing objects) heads)
-    each body
-    unsupported
+  unfoldable pub printf : Option Indexing → List Expr → Option Expr → Pass ResolvedAction
+  printf domain xs file = within do
+    d ← optional_indexing domain
+    arguments ← exprs objects (listed xs)
+    to ← optional_side file
+    beside (printed d arguments to)
 
-  abbrev pub action_step : Action-F (Pass (Unit {0})) → Pass (Unit {0})
-  action_step (Action-F.Check domain x) = refused_check domain x
+  -- the indices of an outer head are in scope in the inner ones too
+  abbrev pub looped : List Indexing → List (Pass ResolvedAction) → Pass ResolvedAction
+  looped heads body = within do
+    over ← all (map (indexing objects) heads)
+    inner ← all body
+    pure (ract.For over inner)
+
+  abbrev pub action_step : Action-F (Pass ResolvedAction) → Pass ResolvedAction
+  action_step (Action-F.Check domain x) = check domain x
   action_step (Action-F.Display domain xs) = display domain xs
   action_step (Action-F.Printf domain xs file) = printf domain xs file
   action_step (Action-F.TableOutput t) = table_output t
-  action_step (Action-F.For heads body) = loop_over heads body
+  action_step (Action-F.For heads body) = looped heads body
 
-  abbrev pub action : Action → Pass (Unit {0})
-  action = fold-Action (Pass (Unit {0})) action_step
+  abbrev pub action : Action → Pass ResolvedAction
+  action = fold-Action (Pass ResolvedAction) action_step
 
-  abbrev pub indexings : List Indexing → Pass (Unit {0})
-  indexings xs = each (map (indexing objects) xs)
+  abbrev pub indexings : List Indexing → Pass (List ResolvedIndexing)
+  indexings xs = all (map (indexing objects) xs)
 
-  abbrev pub actions : List Action → Pass (Unit {0})
-  actions xs = each (map action xs)
+  abbrev pub actions : List Action → Pass (List ResolvedAction)
+  actions xs = all (map action xs)
 
 -- ---- a statement, and the objects that are declared behind it
 
@@ -227,22 +239,11 @@ declared_constraint x = declaring x.head.name (λ os. constraint os x)
 abbrev pub declared_objective : Objective → List Name → Judged ResolvedObjective
 declared_objective x = declaring x.head.name (λ os. objective os x)
 
-abbrev pub refused : {A : Type 0} → Outcome A → Judged Resolved
-refused (Ok r) = Err Unsupported
-refused (Err fault) = Err fault
-
 abbrev pub refused_table : TableInput → List Name → Judged Resolved
-refused_table t objects = refused (table_input objects t [])
+refused_table t objects = alone objects (table_input objects t [])
 
-abbrev pub refused_action : Action → List Name → Judged Resolved
-refused_action x objects = refused (action objects x [])
-
-abbrev pub resolved_check : Option Indexing → Expr → List Name → Judged Resolved
-resolved_check domain x objects = alone objects (check objects domain x [])
-
-abbrev pub resolved_action : Action → List Name → Judged Resolved
-resolved_action (act.Check domain x) objects = resolved_check domain x objects
-resolved_action x objects = refused_action x objects
+abbrev pub executed : Action → List Name → Judged Resolved
+executed x objects = alone objects (((λ a. made.Step (step.Action a)) <$> action objects x) [])
 
 abbrev pub told_as : {A : Type 0} → (A → ResolvedStatement) → Judged A → Judged Resolved
 told_as make (Ok r) = Ok (made.Declaration (make r.0), r.1)
@@ -255,58 +256,37 @@ statement (s.Var d) objects = told_as rs.Var (declared d objects)
 statement (s.Constraint x) objects = told_as rs.Constraint (declared_constraint x objects)
 statement (s.Objective x) objects = told_as rs.Objective (declared_objective x objects)
 statement (s.TableInput t) objects = refused_table t objects
-statement s.Solve objects = Ok (made.Nothing, objects)
-statement (s.Action x) objects = resolved_action x objects
+statement s.Solve objects = Ok (made.Step step.Solve, objects)
+statement (s.Action x) objects = executed x objects
 statement s.Data objects = Ok (made.Nothing, objects)
-
-abbrev pub makes_something : Resolved → Bool
-makes_something (made.Declaration statement) = true
-makes_something (made.Check domain condition) = true
-makes_something made.Nothing = false
-
--- behind `solve` no statement but `data` is supported so far
-abbrev pub unless_solved : Bool → Resolved → Or_fault Resolved
-unless_solved solved r = if solved && makes_something r then Err Unsupported else Ok r
-
-abbrev pub behind_solve : Bool → Judged Resolved → Judged Resolved
-behind_solve solved (Ok r) = beside (unless_solved solved r.0) r.1
-behind_solve solved (Err fault) = Err fault
-
-abbrev pub statement_behind : Bool → Statement → List Name → Judged Resolved
-statement_behind solved x objects = behind_solve solved (statement x objects)
-
-abbrev pub is_solve : Statement → Bool
-is_solve s.Solve = true
-is_solve _ = false
 
 -- ---- the statements before the first bad one, and its fault
 
 abbrev pub none : ResolvedStatements
-none = record { items = []; checks = []; fault = None }
+none = record { items = []; steps = []; fault = None }
 
--- one more: a declaration takes the checks since the one before it
+-- one more: a declaration takes the steps since the one before it
 abbrev pub with_statement : ResolvedStatements → ℕ → ℕ → Resolved → ResolvedStatements
 with_statement all number line (made.Declaration statement) =
-    record { items = all.items ++ record { checks = all.checks; number = number; line = line; statement = statement } ∷ []; checks = []; fault = all.fault }
-with_statement all number line (made.Check domain x) =
-    record { items = all.items; checks = all.checks ++ record { number = number; line = line; domain = domain; condition = x } ∷ []; fault = all.fault }
+    record { items = all.items ++ record { steps = all.steps; number = number; line = line; statement = statement } ∷ []; steps = []; fault = all.fault }
+with_statement all number line (made.Step step) =
+    record { items = all.items; steps = all.steps ++ record { number = number; line = line; step = step } ∷ []; fault = all.fault }
 with_statement all number line made.Nothing = all
 
 abbrev pub stopped : ResolvedStatements → Option SyntaxFault → ResolvedStatements
-stopped all fault = record { items = all.items; checks = all.checks; fault = fault }
+stopped all fault = record { items = all.items; steps = all.steps; fault = fault }
 
 abbrev pub behind : ResolvedStatements → ℕ → ℕ → Judged Resolved → (ResolvedStatements → List Name → ResolvedStatements) → ResolvedStatements
 behind all number line (Ok r) go = go (with_statement all number line r.0) r.1
 behind all number line (Err kind) go = stopped all (Some (record { statement = number; line = line; kind = kind }))
 
--- behind those that were gone over, so many, and behind `solve` or before it; behind all of them stands what the first pass found
-abbrev pub statements_from : ResolvedStatements → ℕ → Bool → List Name → List Numbered → Option SyntaxFault → ResolvedStatements
-statements_from all count solved objects [] fault = stopped all fault
-statements_from all count solved objects (x ∷ xs) fault =
-    behind all (count + 1) x.line (statement_behind solved x.statement objects) (λ more os. statements_from more (count + 1) (solved || is_solve x.statement) os xs fault)
+-- behind those that were gone over, so many; behind all of them stands what the first pass found
+abbrev pub statements_from : ResolvedStatements → ℕ → List Name → List Numbered → Option SyntaxFault → ResolvedStatements
+statements_from all count objects [] fault = stopped all fault
+statements_from all count objects (x ∷ xs) fault = behind all (count + 1) x.line (statement x.statement objects) (λ more os. statements_from more (count + 1) os xs fault)
 
 abbrev pub statements : Statements → ResolvedStatements
-statements whole = statements_from none 0 false [] whole.items whole.fault
+statements whole = statements_from none 0 [] whole.items whole.fault
 
 -- ---- the code and the definition go the same way; want of memory is free
 

@@ -2,7 +2,6 @@
 ghost use Rattle.gmpl_names.specs.Expressions.{Follows};
 ghost use Rattle.gmpl_statement_names.specs.Statements as spec;
 
-use crate::resolved::Resolved;
 use gmpl_names::{Names, NamesError, resolve_expr, resolve_indexing};
 use gmpl_resolved as resolved;
 use gmpl_syntax::{Attribute, Constraint, Declaration, Expr, Head, Indexing, Objective};
@@ -143,19 +142,4 @@ pub(crate) fn objective(
         head,
         form,
     })
-}
-
-/// What has to hold, and where.
-pub(crate) fn check(
-    alloc: Global,
-    objects: &Names,
-    scope: &mut Names,
-    domain: &Option<Indexing>,
-    condition: &Expr,
-) -> Result<Resolved, NamesError>
-    ensures { Follows (spec.check objects.now domain.now condition.now scope.old) result scope.new }
-{
-    let domain = optional_indexing(alloc, objects, scope, domain)?;
-    let condition = resolve_expr(alloc, objects, scope, condition)?;
-    Ok(Resolved::Check(domain, condition))
 }

@@ -2,7 +2,7 @@
 ghost use Rattle.std.specs.Prelude.{◌≡◌, IfOk};
 ghost use Rattle.gmpl_statement_names.specs.Statements as spec;
 
-use gmpl_resolved::{Check, Expr, Indexing, Numbered, Statement, Statements};
+use gmpl_resolved::{Numbered, NumberedStep, Statement, Statements, Step};
 use gmpl_syntax::SyntaxFault;
 use sqlite_items::Items;
 use std::alloc::{AllocError, Global};
@@ -11,8 +11,8 @@ use std::alloc::{AllocError, Global};
 #[derive(Drop)]
 pub enum Resolved {
     Declaration(Statement),
-    Check(Option<Indexing>, Expr),
-    /// Of `solve`, since a model is solved when all of it is executed, and of `data`, since data are read apart.
+    Step(Step),
+    /// Of `data`, since data are read apart.
     Nothing,
 }
 
@@ -22,7 +22,7 @@ pub(crate) fn none(alloc: Global) -> Statements
 {
     Statements {
         items: Items::new(alloc),
-        checks: Items::new(alloc),
+        steps: Items::new(alloc),
         fault: None,
     }
 }
@@ -39,39 +39,34 @@ pub(crate) fn with_statement(
 {
     let Statements {
         mut items,
-        mut checks,
+        mut steps,
         fault,
     } = all;
     match resolved {
         Resolved::Declaration(statement) => {
             items.push(Numbered {
-                checks,
+                steps,
                 number,
                 line,
                 statement,
             })?;
             Ok(Statements {
                 items,
-                checks: Items::new(alloc),
+                steps: Items::new(alloc),
                 fault,
             })
         }
-        Resolved::Check(domain, condition) => {
-            checks.push(Check {
-                number,
-                line,
-                domain,
-                condition,
-            })?;
+        Resolved::Step(step) => {
+            steps.push(NumberedStep { number, line, step })?;
             Ok(Statements {
                 items,
-                checks,
+                steps,
                 fault,
             })
         }
         Resolved::Nothing => Ok(Statements {
             items,
-            checks,
+            steps,
             fault,
         }),
     }
@@ -81,10 +76,10 @@ pub(crate) fn with_statement(
 pub(crate) fn stopped(all: Statements, fault: Option<SyntaxFault>) -> Statements
     ensures { result ≡ spec.stopped all fault }
 {
-    let Statements { items, checks, .. } = all;
+    let Statements { items, steps, .. } = all;
     Statements {
         items,
-        checks,
+        steps,
         fault,
     }
 }

@@ -57,12 +57,13 @@ S0/1 P1 P1 => set S := {1}; param a{i in S} := i; param b{i in S} := a[i];
 !Undeclared 1 1 => param p := q[r];
 !Unsupported 1 1 => param p := sqrt(2);
 !Undeclared 1 1 => param p := sqrt(q);
-!Unsupported 2 1 => var x; param p := x.val;
+!WrongKind 2 1 => var x; param p := x.val;
+!Unsupported 2 1 => var x; param p := x.dual;
 !Undeclared 1 1 => param p := x.val;
 ";
 
-// Attributes and checks, and what is not supported so far: what is wrong inside comes first.
-const UNSUPPORTED: &str = "\
+// Attributes and checks.
+const ATTRIBUTES: &str = "\
 P0 => param p default 1;
 !Undeclared 1 1 => param p default q;
 P0 => param p integer;
@@ -80,13 +81,6 @@ V1 => var x{1..2} integer, >= 1/2;
 !Undeclared 1 1 => var x{S} binary;
 V0 => var x >= 0;
 P0 => param p symbolic := 'a';
-- => solve;
-V0 C0 => var x; c: x >= 1; solve;
-!Undeclared 2 1 => solve; param p := q;
-!Unsupported 2 1 => solve; param p := 1;
-!Unsupported 2 1 => solve; check: 1 = 1;
-!NotAStatement 2 1 => solve; var x;
-- => solve;$data; set S := 1; end;
 P0 => param p; data; param p := @ end;
 - => check: 1 = 1;
 !Undeclared 1 1 => check: q = 1;
@@ -100,17 +94,92 @@ P0 P0 => param p := 1; check: p = 1; param q := p;
 !WrongKind 3 1 => param p := 1; check: p = 1; param q := 1..2;
 !WrongKind 3 2 => check: 1 = 1; param p := 1;$check: {p};
 !NotAStatement 2 1 => check: 1 = 1; check 1 = ; param p := 1..2;
-!Unsupported 1 1 => for {i in 1..2} check: i = 1;
-!Unsupported 1 1 => display 1;
+";
+
+// Statements that are executed: the names in them.
+const EXECUTED: &str = "\
+- => solve;
+V0 C0 => var x; c: x >= 1; solve;
+!Undeclared 2 1 => solve; param p := q;
+P0 => solve; param p := 1;
+- => solve; check: 1 = 1;
+!NotAStatement 2 1 => solve; var x;
+!NotAStatement 3 1 => solve; printf 'a'; var x;
+- => solve;$data; set S := 1; end;
+- => display 1;
 !Undeclared 1 1 => display 1, q;
-!Unsupported 1 1 => printf 'a';
+- => display {i in 1..2}: i;
+!Undeclared 2 1 => display {i in 1..2}: i; display i;
+- => printf 'a';
+- => printf ('a', 1);
 !Undeclared 1 1 => printf 'a', q;
+!Undeclared 1 1 => printf ('a', q);
 !Undeclared 1 1 => printf 'a' > q;
-!Unsupported 1 1 => for {i in 1..2} printf 'a', i;
+!Unsupported 1 1 => printf 1 > 'f';
+!Unsupported 2 2 => printf 'a';$printf 'a', 1 >> 'f';
+- => for {i in 1..2} check: i = 1;
+- => for {i in 1..2} printf 'a', i;
 !Undeclared 1 1 => for {i in 1..2} printf 'a', j;
 !Undeclared 1 1 => for {i in S} printf 'a', j;
-!Unsupported 1 1 => for {i in 1..2} { display i; }
-!Unsupported 2 3 => var x;$$for {i in 1..2} {$ display i;$ display j; }
+!Undeclared 2 1 => for {i in 1..2} printf 'a', i; printf 'a', i;
+- => for {i in 1..2} { display i; }
+!Undeclared 2 3 => var x;$$for {i in 1..2} {$ display i;$ display j; }
+- => for {i in 1..2} for {j in i..2} printf 'a', i + j;
+!Undeclared 1 1 => for {i in j..2} for {j in 1..2} printf 'a', i + j;
+- => for {i in 1..2} { printf {j in 1..2}: 'x'; printf {j in 1..2}: 'y'; }
+!Undeclared 1 1 => for {i in 1..2} { printf {j in 1..2}: 'x', j; printf 'y', j; }
+!WrongDimension 1 1 => for {i in 1..2} printf {(i, j) in 1..2}: 'x', j;
+- => for {i in 1..2} { for {j in 1..2} { display i, j; } for {j in 1..2} { display j; } }
+!Undeclared 1 1 => for {i in 1..2} { for {j in 1..2} { display i, j; } display j; }
+!Unsupported 1 1 => for {i in 1..2} table t {j in 1..2} OUT 'CSV' 'f': j ~ k;
+!Unsupported 1 1 => for {i in 1..2} { printf 'a' > 'f'; printf 'a', q; }
+";
+
+// What statements that are executed take, before `solve` and behind it.
+const SOLVED: &str = "\
+!WrongKind 2 1 => var x; display x;
+V0 => var x; solve; display x;
+!WrongKind 2 1 => var x; display x.val;
+V0 => var x; solve; display x.val, x.lb, x.ub;
+!Unsupported 3 1 => var x; solve; display x.status;
+V1 => var x{1..2}; solve; display x, x[1], x[1].val;
+!WrongDimension 3 1 => var x{1..2}; solve; display x.val;
+!WrongKind 3 1 => var x; c: x >= 1; display c;
+V0 C0 => var x; c: x >= 1; solve; display c;
+V0 C0 => var x; c: x >= 1; solve; display c.lb, c.ub;
+!Unsupported 4 1 => var x; c: x >= 1; solve; display c.status;
+!WrongKind 3 1 => var x; minimize z: x; printf 'a', z;
+V0 O0 => var x; minimize z: x; solve; printf 'a', z;
+S0/1 P1 => set S := 1..2; param p{S} := 1; display S, p, p[1];
+!WrongDimension 2 1 => param p{1..2} := 1; display (p);
+!WrongKind 2 1 => param p := 1; display p.val;
+!WrongKind 1 1 => display (1, 2);
+- => display {1..2}, 'a', 1;
+!WrongKind 1 1 => display {i in 3}: i;
+- => printf ('a');
+!WrongKind 1 1 => printf (1, 2), 3;
+!WrongKind 1 1 => printf 1..2;
+!WrongKind 1 1 => printf 'a', 1..2;
+!WrongKind 2 1 => var x; printf 'a', x;
+!WrongKind 2 1 => var x; printf {i in 1..2: x > 1} 'a';
+!WrongKind 1 1 => for {i in 3} printf 'a';
+!WrongKind 1 1 => for {i in 1..2} check: 1..2;
+!WrongKind 2 1 => var x; for {i in 1..2} display x;
+V0 => var x; solve; for {i in 1..x} display x;
+V0 => var x; solve; check: x >= 1;
+!WrongKind 2 2 => var x;$display x; solve; display x;
+!Undeclared 2 1 => var x; display x, q;
+V0 P0 => var x; solve; param p := x.val;
+V0 P0 => var x; solve; param p := x;
+!WrongKind 2 1 => var x; param p := x; solve;
+V0 S0/1 => var x; solve; set S := 1..x;
+V0 P1 => var x; solve; param p{1..x};
+V0 S1/1 => var x; solve; set S{i in 0..3} := if i = 0 then {x} else S[i-1];
+!WrongKind 4 3 => var x; solve;$display x;$param p := 1..2; display x;
+";
+
+// Tables are not supported so far: what is wrong inside comes first.
+const UNSUPPORTED: &str = "\
 !Unsupported 1 1 => table t {i in 1..2} OUT 'CSV' 'f': i ~ k;
 !Undeclared 1 1 => table t {i in 1..2} OUT 'CSV' f: i ~ k;
 !Unsupported 1 1 => table t {i in 1..2} OUT 'ODBC' f: i ~ k;
@@ -298,6 +367,21 @@ fn check_table(rt: &impl Abort, alloc: Global, table: &str) -> Result<(), Fail> 
 #[test]
 fn names_of_models(rt: HostRuntime) -> Result<(), Fail> {
     check_table(&rt, rt.alloc(), NAMES)
+}
+
+#[test]
+fn attributes_and_checks(rt: HostRuntime) -> Result<(), Fail> {
+    check_table(&rt, rt.alloc(), ATTRIBUTES)
+}
+
+#[test]
+fn executed_statements(rt: HostRuntime) -> Result<(), Fail> {
+    check_table(&rt, rt.alloc(), EXECUTED)
+}
+
+#[test]
+fn statements_behind_solve(rt: HostRuntime) -> Result<(), Fail> {
+    check_table(&rt, rt.alloc(), SOLVED)
 }
 
 #[test]

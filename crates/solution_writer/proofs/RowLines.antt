@@ -1,12 +1,13 @@
 -- One row after the other.
-use Rattle.std.proofs.Common.{◌≡◌, ◌∙◌, ℕ, zero, suc, ◌+◌, ◌<◌, List, [], ◌∷◌, ◌++◌, drop, get_or, slice_get, length, refl, sym, ap, subst, arith}
+use Rattle.std.proofs.Common.{◌≡◌, ◌∙◌, ℕ, zero, suc, ◌+◌, ◌<◌, List, [], ◌∷◌, ◌++◌, drop, get_or, slice_get, length, sym, ap, subst, arith}
 use Rattle.std.proofs.lemmas.List.{append_assoc}
 use Rattle.std.specs.Prelude.{IsOk}
 use Rattle.rational.specs.Rational.{Rational, zero_ℚ}
 use Rattle.milp.specs.Form.{sum_at}
 use Rattle.milp.specs.Problem.{Row}
 use Rattle.instance.specs.Sums.{sum_answer, form_of}
-use Rattle.solution_writer.specs.Report.{RowsFit, row_line, row_lines}
+use Rattle.gmpl_generate.specs.Solved.{RowsFit}
+use Rattle.solution_writer.specs.Report.{row_line, row_lines}
 
 pub record AtRow (x : List Rational) (rows : List Row) (i : ℕ) (r : Row) : Type 0 where
   pub fits : IsOk (sum_answer x zero_ℚ (form_of (slice_get rows i)))

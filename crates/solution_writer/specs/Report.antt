@@ -1,12 +1,12 @@
 -- The report of a run. Every line ends with a line feed; a number is `n` or `n/d`.
-use Rattle.std.specs.Prelude.{ℕ, List, [], ◌∷◌, ◌++◌, codes, length, Option, Some, None, IsSome, IsSomeAnd, IsOk, ◌≡◌}
+use Rattle.std.specs.Prelude.{ℕ, List, [], ◌∷◌, ◌++◌, codes, length, Option, Some, None, IsSome, IsSomeAnd, ◌≡◌}
 use Rattle.std.specs.Fmt.{decimal}
-use Rattle.rational.specs.Rational.{Rational, zero_ℚ}
-use Rattle.instance.specs.Sums.{sum_answer}
+use Rattle.rational.specs.Rational.{Rational}
 use Rattle.fraction.specs.Text.{text_of}
 use Rattle.milp.specs.Form.{sum_at}
 use Rattle.milp.specs.Problem.{Column, Row, Problem}
 use Rattle.verdicts.specs.Certificate.{Verdict, Optimal, Infeasible, Unbounded, Certificate}
+use Rattle.gmpl_generate.specs.Solved.{RowsFit}
 
 -- `OPTIMAL`, and the objective with its value
 abbrev pub head_line : List ℕ → Rational → List ℕ
@@ -28,11 +28,6 @@ row_line name value = codes "row " ++ (name ++ (codes " " ++ (text_of value ++ c
 abbrev pub row_lines : List Rational → List Row → List ℕ
 row_lines point [] = []
 row_lines point (r ∷ rs) = row_line r.name (sum_at point r.entries) ++ row_lines point rs
-
--- the value of each row's form at the point fits
-abbrev pub RowsFit : List Rational → List Row → Type 0
-RowsFit point [] = Unit {0}
-RowsFit point (r ∷ rs) = IsOk (sum_answer point zero_ℚ r.entries) × RowsFit point rs
 
 abbrev pub optimal_report : Problem → Rational → List Rational → List ℕ
 optimal_report p value point = head_line p.objective_name value ++ (column_lines p.columns point ++ row_lines point p.rows)

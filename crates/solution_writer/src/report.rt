@@ -1,15 +1,14 @@
 // The reports.
-ghost use Rattle.std.specs.Prelude.{◌≡◌, ◌<◌, IfOk, IsSome, IsSomeAnd, IsOk, Some, length, slice_get, string_bytes};
+ghost use Rattle.std.specs.Prelude.{◌≡◌, IfOk, IsSome, IsSomeAnd, Some, length, string_bytes};
 ghost use Rattle.std.specs.Option.{option_map};
-ghost use Rattle.rational.specs.Rational.{zero_ℚ};
-ghost use Rattle.milp.specs.Form.{sum_at};
-ghost use Rattle.instance.specs.Sums.{sum_answer, form_of};
-ghost use Rattle.solution_writer.specs.Report.{optimal_at, unbounded_at, row_lines, optimal_report, unbounded_report, solved_report, translated_report, accepted_report, RowsFit, IsShownPoint, IsReportable};
+ghost use Rattle.gmpl_generate.specs.Solved.{RowsFit};
+ghost use Rattle.solution_writer.specs.Report.{optimal_at, unbounded_at, row_lines, optimal_report, unbounded_report, solved_report, translated_report, accepted_report, IsShownPoint, IsReportable};
 
 use crate::lines::{column_lines, head_line, ray_lines, row_line};
 use certificate::{Certificate, Verdict};
 use fraction::Frac;
-use instance::{Instance, Point, activity};
+use gmpl_generate::row_value;
+use instance::{Instance, Point};
 use std::alloc::{AllocError, Global};
 
 /// The report of a solved problem.
@@ -78,19 +77,6 @@ fn row_lines(alloc: Global, problem: &Instance, point: &Point) -> Result<String,
         text.push_str(&line)?;
     }
     Ok(text)
-}
-
-// The value of a row's form, which fits.
-fn row_value(problem: &Instance, row: u32, point: &Point) -> Frac
-    requires row { row < length problem.now.rows }
-    requires size { length point.now ≡ length problem.now.columns }
-    requires fits { IsOk (sum_answer point.now zero_ℚ (form_of (slice_get problem.now.rows row))) }
-    ensures { result ≡ sum_at point.now (form_of (slice_get problem.now.rows row)) }
-{
-    match activity(problem, row, point) {
-        Ok(value) => value,
-        Err(_) => unreachable!(),
-    }
 }
 
 fn unbounded_at(

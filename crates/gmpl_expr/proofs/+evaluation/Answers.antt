@@ -9,12 +9,12 @@ use Rattle.gmpl_expr.proofs.Rolled.{compared_at, range_at}
 use Rattle.gmpl_expr.proofs.+evaluation.Goals as goal
 
 pub members::anew-returns-then-height-eq0-clause-value : goal.members::anew-returns-then-height-eq0-clause-value
-members::anew-returns-then-height-eq0-clause-value t c = member_none c.args.model.now c.args.height c.args.place c.args.subscripts.now c.if-height-eq0.true
+members::anew-returns-then-height-eq0-clause-value t c = member_none c.args.model.now c.args.height c.args.place c.args.asked c.args.subscripts.now c.if-height-eq0.true
 
 pub members::anew-returns-clause-value : goal.members::anew-returns-clause-value
 members::anew-returns-clause-value t c =
     let positive : 0 < c.args.height = omega (arith, c.if-height-eq0.false) in
-    subst (Gives c.declared.result) (sym (member_some c.args.model.now c.args.height c.args.place c.args.subscripts.now positive)) c.declared.ensures.value
+    subst (Gives c.declared.result) (sym (member_some c.args.model.now c.args.height c.args.place c.args.asked c.args.subscripts.now positive)) c.declared.ensures.value
 
 pub evaluate::eval-returns-in-Range-clause-value : goal.evaluate::eval-returns-in-Range-clause-value
 evaluate::eval-returns-in-Range-clause-value t c =

@@ -55,7 +55,10 @@ abbrev pub decreases-members::declared : goal.decreases-members::declared
 decreases-members::declared l = 32 * l.room + 12
 
 abbrev pub decreases-members::demanded : goal.decreases-members::demanded
-decreases-members::demanded l = 32 * l.room + 14
+decreases-members::demanded l = 32 * l.room + 15
+
+abbrev pub decreases-members::without_suffix : goal.decreases-members::without_suffix
+decreases-members::without_suffix l = 32 * l.room + 14
 
 abbrev pub decreases-members::anew : goal.decreases-members::anew
 decreases-members::anew l = 32 * l.room + 13
@@ -121,7 +124,7 @@ abbrev pub decreases-restrictions::memberships_hold : goal.decreases-restriction
 decreases-restrictions::memberships_hold l = 32 * l.room + 5
 
 abbrev pub decreases-evaluate::named : goal.decreases-evaluate::named
-decreases-evaluate::named l = 32 * l.room + 15
+decreases-evaluate::named l = 32 * l.room + 16
 
 abbrev pub decreases-values::negation : goal.decreases-values::negation
 decreases-values::negation l = 32 * l.room + 2

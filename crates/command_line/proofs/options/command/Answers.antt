@@ -16,13 +16,14 @@ returns c =
     let app = added c.in_ok-arg-4.ensures c.flag-3.ensures.local c.flag-3.ensures.rule app in
     let app = added c.in_ok-arg-5.ensures c.lettered.ensures.local c.lettered.ensures.rule app in
     let app = added c.in_ok-arg-6.ensures c.repeated.ensures.local c.repeated.ensures.rule app in
-    let app = added c.in_ok-arg-7.ensures c.flag-4.ensures.local c.flag-4.ensures.rule app in
-    let app = added c.in_ok-arg-8.ensures c.flag-5.ensures.local c.flag-5.ensures.rule app in
-    let app = added c.in_ok-arg-9.ensures c.flag-6.ensures.local c.flag-6.ensures.rule app in
-    let app = added c.in_ok-arg-10.ensures c.flag-7.ensures.local c.flag-7.ensures.rule app in
-    let app = added c.in_ok-arg-11.ensures c.flag-8.ensures.local c.flag-8.ensures.rule app in
-    let app = added c.in_ok-arg-12.ensures c.lettered-2.ensures.local c.lettered-2.ensures.rule app in
-    let app = added c.in_ok-arg-13.ensures c.option.ensures.local c.option.ensures.rule app in
-    let app = added c.in_ok-arg-14.ensures c.option-2.ensures.local c.option-2.ensures.rule app in
-    let app = added c.in_ok-arg-15.ensures c.option-3.ensures.local c.option-3.ensures.rule app in
-    IfOk-weaker c.arg-16.result _ _ (λ _ adds. added adds c.option-4.ensures.local c.option-4.ensures.rule app) c.arg-16.ensures
+    let app = added c.in_ok-arg-7.ensures c.lettered-2.ensures.local c.lettered-2.ensures.rule app in
+    let app = added c.in_ok-arg-8.ensures c.flag-4.ensures.local c.flag-4.ensures.rule app in
+    let app = added c.in_ok-arg-9.ensures c.flag-5.ensures.local c.flag-5.ensures.rule app in
+    let app = added c.in_ok-arg-10.ensures c.flag-6.ensures.local c.flag-6.ensures.rule app in
+    let app = added c.in_ok-arg-11.ensures c.flag-7.ensures.local c.flag-7.ensures.rule app in
+    let app = added c.in_ok-arg-12.ensures c.flag-8.ensures.local c.flag-8.ensures.rule app in
+    let app = added c.in_ok-arg-13.ensures c.lettered-3.ensures.local c.lettered-3.ensures.rule app in
+    let app = added c.in_ok-arg-14.ensures c.option.ensures.local c.option.ensures.rule app in
+    let app = added c.in_ok-arg-15.ensures c.option-2.ensures.local c.option-2.ensures.rule app in
+    let app = added c.in_ok-arg-16.ensures c.option-3.ensures.local c.option-3.ensures.rule app in
+    IfOk-weaker c.arg-17.result _ _ (λ _ adds. added adds c.option-4.ensures.local c.option-4.ensures.rule app) c.arg-17.ensures

@@ -5,7 +5,6 @@ use Rattle.glpsol_cli.proofs.publish.publish.Goals as goal
 
 pub returns-in-Err-clause-published : goal.returns-in-Err-clause-published
 returns-in-Err-clause-published g c =
-    let found = c.args.found.now in
     let now : Outside = record { taken = g.O.Sink.taken c.args.out.now; told = g.S.Store.told c.args.files.now } in
-    let made = shown_pieces found.settings.task found.problem found.finding c.requires in
+    let made = shown_pieces c.args.task.now c.args.problem.now c.args.finding.now c.requires in
     record { pieces = made.0; are = made.1; ends = none_written made.0 now }

@@ -5,4 +5,4 @@ use Rattle.gmpl_statement_kinds.proofs.attributes.agreed_dimension.Given as goal
 
 abbrev pub invariant-loop-one : goal.invariant-loop-one
 invariant-loop-one l =
-    agreed_from l.objects (beside (set_of l.fn.subscripts l.fn.own)) (Ok l.fn.own) l.attributes ≡ agreed_from l.objects l.site l.agreed (drop l.one-index l.attributes)
+    agreed_from l.objects (beside l.fn.solved (set_of l.fn.subscripts l.fn.own)) (Ok l.fn.own) l.attributes ≡ agreed_from l.objects l.site l.agreed (drop l.one-index l.attributes)

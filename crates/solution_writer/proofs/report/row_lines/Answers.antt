@@ -1,4 +1,4 @@
-use Rattle.std.proofs.Common.{◌≡◌, ◌∙◌, ◌++◌, length, get_or, string_bytes, rules}
+use Rattle.std.proofs.Common.{◌≡◌, ◌++◌, string_bytes, rules}
 use Rattle.milp.specs.Form.{sum_at}
 use Rattle.std.specs.Prelude.{slice_get}
 use Rattle.instance.specs.Sums.{form_of}

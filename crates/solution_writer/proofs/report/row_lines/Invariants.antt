@@ -1,5 +1,6 @@
 use Rattle.std.proofs.Common.{◌≡◌, ◌++◌, drop, string_bytes}
-use Rattle.solution_writer.specs.Report.{row_lines, RowsFit}
+use Rattle.gmpl_generate.specs.Solved.{RowsFit}
+use Rattle.solution_writer.specs.Report.{row_lines}
 use Rattle.solution_writer.proofs.report.row_lines.Given as goal
 
 abbrev pub invariant-loop-i : goal.invariant-loop-i

@@ -1,0 +1,18 @@
+use Rattle.glpsol_cli.specs.Pieces.{Outside}
+use Rattle.glpsol_cli.specs.Stages.{texts_in}
+use Rattle.glpsol_cli.proofs.Carried.{size_cause, size_written, acceptance_written}
+use Rattle.glpsol_cli.proofs.task.from_report.Goals as goal
+
+pub returns-in-Size-clause-cause : goal.returns-in-Size-clause-cause
+returns-in-Size-clause-cause g c =
+    size_cause c.args.inputs.now.settings (texts_in c.args.inputs.now) c.args.problem.now c.args.later c.requires.subject c.args.finding c.in-Size.is c.requires.found
+
+pub returns-in-Size-clause-written : goal.returns-in-Size-clause-written
+returns-in-Size-clause-written g c =
+    let now : Outside = record { taken = g.O.Sink.taken c.args.out.now; told = g.S.Store.told c.args.files.now } in
+    size_written c.args.inputs.now.settings (texts_in c.args.inputs.now) c.args.problem.now c.args.later c.requires.subject c.args.finding c.in-Size.is now
+
+pub returns-in-Acceptance-clause-written : goal.returns-in-Acceptance-clause-written
+returns-in-Acceptance-clause-written g c =
+    let now : Outside = record { taken = g.O.Sink.taken c.args.out.now; told = g.S.Store.told c.args.files.now } in
+    acceptance_written c.args.inputs.now.settings (texts_in c.args.inputs.now) c.args.problem.now c.args.later c.requires.subject c.args.finding c.in-Acceptance.is now

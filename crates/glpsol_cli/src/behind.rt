@@ -1,0 +1,119 @@
+// The statements behind `solve`, which are executed at a best point.
+ghost use Rattle.std.specs.Prelude.{◌≡◌, ◌≤◌, ℕ, List, length, IfOk, IsSomeAnd, Some};
+ghost use Rattle.rational.specs.Rational.{Rational};
+ghost use Rattle.outside.specs.Causes.{Rose};
+ghost use Rattle.outside.specs.Told.{AppendsPrefix};
+ghost use Rattle.gmpl_generate.specs.Solved.{RowsFit};
+ghost use Rattle.solution_writer.specs.Report.{IsShownPoint};
+ghost use Rattle.glpsol_cli.specs.Meaning.{meaning_in};
+ghost use Rattle.glpsol_cli.specs.Written.{ThenLine, extent_of, line_of};
+ghost use Rattle.glpsol_cli.specs.Stages.{IsEndBehind, IsKept, IsLater, behind_in, best_answer, pieces_of};
+
+use crate::display::{displayed, with_earlier};
+use crate::execution::Later;
+use crate::publish::{Piece, write_pieces};
+use crate::stop::unwritten_answer;
+use crate::tell::tell;
+use crate::{Answer, Reached};
+use certificate::Certificate;
+use command_line::Settings;
+use gmpl_generate::ModelFault;
+use gmpl_reader::after_solve;
+use instance::{Instance, Point};
+use outside::{Sink, Store};
+use std::alloc::{AllocError, Global};
+
+// What the statements behind `solve` come to.
+#[derive(Drop)]
+pub struct Behind {
+    // what they print, which is to be written
+    pub pieces: Vec<Piece>,
+    pub fault: Option<ModelFault>,
+}
+
+/// What the statements behind `solve` come to at the certificate's point; nothing, where there are none.
+pub fn afterwards(
+    alloc: Global,
+    settings: &Settings,
+    later: Option<Later>,
+    problem: &Instance,
+    certificate: &Certificate,
+) -> Result<Behind, AllocError>
+    requires { IsSomeAnd certificate.now.point (IsShownPoint problem.now) }
+    ensures { IfOk result (λ b. (text : List ℕ) (data_texts : List (List ℕ)) (x : List Rational) → IsKept settings.now text data_texts problem.now later
+        → certificate.now.point ≡ Some x → (meaning_in settings.now text data_texts).behind x ≡ behind_in b) }
+{
+    let Some(point) = certificate.point() else {
+        unreachable!()
+    };
+    match later {
+        Some(later) => at_point(alloc, settings, later, problem, point),
+        None => Ok(Behind {
+            pieces: Vec::new(alloc),
+            fault: None,
+        }),
+    }
+}
+
+// What they come to at a point.
+fn at_point(
+    alloc: Global,
+    settings: &Settings,
+    later: Later,
+    problem: &Instance,
+    point: &Point,
+) -> Result<Behind, AllocError>
+    requires size { length point.now ≡ length problem.now.columns }
+    requires rows { RowsFit point.now problem.now.rows }
+    ensures { IfOk result (λ b. (text : List ℕ) (data_texts : List (List ℕ)) → IsLater settings.now text data_texts problem.now later
+        → (meaning_in settings.now text data_texts).behind point.now ≡ behind_in b) }
+{
+    let Later { printed, rest } = later;
+    let after = after_solve(alloc, rest, problem, point)?;
+    let text = with_earlier(alloc, &settings.display, &printed, &after.printed)?;
+    let pieces = displayed(alloc, &settings.display, &text)?;
+    Ok(Behind {
+        pieces,
+        fault: after.fault,
+    })
+}
+
+/// What the statements behind `solve` come to is written, and the run ends.
+pub fn end_behind<S: Store, O: Sink>(
+    alloc: Global,
+    behind: Behind,
+    certificate: Certificate,
+    files: &mut S,
+    out: &mut O,
+) -> Answer
+    ensures cause { IsEndBehind behind.fault certificate (Rose (S.faults files.old) (S.faults files.new)) (Rose (O.faults out.old) (O.faults out.new)) result }
+    ensures written { ThenLine (extent_of result) (line_of result) (record { taken = O.taken out.old; told = S.told files.old })
+        (record { taken = O.taken out.new; told = S.told files.new }) (pieces_of behind.pieces.items) }
+{
+    let Behind { pieces, fault } = behind;
+    match write_pieces(files, out, pieces) {
+        Ok(()) => at_end(alloc, fault, certificate, out),
+        Err(fault) => tell(
+            alloc,
+            out,
+            unwritten_answer(Reached::Verdict(certificate), fault),
+        ),
+    }
+}
+
+// The run ends at a best point, or at a fault behind `solve`.
+fn at_end<O: Sink>(
+    alloc: Global,
+    fault: Option<ModelFault>,
+    certificate: Certificate,
+    out: &mut O,
+) -> Answer
+    ensures answer { result ≡ best_answer fault certificate }
+    ensures line { AppendsPrefix (O.taken out.old) (O.taken out.new) (line_of result) }
+    ensures later { O.faults out.old ≤ O.faults out.new }
+{
+    match fault {
+        None => Answer::Optimal(certificate),
+        Some(fault) => tell(alloc, out, Answer::FaultBehindSolve { fault, certificate }),
+    }
+}

@@ -1,0 +1,145 @@
+// What the words ask for is done with a problem: it is found and reported, and at a best point the statements behind
+// `solve` are executed.
+ghost use Rattle.std.specs.Prelude.{◌≡◌};
+ghost use Rattle.verdicts.specs.Certificate as kind;
+ghost use Rattle.outside.specs.Causes.{Rose};
+ghost use Rattle.glpsol_cli.specs.Stages.{CauseIn, IsFinding, IsSubject, LeftWritten, RestWritten, reached_by, texts_in};
+
+use crate::behind::{afterwards, end_behind};
+use crate::execution::Later;
+use crate::found::Finding;
+use crate::inputs::Inputs;
+use crate::publish::publish;
+use crate::stop::{unfound_answer, unwritten_answer};
+use crate::tell::tell;
+use crate::work_out::finding;
+use crate::{Answer, Reached};
+use certificate::{Certificate, Verdict};
+use instance::Instance;
+use outside::{Sink, Store};
+use std::alloc::Global;
+
+/// The run from its problem on, once what is printed before is written.
+pub fn from_problem<S: Store, O: Sink>(
+    alloc: Global,
+    inputs: &Inputs,
+    problem: &Instance,
+    later: Option<Later>,
+    files: &mut S,
+    out: &mut O,
+) -> Answer
+    requires { IsSubject inputs.now.settings (texts_in inputs.now) problem.now later }
+    ensures cause { CauseIn inputs.now.settings (texts_in inputs.now)
+        (Rose (S.faults files.old) (S.faults files.new)) (Rose (O.faults out.old) (O.faults out.new)) result }
+    ensures written { LeftWritten inputs.now.settings (texts_in inputs.now) (record { taken = O.taken out.old; told = S.told files.old })
+        (record { taken = O.taken out.new; told = S.told files.new }) result }
+{
+    match finding(alloc, problem, inputs) {
+        Ok(finding) => from_finding(alloc, inputs, problem, later, finding, files, out),
+        Err(unfound) => tell(alloc, out, unfound_answer(unfound)),
+    }
+}
+
+// What is found is reported.
+fn from_finding<S: Store, O: Sink>(
+    alloc: Global,
+    inputs: &Inputs,
+    problem: &Instance,
+    later: Option<Later>,
+    finding: Finding,
+    files: &mut S,
+    out: &mut O,
+) -> Answer
+    requires subject { IsSubject inputs.now.settings (texts_in inputs.now) problem.now later }
+    requires found { IsFinding problem.now inputs.now.settings (texts_in inputs.now) finding }
+    ensures cause { CauseIn inputs.now.settings (texts_in inputs.now)
+        (Rose (S.faults files.old) (S.faults files.new)) (Rose (O.faults out.old) (O.faults out.new)) result }
+    ensures written { LeftWritten inputs.now.settings (texts_in inputs.now) (record { taken = O.taken out.old; told = S.told files.old })
+        (record { taken = O.taken out.new; told = S.told files.new }) result }
+{
+    let published = publish(alloc, files, out, &inputs.settings.task, problem, &finding);
+    match published {
+        Ok(()) => from_report(alloc, inputs, problem, later, finding, files, out),
+        Err(fault) => tell(alloc, out, unwritten_answer(finding.reached(), fault)),
+    }
+}
+
+// The report is written, and the files.
+fn from_report<S: Store, O: Sink>(
+    alloc: Global,
+    inputs: &Inputs,
+    problem: &Instance,
+    later: Option<Later>,
+    finding: Finding,
+    files: &mut S,
+    out: &mut O,
+) -> Answer
+    requires subject { IsSubject inputs.now.settings (texts_in inputs.now) problem.now later }
+    requires found { IsFinding problem.now inputs.now.settings (texts_in inputs.now) finding }
+    ensures cause { CauseIn inputs.now.settings (texts_in inputs.now)
+        (Rose (S.faults files.old) (S.faults files.new)) (Rose (O.faults out.old) (O.faults out.new)) result }
+    ensures written { RestWritten (reached_by finding) inputs.now.settings (texts_in inputs.now) (record { taken = O.taken out.old; told = S.told files.old })
+        (record { taken = O.taken out.new; told = S.told files.new }) result }
+{
+    match finding {
+        Finding::Size => Answer::Translated,
+        Finding::Acceptance => Answer::Accepted,
+        Finding::Verdict(certificate) => {
+            from_verdict(alloc, inputs, problem, later, certificate, files, out)
+        }
+    }
+}
+
+fn from_verdict<S: Store, O: Sink>(
+    alloc: Global,
+    inputs: &Inputs,
+    problem: &Instance,
+    later: Option<Later>,
+    certificate: Certificate,
+    files: &mut S,
+    out: &mut O,
+) -> Answer
+    requires subject { IsSubject inputs.now.settings (texts_in inputs.now) problem.now later }
+    requires found { IsFinding problem.now inputs.now.settings (texts_in inputs.now) (Finding.Verdict certificate) }
+    ensures cause { CauseIn inputs.now.settings (texts_in inputs.now)
+        (Rose (S.faults files.old) (S.faults files.new)) (Rose (O.faults out.old) (O.faults out.new)) result }
+    ensures written { RestWritten (Reached.Verdict certificate) inputs.now.settings (texts_in inputs.now) (record { taken = O.taken out.old; told = S.told files.old })
+        (record { taken = O.taken out.new; told = S.told files.new }) result }
+{
+    match certificate.verdict() {
+        Verdict::Optimal => at_best(alloc, inputs, problem, later, certificate, files, out),
+        Verdict::Infeasible => Answer::Infeasible(certificate),
+        Verdict::Unbounded => Answer::Unbounded(certificate),
+    }
+}
+
+// The statements behind `solve` are executed at the best point.
+fn at_best<S: Store, O: Sink>(
+    alloc: Global,
+    inputs: &Inputs,
+    problem: &Instance,
+    later: Option<Later>,
+    certificate: Certificate,
+    files: &mut S,
+    out: &mut O,
+) -> Answer
+    requires subject { IsSubject inputs.now.settings (texts_in inputs.now) problem.now later }
+    requires found { IsFinding problem.now inputs.now.settings (texts_in inputs.now) (Finding.Verdict certificate) }
+    requires best { certificate.verdict ≡ kind.Optimal }
+    ensures cause { CauseIn inputs.now.settings (texts_in inputs.now)
+        (Rose (S.faults files.old) (S.faults files.new)) (Rose (O.faults out.old) (O.faults out.new)) result }
+    ensures written { RestWritten (Reached.Verdict certificate) inputs.now.settings (texts_in inputs.now) (record { taken = O.taken out.old; told = S.told files.old })
+        (record { taken = O.taken out.new; told = S.told files.new }) result }
+{
+    let behind = afterwards(alloc, &inputs.settings, later, problem, &certificate);
+    match behind {
+        Ok(behind) => end_behind(alloc, behind, certificate, files, out),
+        Err(_) => tell(
+            alloc,
+            out,
+            Answer::NoMemory {
+                reached: Reached::Verdict(certificate),
+            },
+        ),
+    }
+}

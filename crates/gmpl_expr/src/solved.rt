@@ -1,0 +1,157 @@
+// What members of variables, constraints and objectives come to: before `solve` a form, and behind it the numbers of the solution.
+ghost use Rattle.std.specs.Prelude.{◌≡◌, [], ◌∷◌, Some, Ok};
+ghost use Rattle.rational.specs.Rational.{one_ℚ, zero_ℚ};
+ghost use Rattle.gmpl_fault.specs.Outcome.{Gives};
+ghost use Rattle.gmpl_forms.specs.Linear.{linear};
+ghost use Rattle.gmpl_solution.specs.Solution as solutions;
+ghost use Rattle.gmpl_meaning.specs.Members as members;
+ghost use Rattle.gmpl_operations.specs.Values.{of_number};
+ghost use Rattle.gmpl_operations.specs.declared.value.Value.TheVariants as values;
+
+use fraction::Frac;
+use gmpl_fault::EvalFault;
+use gmpl_forms::{Form, Variable};
+use gmpl_meaning::Bounds;
+use gmpl_operations::Value;
+use gmpl_solution::{Member, Solution, SolvedRow};
+use gmpl_syntax::Suffix;
+use gmpl_value::Tuple;
+use std::alloc::Global;
+
+// A place among the statements as a 32-bit number. One that is none, which no text reaches, counts as want of memory.
+fn short(place: usize) -> Result<u32, EvalFault>
+    ensures { Gives result (Ok place) }
+{
+    if place > u32::MAX as usize {
+        return Err(EvalFault::NoMemory);
+    }
+    Ok(place as u32)
+}
+
+// The form of a variable's member.
+fn variable_form(alloc: Global, place: usize, subscripts: &Tuple) -> Result<Value, EvalFault>
+    ensures { Gives result (Ok (values.Linear (linear ((members.variable place subscripts.now, one_ℚ) ∷ []) zero_ℚ))) }
+{
+    let variable = Variable {
+        statement: short(place)?,
+        subscripts: subscripts.copied(alloc)?,
+    };
+    Ok(Value::Linear(Form::variable(alloc, variable)?))
+}
+
+// A member as the solution names it.
+fn member(alloc: Global, place: usize, subscripts: &Tuple) -> Result<Member, EvalFault>
+    ensures { Gives result (Ok (solutions.member place subscripts.now)) }
+{
+    Ok(Member {
+        statement: short(place)?,
+        subscripts: subscripts.copied(alloc)?,
+    })
+}
+
+fn solved_value(
+    alloc: Global,
+    place: usize,
+    subscripts: &Tuple,
+    solution: &Solution,
+) -> Result<Value, EvalFault>
+    ensures { Gives result (Ok (of_number (solutions.value_of solution.now (solutions.member place subscripts.now)))) }
+{
+    let member = member(alloc, place, subscripts)?;
+    Ok(Value::number(solution.value(&member)))
+}
+
+// A bound, where there is one.
+fn bound_value(bound: Option<Frac>) -> Result<Value, EvalFault>
+    ensures { result ≡ members.bound_value bound }
+{
+    let Some(number) = bound else {
+        return Err(EvalFault::NoValue);
+    };
+    Ok(Value::number(number))
+}
+
+// What is asked of a member of a variable behind `solve`.
+fn solved_variable(
+    alloc: Global,
+    place: usize,
+    subscripts: &Tuple,
+    solution: &Solution,
+    asked: Option<Suffix>,
+    bounds: Bounds,
+) -> Result<Value, EvalFault>
+    ensures { Gives result (members.variable_asked place subscripts.now (Some solution.now) asked bounds) }
+{
+    match asked {
+        None => solved_value(alloc, place, subscripts, solution),
+        Some(suffix) => match suffix {
+            Suffix::Value => solved_value(alloc, place, subscripts, solution),
+            Suffix::LowerBound => bound_value(bounds.lower),
+            Suffix::UpperBound => bound_value(bounds.upper),
+            Suffix::LeftOut => Err(EvalFault::NoValue),
+        },
+    }
+}
+
+/// What is asked of a member of a variable with these bounds: without a solution it is its form, and has no suffix.
+pub(crate) fn variable_value(
+    alloc: Global,
+    place: usize,
+    subscripts: &Tuple,
+    solution: &Option<Solution>,
+    asked: Option<Suffix>,
+    bounds: Bounds,
+) -> Result<Value, EvalFault>
+    ensures { Gives result (members.variable_asked place subscripts.now solution.now asked bounds) }
+{
+    match solution {
+        None => match asked {
+            None => variable_form(alloc, place, subscripts),
+            Some(_) => Err(EvalFault::NoValue),
+        },
+        Some(solution) => solved_variable(alloc, place, subscripts, solution, asked, bounds),
+    }
+}
+
+// What is asked of a row.
+fn row_asked(asked: Option<Suffix>, row: SolvedRow) -> Result<Value, EvalFault>
+    ensures { result ≡ members.row_asked asked row }
+{
+    match asked {
+        None => Ok(Value::number(row.value)),
+        Some(suffix) => match suffix {
+            Suffix::Value => Ok(Value::number(row.value)),
+            Suffix::LowerBound => bound_value(row.lower),
+            Suffix::UpperBound => bound_value(row.upper),
+            Suffix::LeftOut => Err(EvalFault::NoValue),
+        },
+    }
+}
+
+fn row_found(asked: Option<Suffix>, row: Option<SolvedRow>) -> Result<Value, EvalFault>
+    ensures { result ≡ members.row_found asked row }
+{
+    match row {
+        None => Err(EvalFault::OutOfDomain),
+        Some(row) => row_asked(asked, row),
+    }
+}
+
+/// What is asked of a member of a constraint or of an objective: the numbers of its row, and without a solution none.
+pub(crate) fn row_member(
+    alloc: Global,
+    solution: &Option<Solution>,
+    place: usize,
+    asked: Option<Suffix>,
+    subscripts: &Tuple,
+) -> Result<Value, EvalFault>
+    ensures { Gives result (members.row_member solution.now place asked subscripts.now) }
+{
+    match solution {
+        None => Err(EvalFault::NoValue),
+        Some(solution) => {
+            let member = member(alloc, place, subscripts)?;
+            row_found(asked, solution.row(&member))
+        }
+    }
+}

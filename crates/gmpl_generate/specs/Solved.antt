@@ -1,0 +1,77 @@
+-- What the statements behind `solve` come to at a point of the problem (GNU MathProg Language Reference, section on the solve
+-- statement): there the members of variables, constraints and objectives are numbers.
+use Rattle.std.specs.Prelude.{ℕ, Bool, false, IsOk, List, [], ◌∷◌, Option, Some, None, Result, Ok, Err}
+use Rattle.rational.specs.Rational.{Rational, zero_ℚ}
+use Rattle.milp.specs.Form.{sum_at}
+use Rattle.milp.specs.Problem.{Row}
+use Rattle.instance.specs.Sums.{sum_answer}
+use Rattle.gmpl_resolved.specs.declared.statement.Numbered.{Numbered}
+use Rattle.gmpl_solution.specs.declared.member.Member.{Member}
+use Rattle.gmpl_solution.specs.Solution.{Solution, nothing, with_value, with_row}
+use Rattle.gmpl_data.specs.declared.tables.LoadedModel.{LoadedModel}
+use Rattle.gmpl_rows.specs.Draft.{Draft}
+use Rattle.gmpl_rows.specs.Problem.{column_members, problem_of, row_members}
+use Rattle.gmpl_generate.specs.declared.fault.ModelFault.{ModelFault}
+use Rattle.gmpl_generate.specs.Problem.{drafted}
+use Rattle.gmpl_generate.specs.Running.{Ran, Running, ◌>>=◌}
+use Rattle.gmpl_generate.specs.Steps.{steps_after}
+
+-- the value of each row's form at the point fits
+abbrev pub RowsFit : List Rational → List Row → Type 0
+RowsFit x [] = Unit {0}
+RowsFit x (r ∷ rs) = IsOk (sum_answer x zero_ℚ r.entries) × RowsFit x rs
+
+-- ---- the numbers of members at a point
+
+-- the columns' members have the numbers of the point
+abbrev pub with_values : List Member → List Rational → Solution → Solution
+with_values [] qs s = s
+with_values (m ∷ ms) [] s = s
+with_values (m ∷ ms) (q ∷ qs) s = with_values ms qs (with_value s m q)
+
+abbrev pub with_solved_row : Member → Row → Rational → Solution → Solution
+with_solved_row m r value s = with_row s m (record { value = value; lower = r.lower; upper = r.upper })
+
+-- the rows' members have the values of the rows' forms, and the rows' bounds
+abbrev pub with_rows : List Rational → List Member → List Row → Solution → Solution
+with_rows x [] rs s = s
+with_rows x (m ∷ ms) [] s = s
+with_rows x (m ∷ ms) (r ∷ rs) s = with_rows x ms rs (with_solved_row m r (sum_at x r.entries) s)
+
+abbrev pub solution_by : List Member → List Member → List Row → List Rational → Solution
+solution_by columns rows rs x = with_rows x rows rs (with_values columns x nothing)
+
+-- of the problem of a draft
+abbrev pub solution_at : Draft → List Rational → Solution
+solution_at d x = solution_by (column_members d) (row_members d) (problem_of d).rows x
+
+abbrev pub with_solution : LoadedModel → Solution → LoadedModel
+with_solution model s = record model { solution = Some s }
+
+-- ---- the statements
+
+module _ (model : LoadedModel) where
+  -- the steps of these statements that stand behind `solve`; whether it stands before what follows
+  abbrev pub statements_after : Bool → List Numbered → Running ModelFault Bool
+  statements_after solved [] text = Ok (solved, text)
+  statements_after solved (x ∷ xs) text = (steps_after model solved x.steps >>= (λ after. statements_after after xs)) text
+
+  abbrev pub all_after : Running ModelFault Bool
+  all_after = statements_after false model.statements >>= (λ solved. steps_after model solved model.steps)
+
+-- what is printed, and the first fault
+abbrev pub printed_and_fault : {A : Type 0} → Ran ModelFault A → List ℕ × Option ModelFault
+printed_and_fault (Ok r) = (r.1, None)
+printed_and_fault (Err r) = (r.1, Some r.0)
+
+-- of a model with its solution
+abbrev pub behind_solve : LoadedModel → List ℕ × Option ModelFault
+behind_solve model = printed_and_fault (all_after model [])
+
+abbrev pub after_draft : LoadedModel → List Rational → Result Draft ModelFault → List ℕ × Option ModelFault
+after_draft model x (Ok d) = behind_solve (with_solution model (solution_at d x))
+after_draft model x (Err fault) = ([], None)
+
+-- of a model and a point of its problem; nothing, where there is no problem
+abbrev pub after_by : LoadedModel → List Rational → List ℕ × Option ModelFault
+after_by model x = after_draft model x (drafted model)

@@ -1,0 +1,217 @@
+// Behind `solve`.
+ghost use Rattle.std.specs.Prelude.{◌≡◌, ◌<◌, false, Ok, IfOk, IsOk, OnOk, length, slice_get, string_bytes};
+ghost use Rattle.instance.specs.Sums.{sum_answer, form_of};
+ghost use Rattle.milp.specs.Form.{sum_at};
+ghost use Rattle.rational.specs.Rational.{zero_ℚ};
+ghost use Rattle.gmpl_generate.specs.Problem.{drafted};
+ghost use Rattle.gmpl_generate.specs.Running.{Runs};
+ghost use Rattle.gmpl_generate.specs.Solved as spec;
+ghost use Rattle.gmpl_generate.specs.Solved.{RowsFit};
+ghost use Rattle.gmpl_rows.specs.Draft.{Draft};
+ghost use Rattle.gmpl_rows.specs.Problem.{column_members, problem_of, row_members};
+
+use crate::fault::{Halt, ModelFault, ModelFaultKind, fault_at};
+use crate::steps::steps_after;
+use fraction::Frac;
+use gmpl_data::LoadedModel;
+use gmpl_expr::Context;
+use gmpl_fault::EvalFault;
+use gmpl_resolved::Numbered;
+use gmpl_solution::{Member, Solution, SolvedRow};
+use instance::{Instance, Point, Row, activity};
+use std::alloc::{AllocError, Global};
+
+/// What the statements behind `solve` come to.
+#[derive(Drop)]
+pub struct Afterwards {
+    /// What they print.
+    pub printed: String,
+    /// The first that cannot be executed.
+    pub fault: Option<ModelFault>,
+}
+
+// ---- the numbers of members at a point
+
+/// The value of a row's form, which fits.
+pub fn row_value(problem: &Instance, row: u32, point: &Point) -> Frac
+    requires row { row < length problem.now.rows }
+    requires size { length point.now ≡ length problem.now.columns }
+    requires fits { IsOk (sum_answer point.now zero_ℚ (form_of (slice_get problem.now.rows row))) }
+    ensures { result ≡ sum_at point.now (form_of (slice_get problem.now.rows row)) }
+{
+    match activity(problem, row, point) {
+        Ok(value) => value,
+        Err(_) => unreachable!(),
+    }
+}
+
+fn add_values(
+    alloc: Global,
+    solution: &mut Solution,
+    columns: &[Member],
+    point: &[Frac],
+) -> Result<(), AllocError>
+    ensures { OnOk result (solution.new ≡ spec.with_values columns.now point.now solution.old) }
+{
+    let mut left = point;
+    for member in columns {
+        let Some((value, rest)) = left.split_first() else {
+            return Ok(());
+        };
+        solution.add_value(member.copied(alloc)?, *value)?;
+        left = rest;
+    }
+    Ok(())
+}
+
+fn add_row(
+    alloc: Global,
+    solution: &mut Solution,
+    member: &Member,
+    row: &Row,
+    value: Frac,
+) -> Result<(), AllocError>
+    ensures { OnOk result (solution.new ≡ spec.with_solved_row member.now row.now value solution.old) }
+{
+    let solved = SolvedRow {
+        value,
+        lower: row.lower(),
+        upper: row.upper(),
+    };
+    solution.add_row(member.copied(alloc)?, solved)
+}
+
+fn add_rows(
+    alloc: Global,
+    solution: &mut Solution,
+    members: &[Member],
+    problem: &Instance,
+    point: &Point,
+) -> Result<(), AllocError>
+    requires size { length point.now ≡ length problem.now.columns }
+    requires rows { RowsFit point.now problem.now.rows }
+    ensures { OnOk result (solution.new ≡ spec.with_rows point.now members.now problem.now.rows solution.old) }
+{
+    problem.keeps_its_limits();
+    let rows = problem.rows();
+    let mut left = members;
+    for (i, row) in rows.iter().enumerate() {
+        let Some((member, rest)) = left.split_first() else {
+            return Ok(());
+        };
+        let value = row_value(problem, i as u32, point);
+        add_row(alloc, solution, member, row, value)?;
+        left = rest;
+    }
+    Ok(())
+}
+
+fn solution_by(
+    alloc: Global,
+    columns: &[Member],
+    rows: &[Member],
+    problem: &Instance,
+    point: &Point,
+) -> Result<Solution, AllocError>
+    requires size { length point.now ≡ length problem.now.columns }
+    requires rows { RowsFit point.now problem.now.rows }
+    ensures { IfOk result (λ made. made ≡ spec.solution_by columns.now rows.now problem.now.rows point.now) }
+{
+    let mut solution = Solution::new(alloc);
+    add_values(alloc, &mut solution, columns, point.as_slice())?;
+    add_rows(alloc, &mut solution, rows, problem, point)?;
+    Ok(solution)
+}
+
+fn with_solution(model: LoadedModel, solution: Solution) -> LoadedModel
+    ensures { result ≡ spec.with_solution model solution }
+{
+    let LoadedModel {
+        statements,
+        steps,
+        tables,
+        solution: _,
+    } = model;
+    LoadedModel {
+        statements,
+        steps,
+        tables,
+        solution: Some(solution),
+    }
+}
+
+// ---- the statements
+
+fn statements_after(
+    alloc: Global,
+    model: &LoadedModel,
+    context: &mut Context<'_>,
+    statements: &[Numbered],
+    so_far: &mut String,
+) -> Result<bool, Halt<EvalFault>>
+    requires of { context.old ≡ model.now }
+    ensures of { context.new ≡ model.now }
+    ensures value { Runs (spec.statements_after model.now false statements.now (string_bytes so_far.old)) result (string_bytes so_far.new) }
+{
+    let mut solved = false;
+    for numbered in statements {
+        let steps = numbered.steps.as_slice();
+        solved = steps_after(alloc, model, context, steps, solved, so_far)?;
+    }
+    Ok(solved)
+}
+
+fn all_after(
+    alloc: Global,
+    model: &LoadedModel,
+    so_far: &mut String,
+) -> Result<bool, Halt<EvalFault>>
+    ensures { Runs (spec.all_after model.now (string_bytes so_far.old)) result (string_bytes so_far.new) }
+{
+    let mut context = Context::new(alloc, model);
+    let statements = model.statements.as_slice();
+    let solved = statements_after(alloc, model, &mut context, statements, so_far)?;
+    let steps = model.steps.as_slice();
+    steps_after(alloc, model, &mut context, steps, solved, so_far)
+}
+
+fn behind_solve(alloc: Global, model: &LoadedModel) -> Result<Afterwards, AllocError>
+    ensures { IfOk result (λ after. spec.behind_solve model.now ≡ (string_bytes after.printed, after.fault)) }
+{
+    let mut printed = String::new(alloc);
+    match all_after(alloc, model, &mut printed) {
+        Ok(_) => Ok(Afterwards {
+            printed,
+            fault: None,
+        }),
+        Err(Halt::Fault(number, line, fault)) => Ok(Afterwards {
+            printed,
+            fault: Some(fault_at(number, line, ModelFaultKind::Evaluation(fault))),
+        }),
+        Err(Halt::CheckFailed(number, line)) => Ok(Afterwards {
+            printed,
+            fault: Some(fault_at(number, line, ModelFaultKind::CheckFailed)),
+        }),
+        Err(Halt::NoMemory) => Err(AllocError),
+    }
+}
+
+/// The statements behind `solve`, in order, up to the first fault, where the members that the columns and rows of the problem come
+/// from have these numbers: what they print, and the fault.
+/// Errors: want of memory.
+pub fn after_solve(
+    alloc: Global,
+    model: LoadedModel,
+    columns: &[Member],
+    rows: &[Member],
+    problem: &Instance,
+    point: &Point,
+) -> Result<Afterwards, AllocError>
+    requires size { length point.now ≡ length problem.now.columns }
+    requires rows { RowsFit point.now problem.now.rows }
+    ensures { IfOk result (λ after. (d : Draft) → drafted model ≡ Ok d → columns.now ≡ column_members d → rows.now ≡ row_members d → problem.now.rows ≡ (problem_of d).rows
+        → spec.after_by model point.now ≡ (string_bytes after.printed, after.fault)) }
+{
+    let solution = solution_by(alloc, columns, rows, problem, point)?;
+    behind_solve(alloc, &with_solution(model, solution))
+}

@@ -1,0 +1,107 @@
+// What the statements behind `solve` print at a point.
+ghost use Rattle.std.specs.Prelude.{◌≡◌, IsTrue, length};
+ghost use Rattle.gmpl_generate.specs.Solved.{RowsFit};
+
+use crate::words::{fault_word, read};
+use fraction::Frac;
+use gmpl_reader::{Afterwards, MathProgFault, Reading, ReadingEnd, Rest, after_solve};
+use instance::{Instance, Point, activity};
+use std::alloc::{AllocError, Global};
+use std::process::Abort;
+use std::test::Fail;
+
+// A row has what is printed, where `$` ends a line, with the fault behind it where there is one; the point; and a model. By hand
+// after the language reference, and the worked rows of the scope.
+const BEHIND: &str = "\
+1=2 2=1 3=0 $ => 2 1 0 => set I := 1..3; param c{i in I} := i*i; var x{I} >= 0, <= 2; minimize z: sum{i in I} c[i]*x[i]; s.t. r: sum{i in I} x[i] >= 3; solve; printf{i in I}: \"%d=%g \", i, x[i].val; printf \"\\n\"; end;
+x[1] = 2$x[2] = 1$x[3] = 0$z = 6$r = 3$ => 2 1 0 => set I := 1..3; var x{I} >= 0, <= 2; minimize z: sum{i in I} i*i*x[i]; s.t. r: sum{i in I} x[i] >= 3; solve; display x, z, r; end;
+2 0 2 3 => 2 => var x >= 0, <= 2; s.t. r: x + 1 >= 3/2; s.t. q: x >= 3; solve; printf '%s %s %s %s', x, x.lb, x.ub, q.lb; end;
+1/2model fault: statement 5, line 1: NoValue => 1 => var x; s.t. r: x + 1 >= 3/2; solve; printf '%s', r.lb; printf '%s', r.ub; end;
+model fault: statement 4, line 1: NoValue => 1 => var x; s.t. r: x >= 1; solve; printf '%s', x.ub; end;
+amodel fault: statement 5, line 1: CheckFailed => 3 => var x; s.t. r: x >= 1; solve; printf 'a'; check: x = 2; printf 'b'; end;
+0 5 => 5 => var x; var y; s.t. r: x >= 1; solve; printf '%d %d', y, x; end;
+r[1] = 3$r[2] = 7$3 7 2 => 3 7 => var x{1..2}; s.t. r{i in 1..2}: x[i] >= i; solve; display r; printf '%s %s %s', r[1], r[2].val, r[2].lb; end;
+7 => 5 => param p := 7; var x; s.t. r: x >= 1; printf 'a'; solve; param q := p; printf '%d', q; end;
+1:2 2:3 => 2 3 => var x{1..2}; s.t. r{i in 1..2}: x[i] >= i; solve; for{i in 1..2} { check: x[i] > i; printf if i = 1 then '%d:%d ' else '%d:%d', i, x[i]; } end;
+display = 5$ => 2 3 => var x{1..2}; s.t. r: x[1] + x[2] >= 1; solve; display x[1] + x[2]; end;
+ => 1 => var x; s.t. r: x >= 1; printf 'a'; end;
+";
+
+// The value of each row's form fits.
+fn all_fit(problem: &Instance, point: &Point) -> bool
+    requires { length point.now ≡ length problem.now.columns }
+    ensures { IsTrue result → RowsFit point.now problem.now.rows }
+{
+    problem.keeps_its_limits();
+    for row in 0..problem.rows().len() {
+        if activity(problem, row as u32, point).is_err() {
+            return false;
+        }
+    }
+    true
+}
+
+fn point_of(alloc: Global, text: &str) -> Result<Point, AllocError> {
+    let mut numbers = Vec::new(alloc);
+    for word in text.split(" ") {
+        if let Ok(number) = Frac::read_canonical(word) {
+            numbers.push(number)?;
+        }
+    }
+    Ok(Point::from_vec(numbers))
+}
+
+// What is printed, and the fault behind it.
+fn after_word(alloc: Global, after: Afterwards) -> Result<String, AllocError> {
+    let Afterwards { printed, fault } = after;
+    let mut word = printed.as_str().replace(alloc, "\n", "$")?;
+    if let Some(fault) = fault {
+        let fault = fault_word(alloc, MathProgFault::Model(fault))?;
+        word.push_str(fault.as_str())?;
+    }
+    Ok(word)
+}
+
+fn at_point(
+    alloc: Global,
+    problem: &Instance,
+    rest: Rest,
+    point: &Point,
+) -> Result<String, AllocError> {
+    if point.as_slice().len() != problem.columns().len() {
+        return "another number of columns".to_string(alloc);
+    }
+    if !all_fit(problem, point) {
+        return "a row that doesn't fit".to_string(alloc);
+    }
+    let after = after_solve(alloc, rest, problem, point)?;
+    after_word(alloc, after)
+}
+
+fn behind(alloc: Global, text: &str, point: &Point) -> Result<String, AllocError> {
+    let Ok(reading) = read(alloc, text, "@@")? else {
+        return "no model".to_string(alloc);
+    };
+    let Reading { printed: _, end } = reading;
+    match end {
+        ReadingEnd::Problem(problem, rest) => at_point(alloc, &problem, rest, point),
+        ReadingEnd::Fault(_) => "no problem".to_string(alloc),
+    }
+}
+
+#[test]
+fn texts_behind_solve(rt: HostRuntime) -> Result<(), Fail> {
+    let alloc = rt.alloc();
+    for row in BEHIND.lines() {
+        let Some((want, rest)) = row.split_once(" => ") else {
+            panic!(rt; "what is printed: {row}");
+        };
+        let Some((point, text)) = rest.split_once(" => ") else {
+            panic!(rt; "a point and a text: {row}");
+        };
+        let point = point_of(alloc, point)?;
+        let found = behind(alloc, text, &point)?;
+        assert_eq!(rt; found.as_str(), want, "at {row}");
+    }
+    Ok(())
+}

@@ -1,0 +1,8 @@
+//! What the members of a model come to where its problem is solved.
+#![tactic(auto)]
+
+mod member;
+mod solution;
+
+pub use member::Member;
+pub use solution::{Solution, SolvedRow};

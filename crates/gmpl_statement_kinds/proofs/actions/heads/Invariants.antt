@@ -1,0 +1,7 @@
+-- What is judged, then the rest.
+use Rattle.std.proofs.Common.{◌≡◌, drop}
+use Rattle.gmpl_statement_kinds.specs.StatementKinds.{heads}
+use Rattle.gmpl_statement_kinds.proofs.actions.heads.Given as goal
+
+abbrev pub invariant-loop-one : goal.invariant-loop-one
+invariant-loop-one l = heads l.objects l.site l.all ≡ heads l.objects l.site (drop l.one-index l.all)
