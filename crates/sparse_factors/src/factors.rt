@@ -133,9 +133,9 @@ impl Factors {
 
     fn lower_forward<U: Unknowns>(&self, x: &mut U) -> Result<(), Stop> {
         for k in 0..self.order.len() {
-            let list = self.lower_columns.list(k);
-            if !list.is_empty() {
-                x.subtract_multiple(list, self.order[k])?;
+            let row = self.order[k];
+            if !x.is_zero(row) {
+                x.subtract_multiple(self.lower_columns.list(k), row)?;
             }
         }
         Ok(())
@@ -144,8 +144,10 @@ impl Factors {
     fn upper_backward<U: Unknowns>(&self, x: &mut U) -> Result<(), Stop> {
         for k in (0..self.order.len()).rev() {
             let row = at(&self.order, k, 0);
-            x.multiply(row, number_at(&self.inverses, row))?;
-            x.subtract_multiple(self.upper_columns.list(k), row)?;
+            if !x.is_zero(row) {
+                x.multiply(row, number_at(&self.inverses, row))?;
+                x.subtract_multiple(self.upper_columns.list(k), row)?;
+            }
         }
         Ok(())
     }
@@ -153,8 +155,10 @@ impl Factors {
     fn changes_forward<U: Unknowns>(&self, x: &mut U) -> Result<(), Stop> {
         for k in 0..self.changes.len() {
             let change = self.changes[k];
-            x.multiply(change.slot, change.inverse)?;
-            x.subtract_multiple(self.change_entries.list(k), change.slot)?;
+            if !x.is_zero(change.slot) {
+                x.multiply(change.slot, change.inverse)?;
+                x.subtract_multiple(self.change_entries.list(k), change.slot)?;
+            }
         }
         Ok(())
     }
@@ -174,7 +178,9 @@ impl Factors {
             if k < self.changes.len() {
                 let change = self.changes[k];
                 y.subtract_products(self.change_entries.list(k), change.slot)?;
-                y.multiply(change.slot, change.inverse)?;
+                if !y.is_zero(change.slot) {
+                    y.multiply(change.slot, change.inverse)?;
+                }
             }
         }
         Ok(())
@@ -182,15 +188,19 @@ impl Factors {
 
     fn slacks_forward<U: Unknowns>(&self, y: &mut U) -> Result<(), Stop> {
         for row in &self.slack_rows {
-            y.subtract_multiple(self.upper_rows.list(*row), *row)?;
+            if !y.is_zero(*row) {
+                y.subtract_multiple(self.upper_rows.list(*row), *row)?;
+            }
         }
         Ok(())
     }
 
     fn upper_forward<U: Unknowns>(&self, y: &mut U) -> Result<(), Stop> {
         for row in &self.order {
-            y.multiply(*row, number_at(&self.inverses, *row))?;
-            y.subtract_multiple(self.upper_rows.list(*row), *row)?;
+            if !y.is_zero(*row) {
+                y.multiply(*row, number_at(&self.inverses, *row))?;
+                y.subtract_multiple(self.upper_rows.list(*row), *row)?;
+            }
         }
         Ok(())
     }
@@ -198,7 +208,9 @@ impl Factors {
     fn lower_backward<U: Unknowns>(&self, y: &mut U) -> Result<(), Stop> {
         for k in (0..self.order.len()).rev() {
             let row = at(&self.order, k, 0);
-            y.subtract_multiple(self.lower_rows.list(row), row)?;
+            if !y.is_zero(row) {
+                y.subtract_multiple(self.lower_rows.list(row), row)?;
+            }
         }
         Ok(())
     }

@@ -13,6 +13,10 @@ pub struct Fractions {
 }
 
 impl Unknowns for Fractions {
+    fn is_zero(&self, place: usize) -> bool {
+        number_at(&self.numbers, place).is_zero()
+    }
+
     fn multiply(&mut self, place: usize, factor: Frac) -> Result<(), Stop> {
         let number = number_at(&self.numbers, place);
         put(&mut self.numbers, place, product(number, factor)?);
@@ -21,9 +25,6 @@ impl Unknowns for Fractions {
 
     fn subtract_multiple(&mut self, entries: &[Entry], place: usize) -> Result<(), Stop> {
         let minus = number_at(&self.numbers, place).neg();
-        if minus.is_zero() {
-            return Ok(());
-        }
         for entry in entries {
             let old = number_at(&self.numbers, entry.at);
             put(

@@ -12,11 +12,35 @@ pub fn whole(n: i128) -> Result<Frac, Stop> {
     Ok(Frac::whole(n))
 }
 
+/// The product of whole numbers, where it fits: at once where both are words.
+pub(crate) fn checked_times(a: i128, b: i128) -> Option<i128> {
+    match (i64::try_from(a), i64::try_from(b)) {
+        (Ok(a), Ok(b)) => Some(i128::from(a) * i128::from(b)),
+        _ => a.checked_mul(b),
+    }
+}
+
 /// a b
 pub fn product(a: Frac, b: Frac) -> Result<Frac, Stop> {
     if a.is_zero() || b.is_zero() {
         return Ok(Frac::zero());
     }
+    match whole_product(a, b) {
+        Some(c) => Ok(c),
+        None => fraction_product(a, b),
+    }
+}
+
+// The product of two whole numbers, where it fits.
+fn whole_product(a: Frac, b: Frac) -> Option<Frac> {
+    if a.is_whole() && b.is_whole() {
+        whole(checked_times(a.parts().0, b.parts().0)?).ok()
+    } else {
+        None
+    }
+}
+
+fn fraction_product(a: Frac, b: Frac) -> Result<Frac, Stop> {
     match a.mul(b) {
         Ok(c) => Ok(c),
         Err(_) => Err(Stop::NoFit),
@@ -28,6 +52,23 @@ pub fn fused(t: Frac, a: Frac, b: Frac) -> Result<Frac, Stop> {
     if t.is_zero() || a.is_zero() {
         return Ok(b);
     }
+    match whole_fused(t, a, b) {
+        Some(c) => Ok(c),
+        None => fraction_fused(t, a, b),
+    }
+}
+
+// t a + b for three whole numbers, where it fits.
+fn whole_fused(t: Frac, a: Frac, b: Frac) -> Option<Frac> {
+    if t.is_whole() && a.is_whole() && b.is_whole() {
+        let product = checked_times(t.parts().0, a.parts().0)?;
+        whole(product.checked_add(b.parts().0)?).ok()
+    } else {
+        None
+    }
+}
+
+fn fraction_fused(t: Frac, a: Frac, b: Frac) -> Result<Frac, Stop> {
     match t.mul_add(a, b) {
         Ok(c) => Ok(c),
         Err(_) => Err(Stop::NoFit),
@@ -54,6 +95,9 @@ pub fn difference(a: Frac, b: Frac) -> Result<Frac, Stop> {
 pub fn quotient(a: Frac, b: Frac) -> Result<Frac, Stop> {
     if b.is_zero() {
         return Err(Stop::NoFit);
+    }
+    if b == Frac::one() {
+        return Ok(a);
     }
     match a.div(b) {
         Ok(c) => Ok(c),

@@ -1,9 +1,9 @@
 // A vector of whole numbers over one denominator, as systems are solved in it.
 use crate::lists::Entry;
-use crate::numbers::{product, quotient, whole};
+use crate::numbers::{checked_times, product, quotient, whole};
 use crate::stop::Stop;
 use crate::unknowns::Unknowns;
-use crate::vectors::{add, at, put};
+use crate::vectors::{add, at, filled, put};
 use fraction::Frac;
 use std::alloc::Global;
 
@@ -21,6 +21,17 @@ pub struct Scaled {
 const ROOM: i128 = 1 << 40;
 
 impl Scaled {
+    /// So many numbers, of which the one at a place is 1 and the others are 0.
+    pub fn unit(alloc: Global, count: usize, place: usize) -> Result<Scaled, Stop> {
+        let mut numbers = filled(alloc, count, 0)?;
+        put(&mut numbers, place, 1);
+        Ok(Scaled {
+            numbers,
+            scale: 1,
+            room: ROOM,
+        })
+    }
+
     /// These numbers.
     pub fn of(alloc: Global, numbers: &[Frac]) -> Result<Scaled, Stop> {
         let scale = common_denominator(numbers)?;
@@ -64,7 +75,7 @@ impl Scaled {
             self.reduce()?;
         }
         let number = at(&self.numbers, place, 0);
-        let (share, more) = quotient(whole(number)?, whole(divisor)?)?.parts();
+        let (share, more) = lowest(number, divisor)?;
         if more != 1 {
             self.scale_by(more)?;
         }
@@ -123,10 +134,11 @@ impl Scaled {
 }
 
 impl Unknowns for Scaled {
+    fn is_zero(&self, place: usize) -> bool {
+        at(&self.numbers, place, 0) == 0
+    }
+
     fn multiply(&mut self, place: usize, factor: Frac) -> Result<(), Stop> {
-        if at(&self.numbers, place, 0) == 0 {
-            return Ok(());
-        }
         let (numerator, denominator) = factor.parts();
         let share = self.divided(place, denominator)?;
         put(&mut self.numbers, place, times(share, numerator)?);
@@ -134,9 +146,6 @@ impl Unknowns for Scaled {
     }
 
     fn subtract_multiple(&mut self, entries: &[Entry], place: usize) -> Result<(), Stop> {
-        if at(&self.numbers, place, 0) == 0 {
-            return Ok(());
-        }
         for entry in entries {
             self.subtract(entry.number, place, entry.at)?;
         }
@@ -166,6 +175,14 @@ pub fn common_denominator(numbers: &[Frac]) -> Result<i128, Stop> {
     Ok(common)
 }
 
+// The quotient's numerator and denominator in lowest terms.
+fn lowest(number: i128, divisor: i128) -> Result<(i128, i128), Stop> {
+    match (number.checked_rem(divisor), number.checked_div(divisor)) {
+        (Some(0), Some(share)) => Ok((share, 1)),
+        _ => Ok(quotient(whole(number)?, whole(divisor)?)?.parts()),
+    }
+}
+
 fn over(number: i128, scale: Frac) -> Result<Frac, Stop> {
     if number == 0 {
         return Ok(Frac::zero());
@@ -174,7 +191,7 @@ fn over(number: i128, scale: Frac) -> Result<Frac, Stop> {
 }
 
 fn times(a: i128, b: i128) -> Result<i128, Stop> {
-    match a.checked_mul(b) {
+    match checked_times(a, b) {
         Some(product) => Ok(product),
         None => Err(Stop::NoFit),
     }

@@ -5,6 +5,9 @@ use fraction::Frac;
 
 /// The unknowns of a system while it is solved.
 pub trait Unknowns {
+    /// The number at a place is 0, so that nothing is to be done with it.
+    fn is_zero(&self, place: usize) -> bool;
+
     /// Multiplies the number at a place.
     fn multiply(&mut self, place: usize, factor: Frac) -> Result<(), Stop>;
 

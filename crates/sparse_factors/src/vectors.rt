@@ -69,9 +69,7 @@ pub(crate) fn put_list<T: Copy>(lists: &mut [Vec<T>], place: usize, list: Vec<T>
 /// So many copies of a value.
 pub fn filled<T: Copy>(alloc: Global, count: usize, x: T) -> Result<Vec<T>, Stop> {
     let mut list = Vec::with_capacity(alloc, count)?;
-    for _ in 0..count {
-        add(&mut list, x)?;
-    }
+    list.resize(count, x)?;
     Ok(list)
 }
 
@@ -91,11 +89,7 @@ pub fn empty_lists<T: Copy>(alloc: Global, count: usize) -> Result<Vec<Vec<T>>, 
 
 /// A list, copied.
 pub fn copied<T: Copy>(alloc: Global, list: &[T]) -> Result<Vec<T>, Stop> {
-    let mut copy = Vec::with_capacity(alloc, list.len())?;
-    for x in list {
-        add(&mut copy, *x)?;
-    }
-    Ok(copy)
+    Ok(list.to_vec(alloc)?)
 }
 
 /// Adds 1 at a place.

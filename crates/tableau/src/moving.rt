@@ -108,16 +108,15 @@ impl State {
     // Solves y B = c in the same way.
     fn solve_rows(&self, alloc: Global, c: &[Frac]) -> Result<Vec<Frac>, Stop> {
         match self.rows_over_one(alloc, c) {
-            Ok(y) => y.fractions(alloc),
             Err(Stop::NoFit) => self.rows_in_fractions(alloc, c),
-            Err(stop) => Err(stop),
+            outcome => outcome,
         }
     }
 
-    fn rows_over_one(&self, alloc: Global, c: &[Frac]) -> Result<Scaled, Stop> {
+    fn rows_over_one(&self, alloc: Global, c: &[Frac]) -> Result<Vec<Frac>, Stop> {
         let mut y = Scaled::of(alloc, c)?;
         self.factors.solve_rows(&mut y)?;
-        Ok(y)
+        y.fractions(alloc)
     }
 
     fn rows_in_fractions(&self, alloc: Global, c: &[Frac]) -> Result<Vec<Frac>, Stop> {
@@ -198,7 +197,12 @@ impl State {
     }
 
     fn find_whole_row(&mut self, alloc: Global, slot: usize) -> Result<Row, Stop> {
-        let y = self.rows_over_one(alloc, &self.unit(alloc, slot)?)?;
+        let mut y = Scaled::unit(alloc, self.model.matrix.rows, slot)?;
+        self.factors.solve_rows(&mut y)?;
+        self.find_scaled_entries(alloc, &y)
+    }
+
+    fn find_scaled_entries(&mut self, alloc: Global, y: &Scaled) -> Result<Row, Stop> {
         let row = Row {
             scale: whole(y.scale)?,
             numbers: y.whole_numbers(alloc)?,
@@ -207,13 +211,24 @@ impl State {
         Ok(row)
     }
 
+    // Its numbers as they are, where they do not fit over one denominator.
     fn find_plain_row(&mut self, alloc: Global, slot: usize) -> Result<Row, Stop> {
+        let numbers = self.rows_in_fractions(alloc, &self.unit(alloc, slot)?)?;
+        match self.find_joined_row(alloc, &numbers) {
+            Err(Stop::NoFit) => {}
+            outcome => return outcome,
+        }
         let row = Row {
             scale: Frac::one(),
-            numbers: self.rows_in_fractions(alloc, &self.unit(alloc, slot)?)?,
+            numbers,
         };
         self.find_entries(&row)?;
         Ok(row)
+    }
+
+    fn find_joined_row(&mut self, alloc: Global, numbers: &[Frac]) -> Result<Row, Stop> {
+        let y = Scaled::of(alloc, numbers)?;
+        self.find_scaled_entries(alloc, &y)
     }
 
     fn unit(&self, alloc: Global, slot: usize) -> Result<Vec<Frac>, Stop> {
