@@ -1,3 +1,4 @@
 pub mod FreeMpsExamples
 pub mod LineSteps
 pub mod Pairs
+pub mod WholePieces
