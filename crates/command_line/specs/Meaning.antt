@@ -75,12 +75,13 @@ direction_in rows = direction_by (stands (codes "min") rows) (stands (codes "max
 abbrev pub outputs_in : List Row → Outputs
 outputs_in rows = record {
   report = first_of (codes "output") rows;
+  solution = first_of (codes "write") rows;
   certificate = first_of (codes "cert") rows;
 }
 
 -- the task, where no file is to be written
 abbrev pub alone : Outputs → Task → Option Task
-alone outputs task = option_map_or (λ _. None) outputs.report (option_map_or (λ _. None) outputs.certificate (Some task))
+alone outputs task = option_map_or (λ _. None) outputs.report (option_map_or (λ _. None) outputs.solution (option_map_or (λ _. None) outputs.certificate (Some task)))
 
 abbrev pub task_by : Bool → Option Text → Outputs → Option Task
 task_by false None outputs = Some (Solve outputs)

@@ -26,7 +26,7 @@ lettered_rule name letter = record (option_rule name) { short = Some letter }
 abbrev pub repeated_rule : Text → ℕ → Rule
 repeated_rule name letter = record (lettered_rule name letter) { action = Some Append }
 
--- what may stand among the words; 100 is the letter d, 109 is the letter m, 111 the letter o, 121 the letter y
+-- what may stand among the words; 100 is the letter d, 109 the letter m, 111 the letter o, 119 the letter w, 121 the letter y
 abbrev pub rules : List Rule
 rules = file_rule
     ∷ flag_rule (codes "math")
@@ -41,6 +41,7 @@ rules = file_rule
     ∷ flag_rule (codes "nomip")
     ∷ flag_rule (codes "exact")
     ∷ lettered_rule (codes "output") 111
+    ∷ lettered_rule (codes "write") 119
     ∷ option_rule (codes "cert")
     ∷ option_rule (codes "checkcert")
     ∷ option_rule (codes "nodlim")

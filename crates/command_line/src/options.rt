@@ -41,6 +41,7 @@ fn command<'a>(alloc: Global) -> Result<Command<'a>, AllocError>
         .arg(flag(alloc, "nomip"))?
         .arg(flag(alloc, "exact"))?
         .arg(lettered(alloc, "output", 'o'))?
+        .arg(lettered(alloc, "write", 'w'))?
         .arg(option(alloc, "cert"))?
         .arg(option(alloc, "checkcert"))?
         .arg(option(alloc, "nodlim"))?

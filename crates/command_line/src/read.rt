@@ -175,8 +175,8 @@ fn task_by(translates: bool, certificate: Option<Name>, outputs: Outputs) -> Opt
 fn alone(outputs: Outputs, task: Task) -> Option<Task>
     ensures { result ≡ alone outputs task }
 {
-    match (outputs.report, outputs.certificate) {
-        (None, None) => Some(task),
+    match (outputs.report, outputs.solution, outputs.certificate) {
+        (None, None, None) => Some(task),
         _ => None,
     }
 }
@@ -252,6 +252,7 @@ fn outputs_in(alloc: Global, matches: &ArgMatches<'_>) -> Result<Outputs, AllocE
 {
     Ok(Outputs {
         report: name_in(alloc, matches, "output")?,
+        solution: name_in(alloc, matches, "write")?,
         certificate: name_in(alloc, matches, "cert")?,
     })
 }

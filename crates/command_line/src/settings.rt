@@ -57,6 +57,8 @@ pub enum Task {
 pub struct Outputs {
     /// The file of the report, which is printed too.
     pub report: Option<Name>,
+    /// The file of the raw solution.
+    pub solution: Option<Name>,
     /// The file of the certificate.
     pub certificate: Option<Name>,
 }

@@ -152,4 +152,4 @@ shown p s texts (VerdictFound c) h = reportable p c h.2
 pub shown_pieces : (task : Task) (p : Problem) (f : Finding) → IsShown p f → (pieces : List Piece) × (found_pieces task p (reached_by f) ≡ Some pieces)
 shown_pieces task p Size h = (printed (translated_report p), refl)
 shown_pieces task p AcceptanceFound h = (printed accepted_report, refl)
-shown_pieces task p (VerdictFound c) h = let report = has_report p c h in (solved_pieces task c report.0, ap (option_map (solved_pieces task c)) report.1)
+shown_pieces task p (VerdictFound c) h = let report = has_report p c h in (solved_pieces task p c report.0, ap (option_map (solved_pieces task p c)) report.1)

@@ -21,6 +21,7 @@ use Rattle.command_line.specs.declared.settings.Outputs.{Outputs}
 use Rattle.command_line.specs.declared.settings.Settings.{Settings}
 use Rattle.command_line.specs.declared.settings.Task.{Task}
 use Rattle.solution_writer.specs.Report.{solved_report, translated_report, accepted_report}
+use Rattle.solution_writer.specs.Solution.{raw_solution}
 use Rattle.glpsol_cli.specs.Asked.{ToldNames, OfTexts, outputs_of}
 use Rattle.glpsol_cli.specs.Pieces.{Piece}
 use Rattle.glpsol_cli.specs.declared.answer.Reached.{Reached}
@@ -155,14 +156,14 @@ saved_in (Some name) text = record { target = File name; text = text } ∷ []
 abbrev pub printed : List ℕ → List Piece
 printed text = record { target = Out; text = text } ∷ []
 
--- what goes to the files, in order: the report, and the certificate
-abbrev pub saved_pieces : Option Outputs → Certificate → List ℕ → List Piece
-saved_pieces None c report = []
-saved_pieces (Some outputs) c report = saved_in outputs.report report ++ saved_in outputs.certificate (certificate_text c)
+-- what goes to the files, in order: the report, the raw solution, and the certificate
+abbrev pub saved_pieces : Option Outputs → Problem → Certificate → List ℕ → List Piece
+saved_pieces None p c report = []
+saved_pieces (Some outputs) p c report = saved_in outputs.report report ++ (saved_in outputs.solution (raw_solution p c) ++ saved_in outputs.certificate (certificate_text c))
 
 -- the report on the output, and then the files
-abbrev pub solved_pieces : Task → Certificate → List ℕ → List Piece
-solved_pieces task c report = printed report ++ saved_pieces (outputs_of task) c report
+abbrev pub solved_pieces : Task → Problem → Certificate → List ℕ → List Piece
+solved_pieces task p c report = printed report ++ saved_pieces (outputs_of task) p c report
 
 -- what is written of a problem once this was reached; none where a certificate lacks a part that its report shows
 abbrev pub found_pieces : Task → Problem → Reached → Option (List Piece)
@@ -170,7 +171,7 @@ found_pieces task p Nothing = Some []
 found_pieces task p Executed = Some []
 found_pieces task p Size = Some (printed (translated_report p))
 found_pieces task p Acceptance = Some (printed accepted_report)
-found_pieces task p (VerdictReached c) = option_map (solved_pieces task c) (solved_report p c)
+found_pieces task p (VerdictReached c) = option_map (solved_pieces task p c) (solved_report p c)
 
 -- the statements behind `solve` are executed at a best point alone
 abbrev pub behind_at : (List Rational → Behind) → Verdict → Option (List Rational) → Behind

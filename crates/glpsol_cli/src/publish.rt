@@ -3,6 +3,7 @@ ghost use Rattle.std.specs.Prelude.{◌≡◌, ◌≤◌, ◌++◌, List, ℕ, I
 ghost use Rattle.std.specs.Option.{option_map};
 ghost use Rattle.outside.specs.Causes.{Rose};
 ghost use Rattle.solution_writer.specs.Report.{IsReportable, solved_report};
+ghost use Rattle.solution_writer.specs.Solution.{raw_solution};
 ghost use Rattle.certificate.specs.Text.{certificate_text};
 ghost use Rattle.glpsol_cli.specs.Asked.{outputs_of};
 ghost use Rattle.glpsol_cli.specs.Meaning.{found_pieces, printed, saved_in, saved_pieces, solved_pieces};
@@ -15,7 +16,7 @@ use certificate_writer::text;
 use command_line::{Outputs, Task};
 use instance::{Instance, Name};
 use outside::{Sink, Store, Trouble, write_all, write_file};
-use solution_writer::{accepted_report, solved_report, translated_report};
+use solution_writer::{accepted_report, raw_solution, solved_report, translated_report};
 use std::alloc::{AllocError, Global};
 
 // A text, and where it is written.
@@ -85,7 +86,7 @@ fn solved(
 {
     let report = solved_report(alloc, problem, certificate)?;
     let mut pieces = output(alloc, &report)?;
-    add_files(alloc, &mut pieces, task, certificate, &report)?;
+    add_files(alloc, &mut pieces, task, problem, certificate, &report)?;
     Ok(pieces)
 }
 
@@ -94,13 +95,15 @@ fn add_files(
     alloc: Global,
     pieces: &mut Vec<Piece>,
     task: &Task,
+    problem: &Instance,
     certificate: &Certificate,
     report: &str,
 ) -> Result<(), AllocError>
-    ensures { OnOk result (pieces_of pieces.new.items ≡ pieces_of pieces.old.items ++ saved_pieces (outputs_of task.now) certificate.now report.now) }
+    requires { IsReportable problem.now certificate.now }
+    ensures { OnOk result (pieces_of pieces.new.items ≡ pieces_of pieces.old.items ++ saved_pieces (outputs_of task.now) problem.now certificate.now report.now) }
 {
     match task {
-        Task::Solve(outputs) => add_outputs(alloc, pieces, outputs, certificate, report),
+        Task::Solve(outputs) => add_outputs(alloc, pieces, outputs, problem, certificate, report),
         Task::Translate | Task::CheckCertificate(_) => Ok(()),
     }
 }
@@ -110,12 +113,15 @@ fn add_outputs(
     alloc: Global,
     pieces: &mut Vec<Piece>,
     outputs: &Outputs,
+    problem: &Instance,
     certificate: &Certificate,
     report: &str,
 ) -> Result<(), AllocError>
-    ensures { OnOk result (pieces_of pieces.new.items ≡ pieces_of pieces.old.items ++ saved_pieces (Some outputs.now) certificate.now report.now) }
+    requires { IsReportable problem.now certificate.now }
+    ensures { OnOk result (pieces_of pieces.new.items ≡ pieces_of pieces.old.items ++ saved_pieces (Some outputs.now) problem.now certificate.now report.now) }
 {
     add_report(alloc, pieces, &outputs.report, report)?;
+    add_solution(alloc, pieces, &outputs.solution, problem, certificate)?;
     add_certificate(alloc, pieces, &outputs.certificate, certificate)
 }
 
@@ -129,6 +135,25 @@ fn add_report(
 {
     match file {
         Some(name) => add_file(alloc, pieces, name, report.as_bytes().to_vec(alloc)?),
+        None => Ok(()),
+    }
+}
+
+fn add_solution(
+    alloc: Global,
+    pieces: &mut Vec<Piece>,
+    file: &Option<Name>,
+    problem: &Instance,
+    certificate: &Certificate,
+) -> Result<(), AllocError>
+    requires { IsReportable problem.now certificate.now }
+    ensures { OnOk result (pieces_of pieces.new.items ≡ pieces_of pieces.old.items ++ saved_in file.now (raw_solution problem.now certificate.now)) }
+{
+    match file {
+        Some(name) => {
+            let solution = raw_solution(alloc, problem, certificate)?;
+            add_file(alloc, pieces, name, solution.as_bytes().to_vec(alloc)?)
+        }
         None => Ok(()),
     }
 }

@@ -28,6 +28,8 @@ mps f, own direction, solve, cert  <- --freemps|f|--cert=
 mps f, own direction, solve, report r, no cert <- --freemps|f|-o|r
 mps f, own direction, solve, report r, no cert <- -or|--freemps|f
 mps f, own direction, solve, report r, cert c <- --freemps|f|--cert|c|--output=r
+mps f, own direction, solve, solution w, no cert <- --freemps|f|-w|w
+lp f, own direction, solve, report r, solution w, cert c <- --lp|f|--cert|c|--write=w|-o|r
 mps f, min, translate <- --freemps|f|--check|--min
 mps f, own direction, check c <- --freemps|f|--checkcert|c
 mps f, max, check c <- --checkcert=c|--freemps|f|--max
@@ -93,6 +95,10 @@ usage <- --freemps|f|-o|r|--output|r
 usage <- --freemps|f|-output|r
 usage <- --freemps|f|--check|-o|r
 usage <- --freemps|f|--checkcert|c|-o|r
+usage <- --freemps|f|-w
+usage <- --freemps|f|-w|w|--write|w
+usage <- --freemps|f|--check|-w|w
+usage <- --freemps|f|--checkcert|c|--write=w
 usage <- --freemps|f|--help
 usage <- --freemps|f|-h
 usage <- --freemps|f|--version
@@ -238,8 +244,9 @@ fn task_shown(alloc: Global, task: &Task) -> Result<String, AllocError> {
     match task {
         Task::Solve(outputs) => {
             let report = report_shown(alloc, &outputs.report)?;
+            let solution = solution_shown(alloc, &outputs.solution)?;
             let certificate = file_shown(alloc, "cert", &outputs.certificate)?;
-            format!(in alloc; "solve, {report}{certificate}")
+            format!(in alloc; "solve, {report}{solution}{certificate}")
         }
         Task::Translate => "translate".to_string(alloc),
         Task::CheckCertificate(file) => format!(in alloc; "check {}", file.as_str()),
@@ -249,6 +256,13 @@ fn task_shown(alloc: Global, task: &Task) -> Result<String, AllocError> {
 fn report_shown(alloc: Global, file: &Option<Name>) -> Result<String, AllocError> {
     match file {
         Some(name) => format!(in alloc; "report {}, ", name.as_str()),
+        None => Ok(String::new(alloc)),
+    }
+}
+
+fn solution_shown(alloc: Global, file: &Option<Name>) -> Result<String, AllocError> {
+    match file {
+        Some(name) => format!(in alloc; "solution {}, ", name.as_str()),
         None => Ok(String::new(alloc)),
     }
 }

@@ -29,7 +29,7 @@ fn a_file_that_is_missing(rt: HostRuntime) -> Result<(), Fail> {
 }
 
 // The number of the call on the store that fails, and what is printed: opening, two reads and the end of the model, making,
-// writing and ending the report's file, and then the certificate's; the eleventh never comes.
+// writing and ending the report's file, then the raw solution's, and then the certificate's; the fourteenth never comes.
 const FAILING_CALLS: &str = "\
 1 open fault: f$
 2 read fault: f$
@@ -38,10 +38,13 @@ const FAILING_CALLS: &str = "\
 5 OPTIMAL$objective cost 2$column x 2$write fault: r$
 6 OPTIMAL$objective cost 2$column x 2$write fault: r$
 7 OPTIMAL$objective cost 2$column x 2$write fault: r$
-8 OPTIMAL$objective cost 2$column x 2$write fault: c$
-9 OPTIMAL$objective cost 2$column x 2$write fault: c$
-10 OPTIMAL$objective cost 2$column x 2$write fault: c$
-11 OPTIMAL$objective cost 2$column x 2$
+8 OPTIMAL$objective cost 2$column x 2$write fault: w$
+9 OPTIMAL$objective cost 2$column x 2$write fault: w$
+10 OPTIMAL$objective cost 2$column x 2$write fault: w$
+11 OPTIMAL$objective cost 2$column x 2$write fault: c$
+12 OPTIMAL$objective cost 2$column x 2$write fault: c$
+13 OPTIMAL$objective cost 2$column x 2$write fault: c$
+14 OPTIMAL$objective cost 2$column x 2$
 ";
 
 fn check_failing_call<T: Threads + Sync + Abort>(
@@ -55,7 +58,7 @@ fn check_failing_call<T: Threads + Sync + Abort>(
     };
     let mut files = model_alone(alloc, Some(number), 4096)?;
     let mut out = MemSink::new(alloc, Vec::new(alloc), 1);
-    let words = words_of(alloc, "--freemps f --cert c -o r")?;
+    let words = words_of(alloc, "--freemps f --cert c -o r -w w")?;
     let _status = status(rt, alloc, words, &mut files, &mut out);
     assert_eq!(rt;
         out.bytes(),

@@ -23,4 +23,8 @@ mod memory_files;
 #[cfg(test)]
 mod printing;
 #[cfg(test)]
+mod raw_solutions;
+#[cfg(test)]
 mod runs;
+#[cfg(test)]
+mod written_files;

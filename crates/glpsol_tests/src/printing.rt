@@ -1,10 +1,7 @@
 // Models that print: up to `solve`, behind it, to the output and to a file.
-use crate::runs::{check_table, outcome, written};
-use outside::MemStore;
-use std::alloc::{AllocError, Global};
-use std::process::Abort;
+use crate::runs::check_table;
+use crate::written_files::check_written;
 use std::test::Fail;
-use std::thread::Threads;
 
 // By hand after the language reference and C's `printf`.
 const PRINTED: &str = "\
@@ -49,7 +46,7 @@ fn models_print_their_solutions(rt: HostRuntime) -> Result<(), Fail> {
     check_table(&rt, rt.alloc(), BEHIND)
 }
 
-// The status with what is printed, what file y holds (`none`, where there is none), the words and the text.
+// To the file y.
 const TO_A_FILE: &str = "\
 0 OPTIMAL$objective z 6$column x[1] 2$column x[2] 1$column x[3] 0$row z 6$row r 3$ <- 1=2 2=1 3=0 $ <- --math f -y y <- set I := 1..3; param c{i in I} := i*i; var x{I} >= 0, <= 2; minimize z: sum{i in I} c[i]*x[i]; s.t. r: sum{i in I} x[i] >= 3; solve; printf{i in I}: '%d=%g ', i, x[i].val; printf '\\n'; end;
 0 OPTIMAL$objective z 1$column x 1$row z 1$ <- a$x = 1$ <- --math f --display y <- printf 'a\\n'; var x >= 1; minimize z: x; solve; display x; end;
@@ -64,49 +61,7 @@ const TO_A_FILE: &str = "\
 1 usage: glpsol (--math|--freemps|--lp) FILE [options]$ <- none <- --math f -y y --display z <- end;
 ";
 
-fn file_text(alloc: Global, files: &MemStore) -> Result<String, AllocError> {
-    match files.bytes("y") {
-        None => "none".to_string(alloc),
-        Some(bytes) => match str::from_utf8(bytes) {
-            Ok(text) => text.to_string(alloc),
-            Err(_) => "bytes that are no text".to_string(alloc),
-        },
-    }
-}
-
-fn check_file<T: Threads + Sync + Abort>(
-    rt: &T,
-    alloc: Global,
-    want: &str,
-    held: &str,
-    given: &str,
-) -> Result<(), Fail> {
-    let Some((words, text)) = given.split_once(" <- ") else {
-        panic!(rt; "words and a text: {given}");
-    };
-    let mut files = MemStore::new(alloc, Vec::new(alloc), 4096);
-    files.add("f", written(alloc, text)?.as_bytes())?;
-    let found = outcome(rt, alloc, words, &mut files)?;
-    assert_eq!(rt;
-        found.as_str(),
-        written(alloc, want)?.as_str(),
-        "at {given}"
-    );
-    let file = file_text(alloc, &files)?;
-    assert_eq!(rt; file.as_str(), written(alloc, held)?.as_str(), "at {given}");
-    Ok(())
-}
-
 #[test]
 fn models_print_to_a_file(rt: HostRuntime) -> Result<(), Fail> {
-    for row in TO_A_FILE.lines() {
-        let Some((want, others)) = row.split_once(" <- ") else {
-            panic!(rt; "what is printed: {row}");
-        };
-        let Some((held, given)) = others.split_once(" <- ") else {
-            panic!(rt; "what the file holds: {row}");
-        };
-        check_file(&rt, rt.alloc(), want, held, given)?;
-    }
-    Ok(())
+    check_written(&rt, rt.alloc(), TO_A_FILE)
 }

@@ -1,3 +1,4 @@
 pub mod Report
+pub mod Solution
 pub mod KindTexts
 pub mod FaultLine

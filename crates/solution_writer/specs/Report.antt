@@ -1,5 +1,5 @@
 -- The report of a run. Every line ends with a line feed; a number is `n` or `n/d`.
-use Rattle.std.specs.Prelude.{ℕ, List, [], ◌∷◌, ◌++◌, codes, length, Option, Some, None, IsSome, IsSomeAnd, ◌≡◌}
+use Rattle.std.specs.Prelude.{ℕ, List, [], ◌∷◌, ◌++◌, codes, length, map, Option, Some, None, IsSome, IsSomeAnd, ◌≡◌}
 use Rattle.std.specs.Fmt.{decimal}
 use Rattle.rational.specs.Rational.{Rational}
 use Rattle.fraction.specs.Text.{text_of}
@@ -24,13 +24,18 @@ column_lines (c ∷ cs) (number ∷ numbers) = column_line c.name number ++ colu
 abbrev pub row_line : List ℕ → Rational → List ℕ
 row_line name value = codes "row " ++ (name ++ (codes " " ++ (text_of value ++ codes "\n")))
 
+-- the values of the rows' forms
+abbrev pub row_values : List Rational → List Row → List Rational
+row_values point rows = map (λ (r : Row). sum_at point r.entries) rows
+
 -- each row with the value of its form
-abbrev pub row_lines : List Rational → List Row → List ℕ
-row_lines point [] = []
-row_lines point (r ∷ rs) = row_line r.name (sum_at point r.entries) ++ row_lines point rs
+abbrev pub row_lines : List Row → List Rational → List ℕ
+row_lines [] values = []
+row_lines (r ∷ rs) [] = []
+row_lines (r ∷ rs) (value ∷ values) = row_line r.name value ++ row_lines rs values
 
 abbrev pub optimal_report : Problem → Rational → List Rational → List ℕ
-optimal_report p value point = head_line p.objective_name value ++ (column_lines p.columns point ++ row_lines point p.rows)
+optimal_report p value point = head_line p.objective_name value ++ (column_lines p.columns point ++ row_lines p.rows (row_values point p.rows))
 
 abbrev pub ray_line : List ℕ → Rational → Rational → List ℕ
 ray_line name number step = codes "column " ++ (name ++ (codes " " ++ (text_of number ++ (codes " " ++ (text_of step ++ codes "\n")))))

@@ -1,9 +1,9 @@
 // The lines of columns and rows.
 ghost use Rattle.std.specs.Prelude.{◌≡◌, IfOk, length, string_bytes};
-ghost use Rattle.solution_writer.specs.Report.{head_line, column_line, column_lines, ray_line, ray_lines, row_line};
+ghost use Rattle.solution_writer.specs.Report.{head_line, column_line, column_lines, ray_line, ray_lines, row_line, row_lines};
 
 use fraction::Frac;
-use instance::{Column, Name};
+use instance::{Column, Name, Row};
 use std::alloc::{AllocError, Global};
 
 /// The word OPTIMAL, and the objective with its value.
@@ -64,8 +64,20 @@ fn ray_line(alloc: Global, name: &Name, number: Frac, step: Frac) -> Result<Stri
     format!(in alloc; "column {name} {number} {step}\n")
 }
 
-/// A row with the value of its form.
-pub fn row_line(alloc: Global, name: &Name, value: Frac) -> Result<String, AllocError>
+/// Each row with the value of its form.
+pub fn row_lines(alloc: Global, rows: &[Row], values: &[Frac]) -> Result<String, AllocError>
+    requires { length values.now ≡ length rows.now }
+    ensures { IfOk result (λ text. string_bytes text ≡ row_lines rows.now values.now) }
+{
+    let mut text = String::new(alloc);
+    for (i, row) in rows.iter().enumerate() {
+        let line = row_line(alloc, row.name(), values[i])?;
+        text.push_str(&line)?;
+    }
+    Ok(text)
+}
+
+fn row_line(alloc: Global, name: &Name, value: Frac) -> Result<String, AllocError>
     ensures { IfOk result (λ text. string_bytes text ≡ row_line name.now value) }
 {
     let name = name.as_str();

@@ -2,12 +2,12 @@
 ghost use Rattle.std.specs.Prelude.{◌≡◌, IfOk, IsSome, IsSomeAnd, Some, length, string_bytes};
 ghost use Rattle.std.specs.Option.{option_map};
 ghost use Rattle.gmpl_generate.specs.Solved.{RowsFit};
-ghost use Rattle.solution_writer.specs.Report.{optimal_at, unbounded_at, row_lines, optimal_report, unbounded_report, solved_report, translated_report, accepted_report, IsShownPoint, IsReportable};
+ghost use Rattle.solution_writer.specs.Report.{optimal_at, unbounded_at, optimal_report, unbounded_report, solved_report, translated_report, accepted_report, IsShownPoint, IsReportable};
 
-use crate::lines::{column_lines, head_line, ray_lines, row_line};
+use crate::lines::{column_lines, head_line, ray_lines, row_lines};
+use crate::values::row_values;
 use certificate::{Certificate, Verdict};
 use fraction::Frac;
-use gmpl_generate::row_value;
 use instance::{Instance, Point};
 use std::alloc::{AllocError, Global};
 
@@ -55,27 +55,12 @@ fn optimal_report(
     requires rows { RowsFit point.now problem.now.rows }
     ensures { IfOk result (λ text. string_bytes text ≡ optimal_report problem.now value point.now) }
 {
+    let values = row_values(alloc, problem, point)?;
     let mut text = head_line(alloc, problem.objective_name(), value)?;
     let columns = column_lines(alloc, problem.columns(), point.as_slice())?;
-    let rows = row_lines(alloc, problem, point)?;
+    let rows = row_lines(alloc, problem.rows(), &values)?;
     text.push_str(&columns)?;
     text.push_str(&rows)?;
-    Ok(text)
-}
-
-fn row_lines(alloc: Global, problem: &Instance, point: &Point) -> Result<String, AllocError>
-    requires size { length point.now ≡ length problem.now.columns }
-    requires rows { RowsFit point.now problem.now.rows }
-    ensures { IfOk result (λ text. string_bytes text ≡ row_lines point.now problem.now.rows) }
-{
-    problem.keeps_its_limits();
-    let rows = problem.rows();
-    let mut text = String::new(alloc);
-    for (i, row) in rows.iter().enumerate() {
-        let value = row_value(problem, i as u32, point);
-        let line = row_line(alloc, row.name(), value)?;
-        text.push_str(&line)?;
-    }
     Ok(text)
 }
 

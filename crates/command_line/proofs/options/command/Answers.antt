@@ -23,7 +23,8 @@ returns c =
     let app = added c.in_ok-arg-11.ensures c.flag-7.ensures.local c.flag-7.ensures.rule app in
     let app = added c.in_ok-arg-12.ensures c.flag-8.ensures.local c.flag-8.ensures.rule app in
     let app = added c.in_ok-arg-13.ensures c.lettered-3.ensures.local c.lettered-3.ensures.rule app in
-    let app = added c.in_ok-arg-14.ensures c.option.ensures.local c.option.ensures.rule app in
-    let app = added c.in_ok-arg-15.ensures c.option-2.ensures.local c.option-2.ensures.rule app in
-    let app = added c.in_ok-arg-16.ensures c.option-3.ensures.local c.option-3.ensures.rule app in
-    IfOk-weaker c.arg-17.result _ _ (λ _ adds. added adds c.option-4.ensures.local c.option-4.ensures.rule app) c.arg-17.ensures
+    let app = added c.in_ok-arg-14.ensures c.lettered-4.ensures.local c.lettered-4.ensures.rule app in
+    let app = added c.in_ok-arg-15.ensures c.option.ensures.local c.option.ensures.rule app in
+    let app = added c.in_ok-arg-16.ensures c.option-2.ensures.local c.option-2.ensures.rule app in
+    let app = added c.in_ok-arg-17.ensures c.option-3.ensures.local c.option-3.ensures.rule app in
+    IfOk-weaker c.arg-18.result _ _ (λ _ adds. added adds c.option-4.ensures.local c.option-4.ensures.rule app) c.arg-18.ensures
