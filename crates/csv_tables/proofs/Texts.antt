@@ -1,5 +1,5 @@
 -- Fields that are UTF-8, and records of such fields.
-use Rattle.std.proofs.Common.{◌≡◌, ◌<◌, ◌≤◌, ◌+◌, ◌&&◌, ℕ, zero, suc, Some, None, true, false, List, [], ◌∷◌, ◌++◌, length, drop, get_or, refl, sym, ap, ◌∙◌, inl, inr, append_assoc}
+use Rattle.std.proofs.Common.{◌≡◌, ◌<◌, ◌≤◌, ◌+◌, ◌&&◌, ℕ, zero, suc, Some, None, true, false, List, [], ◌∷◌, ◌++◌, length, drop, get_or, refl, sym, ap, ◌∙◌, inl, inr}
 use Rattle.std.specs.Prelude.{Result, Ok, Err, IsErrAnd}
 use Rattle.std.specs.Str.{IsUtf8, is_utf8}
 use Rattle.std.specs.List.{list_all}
@@ -22,12 +22,6 @@ text-good field good = rw (is_utf8-from_IsUtf8 field good) refl
 pub text-bad : (field : List ℕ) → (IsUtf8 field → ⊥) → text_of field ≡ Err BadRecord
 text-bad field bad = elim (cases_Bool (is_utf8 field)) [ inl good ↦ absurd (bad (IsUtf8-from_is_utf8 field good)) | inr none ↦ rw none refl ]
 
-good-text : (field text : List ℕ) → text_of field ≡ Ok text → (is_utf8 field ≡ true) × (field ≡ text)
-good-text field text e = elim (cases_Bool (is_utf8 field)) [
-  | inl good ↦ let same = rw good at e in (good, cc same)
-  | inr none ↦ let same = rw none at e in cc same
-]
-
 bad-text : (field : List ℕ) (why : TableFault) → text_of field ≡ Err why → (is_utf8 field ≡ false) × (why ≡ BadRecord)
 bad-text field why e = elim (cases_Bool (is_utf8 field)) [
   | inl good ↦ let same = rw good at e in cc same
@@ -37,15 +31,6 @@ bad-text field why e = elim (cases_Bool (is_utf8 field)) [
 -- the texts so far, and the fields from a place on
 abbrev pub AreTexts : List (List ℕ) → List (List ℕ) → ℕ → Type 0
 AreTexts done fields place = (done ++ drop place fields ≡ fields) × (list_all is_utf8 fields ≡ list_all is_utf8 (drop place fields))
-
-pub one-more-text : (done fields : List (List ℕ)) (place : ℕ) (text : List ℕ) → place < length fields → text_of (get_or fields place []) ≡ Ok text
-    → AreTexts done fields place → AreTexts (done ++ text ∷ []) fields (place + 1)
-one-more-text done fields place text within e (are, all) =
-    let more = drop_more fields place [] within in
-    let good = good-text (get_or fields place []) text e in (
-      append_assoc done (text ∷ []) (drop (place + 1) fields) ∙ ap (λ (t : List ℕ). done ++ (t ∷ drop (place + 1) fields)) (sym good.1) ∙ ap (λ (t : List (List ℕ)). done ++ t) (sym more) ∙ are,
-      all ∙ ap (list_all is_utf8) more ∙ ap (λ b. b && list_all is_utf8 (drop (place + 1) fields)) good.0,
-    )
 
 pub one-bad-text : (done fields : List (List ℕ)) (place : ℕ) (why : TableFault) → place < length fields → text_of (get_or fields place []) ≡ Err why
     → AreTexts done fields place → texts_of fields ≡ Err why
