@@ -1,6 +1,8 @@
-//! Tests of the crate that reads and writes tables in CSV, by its public calls alone.
+//! Tests of the crates that read and write tables in CSV and add them to data, by their public calls alone.
 #![tactic(auto)]
 
+#[cfg(test)]
+mod adding;
 #[cfg(test)]
 mod reading;
 #[cfg(test)]

@@ -1,18 +1,18 @@
 -- What is said of an answer by the settings and the texts that were read, as it is said by the words.
-use Rattle.std.proofs.Common.{◌≡◌, ◌≤◌, ℕ, List, [], None, Some}
+use Rattle.std.proofs.Common.{◌≤◌, ℕ, List, ◌++◌, None, Some}
 use Rattle.outside.specs.Causes.{Rose}
 use Rattle.outside.specs.declared.store.LoadFault.{LoadFault}
 use Rattle.outside.specs.declared.store.LoadFault.TheVariants.{Missing as LoadMissing, Open, Read, TooLong as LoadTooLong, NoMemory as LoadNoMemory}
-use Rattle.command_line.specs.Meaning.{settings_of}
 use Rattle.command_line.specs.declared.settings.Settings.{Settings}
 use Rattle.command_line.specs.declared.settings.WordsFault.TheVariants.{Usage as WordsUsage, NoMemory as WordsNoMemory}
-use Rattle.glpsol_cli.specs.Asked.{ToldNames, OfTexts, AreTexts, IsInTurn, names_read}
-use Rattle.glpsol_cli.specs.Pieces.{Piece, Outside, IsWrittenInPart}
-use Rattle.glpsol_cli.specs.Meaning.{HasDone, HasFound, OfPieces}
+use Rattle.glpsol_cli.specs.Asked.{ToldNames, IsInTurn}
+use Rattle.glpsol_cli.specs.Pieces.{Piece, Outside, AllWritten, IsWrittenInPart, Part}
+use Rattle.glpsol_cli.specs.Meaning.{HasDone, HasFound}
+use Rattle.glpsol_cli.specs.Texts.{IsTableInTurn, OfPieces, OfTexts}
 use Rattle.glpsol_cli.specs.Cause.{Cause, EndsBehind, IsProved, IsReached, IsTranslated, OfCertificate, IsAccepted, IsRefusedAt, IsNoCertificate, IsOverflow, IsUndecided, RoseAt}
 use Rattle.glpsol_cli.specs.Meaning.{IsRefused}
-use Rattle.glpsol_cli.specs.Written.{Written, line_of}
-use Rattle.glpsol_cli.specs.Stages.{CauseIn, ReachedIn, PiecesIn, IsStop, IsUnread, stop_answer, unread_answer}
+use Rattle.glpsol_cli.specs.Written.{ThenLine, Written, line_of}
+use Rattle.glpsol_cli.specs.Stages.{AreRead, CauseIn, ReachedIn, PiecesIn, IsStop, IsUnread, WrittenSince, stop_answer, unread_answer}
 use Rattle.glpsol_cli.specs.declared.answer.Answer.{Answer}
 use Rattle.glpsol_cli.specs.declared.answer.Answer.TheVariants.{Optimal, Infeasible, Unbounded, Translated, Accepted, Usage, Missing, OpenFault, ReadFault, WriteFault, TooLong, BadText, FaultBehindSolve, BadCertificate, Overflow, Undecided, Refused, NoMemory}
 use Rattle.glpsol_cli.specs.declared.answer.Reached.{Reached}
@@ -22,19 +22,20 @@ use Rattle.glpsol_cli.specs.declared.answer.Target.TheVariants.{Out, File as Fil
 use Rattle.glpsol_cli.specs.declared.stop.Stop.{Stop}
 use Rattle.glpsol_cli.specs.declared.stop.Stop.TheVariants.{Words, File, NoMemory as StopNoMemory}
 use Rattle.glpsol_cli.proofs.Follow.{rose_within}
-use Rattle.glpsol_cli.proofs.Writing.{nothing}
+use Rattle.glpsol_cli.proofs.Parts.{of_read}
+use Rattle.glpsol_cli.proofs.Writing.{all_some, nothing}
 
 pub of_texts : (words : List (List ℕ)) (told : ToldNames) (P Q : Settings → List (List ℕ) → Type 0) → ((s : Settings) (texts : List (List ℕ)) → P s texts → Q s texts) → OfTexts words told P → OfTexts words told Q
-of_texts words told P Q f of = record { settings = of.settings; asks = of.asks; texts = of.texts; read = of.read; has = f of.settings of.texts of.has }
+of_texts words told P Q f of = record { settings = of.settings; asks = of.asks; texts = of.texts; read = of.read; tables = of.tables; tables_read = of.tables_read; has = f of.settings (of.texts ++ of.tables) of.has }
 
 -- ---- stops
 
 module _ (words : List (List ℕ)) (told : ToldNames) (files_rose out_rose : Type 0) where
-  unread_cause : (name : List ℕ) (fault : LoadFault) → IsInTurn words told name × IsUnread (told name) files_rose fault → Cause words told files_rose out_rose (unread_answer name fault)
+  unread_cause : (name : List ℕ) (fault : LoadFault) → IsInTurn words told name × IsUnread (told name) files_rose fault → Cause words told files_rose out_rose (unread_answer Nothing name fault)
   unread_cause name LoadMissing h = h
   unread_cause name Open h = h
-  unread_cause name Read h = (h.0, h.1.0, h.1.1)
-  unread_cause name LoadTooLong h = (h.0, h.1.0, h.1.1)
+  unread_cause name Read h = h
+  unread_cause name LoadTooLong h = h
   unread_cause name LoadNoMemory h = tt
 
   pub stop_cause : (stop : Stop) → IsStop words told files_rose stop → Cause words told files_rose out_rose (stop_answer stop)
@@ -43,8 +44,16 @@ module _ (words : List (List ℕ)) (told : ToldNames) (files_rose out_rose : Typ
   stop_cause (File u) h = unread_cause u.name u.fault h
   stop_cause StopNoMemory h = tt
 
+  -- a table's file
+  pub table_cause : (name : List ℕ) (fault : LoadFault) → OfTexts words told (HasDone (λ done. Unit {0})) → OfTexts words told (IsTableInTurn told name (λ now. IsUnread now files_rose fault)) → Cause words told files_rose out_rose (unread_answer Executed name fault)
+  table_cause name LoadMissing done h = h
+  table_cause name Open done h = h
+  table_cause name Read done h = h
+  table_cause name LoadTooLong done h = h
+  table_cause name LoadNoMemory done h = done
+
 module _ (words : List (List ℕ)) (old new : Outside) where
-  unread_written : (name : List ℕ) (fault : LoadFault) → IsWrittenInPart Out (line_of (unread_answer name fault)) old new → Written words old new (unread_answer name fault)
+  unread_written : (name : List ℕ) (fault : LoadFault) → IsWrittenInPart Out (line_of (unread_answer Nothing name fault)) old new → Written words old new (unread_answer Nothing name fault)
   unread_written name LoadMissing line = (old, nothing old, line)
   unread_written name Open line = (old, nothing old, line)
   unread_written name Read line = (old, nothing old, line)
@@ -57,11 +66,19 @@ module _ (words : List (List ℕ)) (old new : Outside) where
   stop_written (File u) line = unread_written u.name u.fault line
   stop_written StopNoMemory line = (old, nothing old, line)
 
+  pub table_written : (told : ToldNames) (name : List ℕ) (fault : LoadFault) → OfTexts words told (HasDone (λ done. (middle : Outside) × AllWritten done old middle × IsWrittenInPart Out (line_of (unread_answer Executed name fault)) middle new)) → WrittenSince words told old new (unread_answer Executed name fault)
+  table_written told name LoadMissing h = h
+  table_written told name Open h = h
+  table_written told name Read h = h
+  table_written told name LoadTooLong h = h
+  table_written told name LoadNoMemory h = of_texts words told (HasDone (λ done. (middle : Outside) × AllWritten done old middle × IsWrittenInPart Out (line_of (unread_answer Executed name LoadNoMemory)) middle new)) (HasDone (ThenLine Part (line_of (unread_answer Executed name LoadNoMemory)) old new))
+      (λ s texts done. record { meaning = done.meaning; means = done.means; has = (done.has.0, all_some done.meaning.done old done.has.0 done.has.1, done.has.2) }) h
+
 -- ---- what was read are the texts of the words
 
-module _ (words : List (List ℕ)) (told : ToldNames) (s : Settings) (texts : List (List ℕ)) (asks : settings_of words ≡ Some s) (read : AreTexts told (names_read s) texts) where
+module _ (words : List (List ℕ)) (told : ToldNames) (s : Settings) (texts : List (List ℕ)) (read : AreRead words told s texts) where
   of_these : (P : Settings → List (List ℕ) → Type 0) → P s texts → OfTexts words told P
-  of_these P h = record { settings = s; asks = asks; texts = texts; read = read; has = h }
+  of_these P h = of_read words told s texts read P h
 
   reached_of_texts : (r : Reached) → ReachedIn s texts r → IsReached words told r
   reached_of_texts Nothing h = tt
@@ -77,11 +94,11 @@ module _ (words : List (List ℕ)) (told : ToldNames) (s : Settings) (texts : Li
   cause_of_texts files_rose out_rose Translated h = of_these IsTranslated h
   cause_of_texts files_rose out_rose Accepted h = of_these (OfCertificate IsAccepted) h
   cause_of_texts files_rose out_rose Usage h = absurd h
-  cause_of_texts files_rose out_rose (Missing name) h = absurd h
-  cause_of_texts files_rose out_rose (OpenFault name) h = absurd h
-  cause_of_texts files_rose out_rose (ReadFault name) h = absurd h
+  cause_of_texts files_rose out_rose (Missing name r) h = absurd h
+  cause_of_texts files_rose out_rose (OpenFault name r) h = absurd h
+  cause_of_texts files_rose out_rose (ReadFault name r) h = absurd h
   cause_of_texts files_rose out_rose (WriteFault target r) h = (reached_of_texts r h.0, h.1)
-  cause_of_texts files_rose out_rose (TooLong name) h = absurd h
+  cause_of_texts files_rose out_rose (TooLong name r) h = absurd h
   cause_of_texts files_rose out_rose (BadText fault) h = of_these (IsRefused fault) h
   cause_of_texts files_rose out_rose (FaultBehindSolve fault c) h = (h.0, of_these (EndsBehind (Some fault) c) h.1)
   cause_of_texts files_rose out_rose (BadCertificate fault) h = of_these (OfCertificate (IsNoCertificate fault)) h
@@ -97,14 +114,6 @@ module _ (words : List (List ℕ)) (told : ToldNames) (s : Settings) (texts : Li
   pieces_of_texts Acceptance P h = of_these (HasFound Acceptance P) h
   pieces_of_texts (Verdict c) P h = of_these (HasFound (Verdict c) P) h
 
--- P of all that is to be written, where it follows from Q
-pub pieces_also : (s : Settings) (texts : List (List ℕ)) (r : Reached) (P Q : List Piece → Type 0) → ((ps : List Piece) → Q ps → P ps) → PiecesIn s texts r Q → PiecesIn s texts r P
-pieces_also s texts Nothing P Q f h = f [] h
-pieces_also s texts Executed P Q f h = record { meaning = h.meaning; means = h.means; has = f h.meaning.done h.has }
-pieces_also s texts Size P Q f h = record { meaning = h.meaning; means = h.means; problem = h.problem; end = h.end; found = h.found; are = h.are; has = f _ h.has }
-pieces_also s texts Acceptance P Q f h = record { meaning = h.meaning; means = h.means; problem = h.problem; end = h.end; found = h.found; are = h.are; has = f _ h.has }
-pieces_also s texts (Verdict c) P Q f h = record { meaning = h.meaning; means = h.means; problem = h.problem; end = h.end; found = h.found; are = h.are; has = f _ h.has }
-
 -- ---- the counts of faults over a longer time
 
 module _ (s : Settings) (texts : List (List ℕ)) (a b c d : ℕ) (before : a ≤ b) (after : c ≤ d) (p q r t : ℕ) (before' : p ≤ q) (after' : r ≤ t) where
@@ -119,11 +128,11 @@ module _ (s : Settings) (texts : List (List ℕ)) (a b c d : ℕ) (before : a �
   cause_within Translated h = h
   cause_within Accepted h = h
   cause_within Usage h = h
-  cause_within (Missing name) h = h
-  cause_within (OpenFault name) h = h
-  cause_within (ReadFault name) h = h
+  cause_within (Missing name r) h = h
+  cause_within (OpenFault name r) h = h
+  cause_within (ReadFault name r) h = h
   cause_within (WriteFault target r) h = (h.0, rose_at target h.1)
-  cause_within (TooLong name) h = h
+  cause_within (TooLong name r) h = h
   cause_within (BadText fault) h = h
   cause_within (FaultBehindSolve fault c) h = h
   cause_within (BadCertificate fault) h = h

@@ -1,7 +1,6 @@
 -- How a run ends, from how its stages ended.
-use Rattle.std.proofs.Common.{◌≡◌, ◌∙◌, ◌≤◌, ℕ, List, [], ◌++◌, Option, Some, None, refl, sym, ap, subst, inl, inr, arith}
+use Rattle.std.proofs.Common.{◌≡◌, ◌∙◌, ◌≤◌, ℕ, List, [], ◌++◌, length, Option, Some, None, refl, sym, ap, subst, inl, inr}
 use Rattle.std.proofs.lemmas.List.{append-nil}
-use Rattle.std.proofs.KnownBytes.{Appends-nil}
 use Rattle.std.specs.Prelude.{Ok, Err, IsSomeAnd}
 use Rattle.std.specs.Option.{option_map}
 use Rattle.rational.specs.Rational.{Rational}
@@ -9,38 +8,36 @@ use Rattle.milp.specs.Problem.{Problem}
 use Rattle.verdicts.specs.Certificate.{Certificate}
 use Rattle.verdicts.specs.Certificate as kind
 use Rattle.gmpl_generate.specs.declared.fault.ModelFault.{ModelFault}
-use Rattle.outside.specs.Causes.{Rose}
 use Rattle.outside.specs.Told.{AppendsPrefix}
 use Rattle.mixed_solve.specs.declared.fault.VerdictFault.TheVariants.{NoFit as SearchNoFit, PivotLimit, SplitLimit, RayNoFit, NoMemory as SearchNoMemory}
 use Rattle.solution_writer.specs.Report.{IsShownPoint}
 use Rattle.command_line.specs.declared.settings.Settings.{Settings}
-use Rattle.glpsol_cli.specs.Asked.{ToldNames}
+use Rattle.glpsol_cli.specs.Asked.{ToldNames, names_read}
 use Rattle.glpsol_cli.specs.Pieces.{Piece, Outside, SameNames, AllWritten, Whole}
 use Rattle.glpsol_cli.specs.Meaning.{Behind, Declared, IsAsked, Meaning, behind_at, behind_of, found_pieces, meaning_in, meaning_of}
 use Rattle.glpsol_cli.specs.Cause.{Cause, EndsBehind, IsProved, IsTranslated, reached_of}
 use Rattle.glpsol_cli.specs.Written.{Written, ThenLine, extent_of, line_of}
-use Rattle.glpsol_cli.specs.Stages.{AreInputs, CauseIn, EndsWriting, HasFailed, IsEndBehind, IsEndIn, IsExecution, IsFinding, IsKept, IsPublished, IsStop, IsSubject, IsUnfound, LeftIn, LeftWritten, PiecesIn, ReachedIn, RestWritten, WrittenIn, behind_in, best_answer, pieces_of, reached_by, stop_answer, texts_in, unfound_answer, unwritten_answer}
+use Rattle.glpsol_cli.specs.Stages.{CauseIn, EndsWriting, HasFailed, IsEndBehind, IsEndIn, IsFinding, IsKept, IsPublished, IsStop, IsSubject, IsUnfound, LeftIn, LeftWritten, PiecesIn, ReachedIn, RestWritten, behind_in, best_answer, pieces_of, reached_by, stop_answer, unfound_answer, unwritten_answer}
 use Rattle.glpsol_cli.specs.declared.answer.Answer.{Answer}
 use Rattle.glpsol_cli.specs.declared.answer.Answer.TheVariants.{Infeasible, Unbounded, Translated, Accepted, BadText, NoMemory}
 use Rattle.glpsol_cli.specs.declared.answer.Reached.{Reached}
 use Rattle.glpsol_cli.specs.declared.answer.Reached.TheVariants.{Nothing, Executed, Size, Acceptance, Verdict}
 use Rattle.glpsol_cli.specs.declared.answer.TextFault.{TextFault}
 use Rattle.glpsol_cli.specs.declared.behind.Behind.{Behind as BehindHeld}
-use Rattle.glpsol_cli.specs.declared.execution.Executed.{Executed as ExecutedHeld}
 use Rattle.glpsol_cli.specs.declared.execution.ExecutionEnd.TheVariants.{Problem as AtProblem, Fault as AtFault}
 use Rattle.glpsol_cli.specs.declared.execution.Later.{Later}
 use Rattle.glpsol_cli.specs.declared.found.Finding.{Finding}
 use Rattle.glpsol_cli.specs.declared.found.Finding.TheVariants.{Size as SizeFound, Acceptance as AcceptanceFound, Verdict as VerdictFound}
-use Rattle.glpsol_cli.specs.declared.inputs.Inputs.{Inputs}
 use Rattle.glpsol_cli.specs.declared.publish.PublishFault.{PublishFault}
 use Rattle.glpsol_cli.specs.declared.publish.PublishFault.TheVariants.{Write, NoMemory as PublishNoMemory}
 use Rattle.glpsol_cli.specs.declared.stop.CheckStop.TheVariants.{BadText as CheckBadText, Refused as CheckRefused, NoFit as CheckNoFit, NoMemory as CheckNoMemory}
 use Rattle.glpsol_cli.specs.declared.stop.Stop.{Stop}
 use Rattle.glpsol_cli.specs.declared.stop.Unfound.{Unfound}
 use Rattle.glpsol_cli.specs.declared.stop.Unfound.TheVariants.{Solve, Check}
-use Rattle.glpsol_cli.proofs.Writing.{nothing, none_written, line_from, line_after, line_alone, no_line, up_to_of_more, some_of_more}
+use Rattle.glpsol_cli.proofs.Writing.{nothing, none_written, line_after, line_alone, no_line, ends_of_more}
 use Rattle.glpsol_cli.proofs.Reports.{best_shown}
-use Rattle.glpsol_cli.proofs.Answers.{stop_cause, stop_written, cause_of_texts, pieces_of_texts, pieces_also, cause_within}
+use Rattle.glpsol_cli.proofs.Parts.{enough_read, means_of}
+use Rattle.glpsol_cli.proofs.Answers.{stop_cause, stop_written}
 
 some_same : {A : Type 0} {a b : A} → Some a ≡ Some b → a ≡ b
 some_same e = cc
@@ -58,26 +55,9 @@ module _ (words : List (List ℕ)) (told told' : ToldNames) (same : SameNames to
       subst (Written words old new) (sym told_is) (subst (Written words old new) (sym means)
       (stop_written words old new stop (subst (λ a. AppendsPrefix taken taken' (line_of a)) means line, same)))
 
--- ---- from the words' texts on
-
-module _ (words : List (List ℕ)) (told : ToldNames) (inputs : Inputs) (are : AreInputs words told inputs) (answer : Answer) where
-  pub read_cause : (a b c p q : ℕ) → a ≤ b → CauseIn inputs.settings (texts_in inputs) (Rose b c) (Rose p q) answer → Cause words told (Rose a c) (Rose p q) answer
-  read_cause a b c p q later h =
-      cause_of_texts words told inputs.settings (texts_in inputs) are.asks are.read (Rose a c) (Rose p q) answer
-      (cause_within inputs.settings (texts_in inputs) a b c c later (omega arith) p p q q (omega arith) (omega arith) answer h)
-
-  pub read_written : (taken : Option (List ℕ)) (told' : ToldNames) (new : Outside) → SameNames told told' → WrittenIn inputs.settings (texts_in inputs) (record { taken = taken; told = told' }) new answer → Written words (record { taken = taken; told = told }) new answer
-  read_written taken told' new same h =
-      let old : Outside = record { taken = taken; told = told } in
-      let middle : Outside = record { taken = taken; told = told' } in
-      let now = ThenLine (extent_of answer) (line_of answer) old new in
-      let then = ThenLine (extent_of answer) (line_of answer) middle new in
-      pieces_of_texts words told inputs.settings (texts_in inputs) are.asks are.read (reached_of answer) now
-      (pieces_also inputs.settings (texts_in inputs) (reached_of answer) now then (λ ps k. line_from old middle (Appends-nil taken, same) (extent_of answer) (line_of answer) ps new k) h)
-
 -- ---- what can't be written
 
-reached_unwritten : (r : Reached) (fault : PublishFault) → reached_of (unwritten_answer r fault) ≡ r
+pub reached_unwritten : (r : Reached) (fault : PublishFault) → reached_of (unwritten_answer r fault) ≡ r
 reached_unwritten r (Write target) = refl
 reached_unwritten r PublishNoMemory = refl
 
@@ -85,27 +65,16 @@ unwritten_cause : (s : Settings) (texts : List (List ℕ)) (files_rose out_rose 
 unwritten_cause s texts files_rose out_rose r (Write target) h failed = (h, failed)
 unwritten_cause s texts files_rose out_rose r PublishNoMemory h failed = h
 
-unwritten_line : (r : Reached) (fault : PublishFault) (ps : List Piece) (old middle : Outside) (taken : Option (List ℕ)) → EndsWriting {T = Unit {0}} ps old middle (Err fault) → AppendsPrefix middle.taken taken (line_of (unwritten_answer r fault))
+pub unwritten_line : (r : Reached) (fault : PublishFault) (ps : List Piece) (old middle : Outside) (taken : Option (List ℕ)) → EndsWriting {T = Unit {0}} ps old middle (Err fault) → AppendsPrefix middle.taken taken (line_of (unwritten_answer r fault))
     → ThenLine (extent_of (unwritten_answer r fault)) (line_of (unwritten_answer r fault)) old (record { taken = taken; told = middle.told }) ps
 unwritten_line r (Write target) ps old middle taken ends line = (middle, ends, (line, λ name. refl))
 unwritten_line r PublishNoMemory ps old middle taken ends line = (middle, ends, (line, λ name. refl))
 
-ends_of_more : (fault : PublishFault) (ps qs : List Piece) (old middle : Outside) → EndsWriting {T = Unit {0}} ps old middle (Err fault) → EndsWriting {T = Unit {0}} (ps ++ qs) old middle (Err fault)
-ends_of_more (Write target) ps qs old middle h = up_to_of_more target ps qs old middle h
-ends_of_more PublishNoMemory ps qs old middle h = some_of_more ps qs old middle h
-
 -- ---- from the execution on
 
 module _ (s : Settings) (texts : List (List ℕ)) where
-  -- there is no memory for it
-  pub unexecuted_written : (taken taken' : Option (List ℕ)) (told : ToldNames) (answer : Answer) → answer ≡ NoMemory Nothing → AppendsPrefix taken taken' (line_of (NoMemory Nothing)) → WrittenIn s texts (record { taken = taken; told = told }) (record { taken = taken'; told = told }) answer
-  unexecuted_written taken taken' told answer is line =
-      let old : Outside = record { taken = taken; told = told } in
-      let new : Outside = record { taken = taken'; told = told } in
-      subst (WrittenIn s texts old new) (sym is) (old, nothing old, (line, λ name. refl))
-
   -- what is left, behind what was printed
-  left_in : (m : Meaning) → meaning_of s texts ≡ Some m → (r : Reached) (P Q : List Piece → Type 0) → ((ps : List Piece) → P ps → Q (m.done ++ ps)) → LeftIn s texts r P → PiecesIn s texts r Q
+  pub left_in : (m : Meaning) → meaning_of s texts ≡ Some m → (r : Reached) (P Q : List Piece → Type 0) → ((ps : List Piece) → P ps → Q (m.done ++ ps)) → LeftIn s texts r P → PiecesIn s texts r Q
   left_in m means Nothing P Q f h = absurd h
   left_in m means Executed P Q f h = record { meaning = m; means = means; has = subst Q (append-nil m.done) (f [] h) }
   left_in m means Size P Q f h = record {
@@ -136,41 +105,10 @@ module _ (s : Settings) (texts : List (List ℕ)) where
     has = subst (λ (n : Meaning). Q (n.done ++ (h.found ++ (behind_of h.meaning.behind (Verdict c)).pieces))) (some_same (sym means ∙ h.means)) (f (h.found ++ (behind_of h.meaning.behind (Verdict c)).pieces) h.has);
   }
 
-  module _ (e : ExecutedHeld) (h : IsExecution s texts e) where
-    pub ends_so : IsEndIn s texts e.end
-    ends_so = record { text = h.text; data_texts = h.data_texts; means = h.means; is_end = h.execution.end }
-
-    is_done : ReachedIn s texts Executed
-    is_done = record { meaning = meaning_in s h.text h.data_texts; means = h.means; has = tt }
-
-    pub executed_written : (old middle new : Outside) (answer : Answer) → AllWritten (pieces_of e.done.items) old middle → LeftWritten s texts middle new answer → WrittenIn s texts old new answer
-    executed_written old middle new answer all left =
-        let m : Meaning = meaning_in s h.text h.data_texts in
-        left_in m h.means (reached_of answer) (ThenLine (extent_of answer) (line_of answer) middle new) (ThenLine (extent_of answer) (line_of answer) old new)
-        (λ ps k. line_after (extent_of answer) (line_of answer) m.done ps old middle new (subst (λ done. AllWritten done old middle) h.execution.done all) k) left
-
-    module _ (fault : PublishFault) (made answer : Answer) (means : made ≡ unwritten_answer Executed fault) (told_is : answer ≡ made) where
-      pub unprinted_cause : (files_rose out_rose : Type 0) → HasFailed files_rose out_rose fault → CauseIn s texts files_rose out_rose answer
-      unprinted_cause files_rose out_rose failed = subst (CauseIn s texts files_rose out_rose) (sym (told_is ∙ means)) (unwritten_cause s texts files_rose out_rose Executed fault is_done failed)
-
-      pub unprinted_written : (old middle : Outside) (taken : Option (List ℕ)) → EndsWriting {T = Unit {0}} (pieces_of e.done.items) old middle (Err fault) → AppendsPrefix middle.taken taken (line_of made)
-          → WrittenIn s texts old (record { taken = taken; told = middle.told }) answer
-      unprinted_written old middle taken ends line =
-          let new : Outside = record { taken = taken; told = middle.told } in
-          let m : Meaning = meaning_in s h.text h.data_texts in
-          subst (WrittenIn s texts old new) (sym (told_is ∙ means))
-          (subst (λ r. PiecesIn s texts r (ThenLine (extent_of (unwritten_answer Executed fault)) (line_of (unwritten_answer Executed fault)) old new)) (sym (reached_unwritten Executed fault))
-          (record {
-            meaning = m;
-            means = h.means;
-            has = unwritten_line Executed fault m.done old middle taken (subst (λ done. EndsWriting {T = Unit {0}} done old middle (Err fault)) h.execution.done ends)
-                (subst (λ a. AppendsPrefix middle.taken taken (line_of a)) means line);
-          }))
-
   -- the end is a fault
   pub refused_cause : (fault : TextFault) (files_rose out_rose : Type 0) (answer : Answer) → IsEndIn s texts (AtFault fault) → answer ≡ BadText fault → CauseIn s texts files_rose out_rose answer
   refused_cause fault files_rose out_rose answer h is =
-      subst (CauseIn s texts files_rose out_rose) (sym is) (ap (option_map (λ (m : Meaning). m.end)) h.means ∙ ap Some h.is_end)
+      subst (CauseIn s texts files_rose out_rose) (sym is) (ap (option_map (λ (m : Meaning). m.end)) (means_of s texts h.text h.data_texts h.tables h.parts) ∙ ap Some h.is_end)
 
   pub refused_written : (fault : TextFault) (taken taken' : Option (List ℕ)) (told : ToldNames) (answer : Answer) → answer ≡ BadText fault → AppendsPrefix taken taken' (line_of (BadText fault))
       → LeftWritten s texts (record { taken = taken; told = told }) (record { taken = taken'; told = told }) answer
@@ -179,7 +117,18 @@ module _ (s : Settings) (texts : List (List ℕ)) where
 
   -- or a problem
   pub subject_of : (p : Problem) (later : Option Later) → IsEndIn s texts (AtProblem p later) → IsSubject s texts p later
-  subject_of p later h = record { text = h.text; data_texts = h.data_texts; means = h.means; declares = h.is_end.0; kept = h.is_end.1 }
+  subject_of p later h = record {
+    text = h.text;
+    data_texts = h.data_texts;
+    tables = h.tables;
+    parts = h.parts;
+    means = means_of s texts h.text h.data_texts h.tables h.parts;
+    declares = h.is_end.0;
+    kept = h.is_end.1;
+  }
+
+  pub subject_enough : (p : Problem) (later : Option Later) (h : IsSubject s texts p later) → length (names_read s) ≤ length texts
+  subject_enough p later h = enough_read s texts h.text h.data_texts h.tables h.parts
 
 -- ---- from a problem on
 
@@ -188,7 +137,7 @@ module _ (s : Settings) (texts : List (List ℕ)) (p : Problem) (later : Option 
   subject_asked = ap (option_map (λ (m : Meaning). m.end)) subject.means ∙ ap Some subject.declares
 
   executed : ReachedIn s texts Executed
-  executed = record { meaning = meaning_in s subject.text subject.data_texts; means = subject.means; has = tt }
+  executed = record { meaning = meaning_in s subject.text subject.data_texts subject.tables; means = subject.means; has = tt }
 
   unfound_is : (files_rose out_rose : Type 0) (unfound : Unfound) → IsUnfound unfound s texts → CauseIn s texts files_rose out_rose (unfound_answer unfound)
   unfound_is files_rose out_rose (Solve (SearchNoFit wanted site)) h = h
@@ -257,7 +206,7 @@ module _ (s : Settings) (texts : List (List ℕ)) (p : Problem) (later : Option 
       unreported_written taken published line =
           let new : Outside = record { taken = taken; told = middle.told } in
           let built : Answer = unwritten_answer (reached_by f) fault in
-          let m : Meaning = meaning_in s subject.text subject.data_texts in
+          let m : Meaning = meaning_in s subject.text subject.data_texts subject.tables in
           let P : List Piece → Type 0 = ThenLine (extent_of built) (line_of built) old new in
           let more : List Piece = (behind_of m.behind (reached_by f)).pieces in
           subst (LeftWritten s texts old new) (sym is_answer)
@@ -269,9 +218,9 @@ module _ (s : Settings) (texts : List (List ℕ)) (p : Problem) (later : Option 
   -- ---- from the report on
 
   -- nothing is left
-  none_left : (r : Reached) (o : Outside) (answer : Answer) → (extent_of answer ≡ Whole) → (line_of answer ≡ []) → reached_of answer ≡ r → (behind_of (meaning_in s subject.text subject.data_texts).behind r).pieces ≡ [] → RestWritten r s texts o o answer
+  none_left : (r : Reached) (o : Outside) (answer : Answer) → (extent_of answer ≡ Whole) → (line_of answer ≡ []) → reached_of answer ≡ r → (behind_of (meaning_in s subject.text subject.data_texts subject.tables).behind r).pieces ≡ [] → RestWritten r s texts o o answer
   none_left r o answer whole silent reaches none =
-      let m : Meaning = meaning_in s subject.text subject.data_texts in
+      let m : Meaning = meaning_in s subject.text subject.data_texts subject.tables in
       record {
         meaning = m;
         means = subject.means;
@@ -300,10 +249,10 @@ module _ (s : Settings) (texts : List (List ℕ)) (p : Problem) (later : Option 
     unbounded_cause files_rose out_rose is = (is, proved)
 
     pub infeasible_written : (o : Outside) → c.verdict ≡ kind.Infeasible → RestWritten (Verdict c) s texts o o (Infeasible c)
-    infeasible_written o is = none_left (Verdict c) o (Infeasible c) refl refl refl (ap (λ v. (behind_at (meaning_in s subject.text subject.data_texts).behind v c.point).pieces) is)
+    infeasible_written o is = none_left (Verdict c) o (Infeasible c) refl refl refl (ap (λ v. (behind_at (meaning_in s subject.text subject.data_texts subject.tables).behind v c.point).pieces) is)
 
     pub unbounded_written : (o : Outside) → c.verdict ≡ kind.Unbounded → RestWritten (Verdict c) s texts o o (Unbounded c)
-    unbounded_written o is = none_left (Verdict c) o (Unbounded c) refl refl refl (ap (λ v. (behind_at (meaning_in s subject.text subject.data_texts).behind v c.point).pieces) is)
+    unbounded_written o is = none_left (Verdict c) o (Unbounded c) refl refl refl (ap (λ v. (behind_at (meaning_in s subject.text subject.data_texts subject.tables).behind v c.point).pieces) is)
 
     module _ (best : c.verdict ≡ kind.Optimal) where
       pub best_point : IsSomeAnd c.point (IsShownPoint p)
@@ -318,28 +267,28 @@ module _ (s : Settings) (texts : List (List ℕ)) (p : Problem) (later : Option 
       unrun_written taken taken' told answer is line =
           let old : Outside = record { taken = taken; told = told } in
           let new : Outside = record { taken = taken'; told = told } in
-          let m : Meaning = meaning_in s subject.text subject.data_texts in
+          let m : Meaning = meaning_in s subject.text subject.data_texts subject.tables in
           subst (RestWritten (Verdict c) s texts old new) (sym is)
           (record { meaning = m; means = subject.means; is_reached = refl; has = (old, none_written (behind_of m.behind (Verdict c)).pieces old, (line, λ name. refl)) })
 
       -- what they come to
-      module _ (b : BehindHeld) (is : (text : List ℕ) (data_texts : List (List ℕ)) (x : List Rational) → IsKept s text data_texts p later → c.point ≡ Some x → (meaning_in s text data_texts).behind x ≡ behind_in b) where
+      module _ (b : BehindHeld) (is : (text : List ℕ) (data_texts tables : List (List ℕ)) (x : List Rational) → IsKept s text data_texts tables p later → c.point ≡ Some x → (meaning_in s text data_texts tables).behind x ≡ behind_in b) where
         ended : (o : Option (List Rational)) → c.point ≡ o → IsSomeAnd o (IsShownPoint p) → EndsBehind b.fault c s texts
         ended None e there = absurd there
         ended (Some x) e there = record {
           proved = proved;
-          meaning = meaning_in s subject.text subject.data_texts;
+          meaning = meaning_in s subject.text subject.data_texts subject.tables;
           means = subject.means;
           point = x;
           has_point = e;
-          ends = ap (λ (r : Behind). r.fault) (is subject.text subject.data_texts x subject.kept e);
+          ends = ap (λ (r : Behind). r.fault) (is subject.text subject.data_texts subject.tables x subject.kept e);
         }
 
-        comes_to : (o : Option (List Rational)) → c.point ≡ o → IsSomeAnd o (IsShownPoint p) → behind_of (meaning_in s subject.text subject.data_texts).behind (Verdict c) ≡ behind_in b
+        comes_to : (o : Option (List Rational)) → c.point ≡ o → IsSomeAnd o (IsShownPoint p) → behind_of (meaning_in s subject.text subject.data_texts subject.tables).behind (Verdict c) ≡ behind_in b
         comes_to None e there = absurd there
         comes_to (Some x) e there =
-            let behind : List Rational → Behind = (meaning_in s subject.text subject.data_texts).behind in
-            ap (λ v. behind_at behind v c.point) best ∙ ap (behind_at behind kind.Optimal) e ∙ is subject.text subject.data_texts x subject.kept e
+            let behind : List Rational → Behind = (meaning_in s subject.text subject.data_texts subject.tables).behind in
+            ap (λ v. behind_at behind v c.point) best ∙ ap (behind_at behind kind.Optimal) e ∙ is subject.text subject.data_texts subject.tables x subject.kept e
 
         best_cause : (files_rose out_rose : Type 0) (fault : Option ModelFault) → EndsBehind fault c s texts → CauseIn s texts files_rose out_rose (best_answer fault c)
         best_cause files_rose out_rose None e = (best, e)
@@ -363,7 +312,7 @@ module _ (s : Settings) (texts : List (List ℕ)) (p : Problem) (later : Option 
 
         pub behind_written : (files_rose out_rose : Type 0) (old new : Outside) (answer : Answer) → IsEndBehind b.fault c files_rose out_rose answer → ThenLine (extent_of answer) (line_of answer) old new (pieces_of b.pieces.items) → RestWritten (Verdict c) s texts old new answer
         behind_written files_rose out_rose old new answer k line = record {
-          meaning = meaning_in s subject.text subject.data_texts;
+          meaning = meaning_in s subject.text subject.data_texts subject.tables;
           means = subject.means;
           is_reached = end_reached files_rose out_rose answer k;
           has = subst (λ (r : Behind). ThenLine (extent_of answer) (line_of answer) old new r.pieces) (sym (comes_to c.point refl best_point)) line;

@@ -37,7 +37,7 @@ next_text f told told' names i name xs ys x within is same e h text =
     (subst (λ ts. AreTexts told (take i names ++ name ∷ []) ts) (sym (map_push f xs x))
     (one_more told (take i names) (map f xs) name (f x) h (subst (λ t. IsTextOf t (f x)) same text))))
 
-as_many : (told : ToldNames) (names texts : List (List ℕ)) → AreTexts told names texts → length texts ≡ length names
+pub as_many : (told : ToldNames) (names texts : List (List ℕ)) → AreTexts told names texts → length texts ≡ length names
 as_many told [] [] h = refl
 as_many told [] (text ∷ texts) h = absurd h
 as_many told (name ∷ names) [] h = absurd h

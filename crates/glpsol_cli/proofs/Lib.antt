@@ -1,10 +1,13 @@
 pub mod Follow
 pub mod Writing
+pub mod Parts
+pub mod Runs
 pub mod Answers
 pub mod Reports
 pub mod Works
 pub mod FilesRead
 pub mod Carried
+pub mod Ended
 pub mod Verdicts
 pub mod Completes
 mod OneColumn

@@ -1,12 +1,14 @@
 -- Verdicts in the user's words, from the cause of an answer.
-use Rattle.std.proofs.Common.{◌≡◌, ℕ, List, Option, None, Some, subst}
+use Rattle.std.proofs.Common.{◌≡◌, ◌<◌, ℕ, List, length, Option, None, Some, subst}
+use Rattle.outside.specs.Told.{Has, Lacks}
 use Rattle.gmpl_generate.specs.declared.fault.ModelFault.{ModelFault}
 use Rattle.milp.specs.Problem.{Problem}
-use Rattle.verdicts.specs.Certificate.{Certificate, Verdict}
+use Rattle.verdicts.specs.Certificate.{Certificate}
 use Rattle.verdicts.specs.Certificate as kind
 use Rattle.verdicts.specs.Proves.{Proves, Holds}
 use Rattle.command_line.specs.declared.settings.Settings.{Settings}
-use Rattle.glpsol_cli.specs.Asked.{ToldNames, OfTexts}
+use Rattle.glpsol_cli.specs.Asked.{ToldNames}
+use Rattle.glpsol_cli.specs.Texts.{OfFile, OfTexts}
 use Rattle.glpsol_cli.specs.Cause.{Cause, EndsBehind, IsReached, reached_of, IsProved, IsTrueOf, IsBest, HasNoPoint, HasRay}
 use Rattle.glpsol_cli.specs.declared.answer.Answer.{Answer}
 use Rattle.glpsol_cli.specs.declared.answer.Answer.TheVariants.{Optimal, Infeasible, Unbounded, Translated, Accepted, Usage, Missing, OpenFault, ReadFault, WriteFault, TooLong, BadText, FaultBehindSolve, BadCertificate, Overflow, Undecided, Refused, NoMemory}
@@ -39,6 +41,13 @@ module _ (words : List (List ℕ)) (told : ToldNames) (c : Certificate) (right :
   of_reached : (r : Reached) → r ≡ VerdictReached c → IsReached words told r → OfTexts words told (IsTrueOf c)
   of_reached r e h = of_texts words told (IsProved c) (IsTrueOf c) true_of (subst (IsReached words told) e h)
 
+  file_carried : (name : List ℕ) (P : Option (Option (List ℕ)) → Type 0) (r : Reached) → r ≡ VerdictReached c → OfFile words told name r P → ⊥
+  file_carried name P Nothing e h = nothing_carried e
+  file_carried name P Executed e h = executed_carried e
+  file_carried name P Size e h = h
+  file_carried name P Acceptance e h = h
+  file_carried name P (VerdictReached d) e h = h
+
   of_ended : (fault : Option ModelFault) (d : Certificate) → VerdictReached d ≡ VerdictReached c → OfTexts words told (EndsBehind fault d) → OfTexts words told (IsTrueOf c)
   of_ended fault d e h = of_reached (VerdictReached d) e (of_texts words told (EndsBehind fault d) (IsProved d) (λ s texts ended. ended.proved) h)
 
@@ -49,11 +58,11 @@ module _ (words : List (List ℕ)) (told : ToldNames) (c : Certificate) (right :
   carried files_rose out_rose Translated e h = absurd (size_carried e)
   carried files_rose out_rose Accepted e h = absurd (acceptance_carried e)
   carried files_rose out_rose Usage e h = absurd (nothing_carried e)
-  carried files_rose out_rose (Missing name) e h = absurd (nothing_carried e)
-  carried files_rose out_rose (OpenFault name) e h = absurd (nothing_carried e)
-  carried files_rose out_rose (ReadFault name) e h = absurd (nothing_carried e)
+  carried files_rose out_rose (Missing name r) e h = absurd (file_carried name (λ now. (text : List ℕ) → Has now text → ⊥) r e h)
+  carried files_rose out_rose (OpenFault name r) e h = absurd (file_carried name (λ now. files_rose) r e h)
+  carried files_rose out_rose (ReadFault name r) e h = absurd (file_carried name (λ now. (Lacks now → ⊥) × files_rose) r e h)
   carried files_rose out_rose (WriteFault target r) e h = of_reached r e h.0
-  carried files_rose out_rose (TooLong name) e h = absurd (nothing_carried e)
+  carried files_rose out_rose (TooLong name r) e h = absurd (file_carried name (λ now. (Lacks now → ⊥) × ((text : List ℕ) → Has now text → 16777216 < length text)) r e h)
   carried files_rose out_rose (BadText fault) e h = absurd (executed_carried e)
   carried files_rose out_rose (FaultBehindSolve fault d) e h = of_ended (Some fault) d e h.1
   carried files_rose out_rose (BadCertificate fault) e h = absurd (executed_carried e)

@@ -16,8 +16,7 @@ use Rattle.command_line.proofs.Laws.{plain_settings, plain_words}
 use Rattle.command_line.specs.declared.settings.Settings.{Settings}
 use Rattle.command_line.specs.declared.settings.Task.TheVariants.{CheckCertificate}
 use Rattle.glpsol_cli.specs.Asked.{ToldNames}
-use Rattle.glpsol_cli.specs.Meaning.{Meaning, end_of, told_as, IsAsked, meaning_of}
-use Rattle.glpsol_cli.specs.declared.answer.TextFault.TheVariants.{File}
+use Rattle.glpsol_cli.specs.Meaning.{Meaning, end_of, IsAsked, meaning_of}
 use Rattle.glpsol_cli.specs.Cause.{OfSearch, IsOverflow, IsUndecided}
 use Rattle.glpsol_cli.specs.Complete.{IsComplete}
 use Rattle.glpsol_cli.specs.WorkedExample.{example_words, example_text}
@@ -34,7 +33,7 @@ unfolding is_utf8 chars encode_utf8
 declares = refl
 
 asked : IsAsked plain_settings (example_text ∷ []) problem
-asked = ap (λ r. Some (end_of plain_settings (told_as File r))) declares
+asked = ap (λ r. Some (end_of plain_settings r)) declares
 
 -- a problem that is asked about is this one
 same_problem : (p : Problem) → IsAsked plain_settings (example_text ∷ []) p → p ≡ problem
@@ -68,10 +67,12 @@ pub is_complete : (told : ToldNames) (files_rose out_rose : Type 0) → Has (tol
 is_complete told files_rose out_rose has files_held out_held = record {
   settings = plain_settings;
   texts = example_text ∷ [];
+  tables = [];
   problem = problem;
   asks = plain_words;
   solves = tt;
   has = (has, omega arith, tt);
+  tables_told = tt;
   asked = asked;
   fits = fits;
   ends = ends;

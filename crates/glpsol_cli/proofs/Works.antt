@@ -1,12 +1,13 @@
 -- What the work on the texts and on a problem gives.
-use Rattle.std.proofs.Common.{◌≡◌, ◌∙◌, ◌<◌, ℕ, Bool, true, false, List, [], ◌∷◌, length, map, take, Option, Some, None, refl, sym, ap, subst, arith, string_bytes}
-use Rattle.std.proofs.lemmas.List.{take-map}
-use Rattle.std.specs.Prelude.{Result, Ok, Err, IfOk}
+use Rattle.std.proofs.Common.{◌≡◌, ◌∙◌, ◌<◌, ◌≤◌, ◌+◌, ℕ, zero, suc, Bool, true, false, List, [], ◌∷◌, ◌++◌, length, map, take, get_or, Option, Some, None, refl, sym, ap, subst, arith, string_bytes}
+use Rattle.std.proofs.lemmas.List.{length-append, map-append, take-map}
+use Rattle.std.specs.Prelude.{Result, Ok, Err, IfOk, slice_get}
 use Rattle.milp.specs.Problem.{Problem}
 use Rattle.milp.specs.declared.Direction.{Direction}
-use Rattle.gmpl_reader.specs.MathProg.{IsReadingEnd, IsRest, declared as declared_by_math_prog, printed as printed_by_math_prog}
-use Rattle.gmpl_reader.specs.declared.fault.MathProgFault.{MathProgFault}
+use Rattle.gmpl_generate.specs.Running.{File as TableFile, Made, files_of}
+use Rattle.gmpl_reader.specs.MathProg.{Ending, Declares, Fails, Wants, IsPending, IsReading, IsReadingEnd, IsRest, ending as ending_of_math_prog, making as making_of_math_prog}
 use Rattle.gmpl_reader.specs.declared.fault.MathProgFault.TheVariants as math_prog
+use Rattle.gmpl_reader.specs.declared.read.Pending.{Pending}
 use Rattle.gmpl_reader.specs.declared.read.Reading.{Reading}
 use Rattle.gmpl_reader.specs.declared.read.ReadingEnd.{ReadingEnd}
 use Rattle.gmpl_reader.specs.declared.read.ReadingEnd.TheVariants as reading_end
@@ -19,13 +20,14 @@ use Rattle.command_line.specs.declared.settings.Outputs.{Outputs}
 use Rattle.command_line.specs.declared.settings.Settings.{Settings}
 use Rattle.command_line.specs.declared.settings.Task.{Task}
 use Rattle.command_line.specs.declared.settings.Task.TheVariants.{Solve, CheckCertificate}
-use Rattle.glpsol_cli.specs.Asked.{Solves, IsSolve}
-use Rattle.glpsol_cli.specs.Meaning.{Declared, Faulty, IsAsked, asked_of, declared_in, done_by, end_of, directed, meaning_in, meaning_of, printed_in, relaxed, text_fault_of, told_as}
+use Rattle.glpsol_cli.specs.Asked.{Solves, IsSolve, names_checked, names_read}
+use Rattle.glpsol_cli.specs.Meaning.{Declared, Faulty, Wanting, IsAsked, asked_of, directed, end_of_ending, ends_in, file_piece, file_pieces, files_by, made_in, relaxed, shown_by}
 use Rattle.glpsol_cli.specs.Cause.{OfCertificate, IsNoCertificate, IsRefusedAt, IsCheckOverflow}
-use Rattle.glpsol_cli.specs.Stages.{IsUnfound, IsExecution, IsExecutionOf, IsEnd, IsOfReading, IsOfReadingEnd, IsCheckStop, OfLast}
+use Rattle.glpsol_cli.specs.Stages.{IsUnfound, IsExecution, IsExecutionOf, IsHalt, IsOfReading, IsOfReadingEnd, IsCheckStop, OfNext}
 use Rattle.glpsol_cli.specs.declared.execution.Executed.{Executed}
-use Rattle.glpsol_cli.specs.declared.execution.ExecutionEnd.{ExecutionEnd}
 use Rattle.glpsol_cli.specs.declared.execution.ExecutionEnd.TheVariants.{Problem as AtProblem, Fault as AtFault}
+use Rattle.glpsol_cli.specs.declared.execution.Halt.{Halt}
+use Rattle.glpsol_cli.specs.declared.execution.Halt.TheVariants as halts
 use Rattle.glpsol_cli.specs.declared.stop.CheckStop.{CheckStop}
 use Rattle.glpsol_cli.specs.declared.stop.CheckStop.TheVariants.{BadText, Refused, NoFit as CheckNoFit, NoMemory as CheckNoMemory}
 use Rattle.glpsol_cli.specs.declared.stop.Unfound.TheVariants.{Solve as SolveStop, Check}
@@ -42,58 +44,78 @@ asked_rows (Some d) false p = refl
 same_rows : (s : Settings) (p q : Problem) → q ≡ asked_of s p → p.rows ≡ q.rows
 same_rows s p q e = asked_rows s.direction s.relaxed p ∙ ap (λ (t : Problem). t.rows) (sym e)
 
-module _ (s : Settings) (text : List ℕ) (data_texts : List (List ℕ)) (is : s.language ≡ MathProg) where
-  pub prints : (o : Option (List ℕ)) → printed_by_math_prog text data_texts ≡ o → printed_in s.language text data_texts ≡ o
-  prints o h = ap (λ (l : Language). printed_in l text data_texts) is ∙ h
+module _ (s : Settings) (text : List ℕ) (data_texts tables : List (List ℕ)) (is : s.language ≡ MathProg) where
+  pub makes : (o : Option Made) → making_of_math_prog text data_texts tables ≡ o → made_in s.language text data_texts tables ≡ o
+  makes o h = ap (λ (l : Language). made_in l text data_texts tables) is ∙ h
 
-  pub declares_so : (r : Result Problem MathProgFault) → declared_by_math_prog text data_texts ≡ r → declared_in s.language text data_texts ≡ told_as text_fault_of r
-  declares_so r h = ap (λ (l : Language). declared_in l text data_texts) is ∙ ap (told_as text_fault_of) h
+  pub ends_so : (e : Ending) → ending_of_math_prog text data_texts tables ≡ e → ends_in s s.language text data_texts tables ≡ end_of_ending s e
+  ends_so e h = ap (λ (l : Language). ends_in s l text data_texts tables) is ∙ ap (end_of_ending s) h
 
-  reads : (r : Reading) (e : Executed) → printed_by_math_prog text data_texts ≡ Some (string_bytes r.printed) → IsReadingEnd text data_texts r.end → IsOfReading s r e → IsExecutionOf s text data_texts e
-  reads r e prints_this ends of = record {
-    done = of.done ∙ sym (ap (done_by s.display) (prints (Some (string_bytes r.printed)) prints_this));
-    end = end_by r.end e.end ends of.end;
+  module _ (files : List TableFile) (printed : List ℕ) (made : making_of_math_prog text data_texts tables ≡ Some (record { printed = printed; files = files })) where
+    halts_by : (from : ReadingEnd) (to : Halt) → IsReadingEnd text data_texts tables from → IsOfReadingEnd s printed from to → IsHalt s text data_texts tables to
+    halts_by (reading_end.Problem p rest) (halts.End (AtProblem q None)) h k = absurd k
+    halts_by (reading_end.Problem p rest) (halts.End (AtProblem q (Some later))) h k = (
+      ends_so (Declares p) h.0 ∙ ap Declared (sym k.0),
+      record {
+        language = is;
+        problem = p;
+        declares = h.0;
+        rows = same_rows s p q k.0;
+        files = files;
+        earlier = made ∙ ap (λ text. Some (record { printed = text; files = files })) (sym k.1);
+        rest = subst (IsRest text data_texts tables) (sym k.2) h.1;
+      },
+    )
+    halts_by (reading_end.Problem p rest) (halts.End (AtFault fault)) h k = absurd k
+    halts_by (reading_end.Problem p rest) (halts.Table w) h k = absurd k
+    halts_by (reading_end.Problem p rest) (halts.Unread u) h k = absurd k
+    halts_by (reading_end.Table pending) (halts.End end) h k = absurd k
+    halts_by (reading_end.Table pending) (halts.Table w) h k = record {
+      wants = ends_so (Wants pending.pause.name) h.0 ∙ ap (λ (p : Pending). Wanting p.pause.name) (sym k.1);
+      language = is;
+      files = files;
+      made = made ∙ ap (λ text. Some (record { printed = text; files = files })) (sym k.0);
+      pending = subst (IsPending text data_texts tables) (sym k.1) h.1;
+    }
+    halts_by (reading_end.Table pending) (halts.Unread u) h k = absurd k
+    halts_by (reading_end.Fault fault) (halts.End (AtProblem q later)) h k = absurd k
+    halts_by (reading_end.Fault fault) (halts.End (AtFault other)) h k = ends_so (Fails (math_prog.Model fault)) h ∙ ap Faulty (sym k)
+    halts_by (reading_end.Fault fault) (halts.Table w) h k = absurd k
+    halts_by (reading_end.Fault fault) (halts.Unread u) h k = absurd k
+
+  reads : (before : List TableFile) (r : Reading) (e : Executed) → IsReading before text data_texts tables r → IsOfReading s r e → IsExecutionOf (file_pieces before) s text data_texts tables e
+  reads before r e h of = record {
+    files =
+        ap files_by (makes (Some (record { printed = string_bytes r.printed; files = before ++ files_of r.files.items })) h.made)
+        ∙ map-append file_piece before (files_of r.files.items) ∙ ap (λ ps. file_pieces before ++ ps) (sym of.files);
+    shown = ap (shown_by s.display) (makes (Some (record { printed = string_bytes r.printed; files = before ++ files_of r.files.items })) h.made) ∙ sym of.shown;
+    halt = halts_by (before ++ files_of r.files.items) (string_bytes r.printed) h.made r.end e.halt h.end of.halt;
   }
-    where
-      end_by : (from : ReadingEnd) (to : ExecutionEnd) → IsReadingEnd text data_texts from → IsOfReadingEnd s (string_bytes r.printed) from to → IsEnd s text data_texts to
-      end_by (reading_end.Problem p rest) (AtProblem q None) h k = absurd k
-      end_by (reading_end.Problem p rest) (AtProblem q (Some later)) h k = (
-        ap (end_of s) (declares_so (Ok p) h.0) ∙ ap Declared (sym k.0),
-        record {
-          language = is;
-          problem = p;
-          declares = h.0;
-          rows = same_rows s p q k.0;
-          earlier = prints_this ∙ ap Some (sym k.1);
-          rest = subst (IsRest text data_texts) (sym k.2) h.1;
-        },
-      )
-      end_by (reading_end.Problem p rest) (AtFault fault) h k = absurd k
-      end_by (reading_end.Fault fault) (AtProblem q later) h k = absurd k
-      end_by (reading_end.Fault fault) (AtFault other) h k = ap (end_of s) (declares_so (Err (math_prog.Model fault)) h) ∙ ap Faulty (sym k)
 
-  pub reads_so : {E : Type 0} (r : Reading) (made : Result Executed E) → printed_by_math_prog text data_texts ≡ Some (string_bytes r.printed) → IsReadingEnd text data_texts r.end → IfOk made (IsOfReading s r) → IfOk made (IsExecutionOf s text data_texts)
-  reads_so r (Ok e) prints_this ends of = reads r e prints_this ends of
-  reads_so r (Err e) prints_this ends of = tt
+  pub reads_so : {E : Type 0} (before : List TableFile) (r : Reading) (made : Result Executed E) → IsReading before text data_texts tables r → IfOk made (IsOfReading s r) → IfOk made (IsExecutionOf (file_pieces before) s text data_texts tables)
+  reads_so before r (Ok e) h of = reads before r e h of
+  reads_so before r (Err e) h of = tt
+
+-- behind a table
+pub reads_on : {E : Type 0} (s : Settings) (table printed : List ℕ) (pending : Pending) (r : Reading) (made : Result Executed E)
+    → ((text : List ℕ) (data_texts tables : List (List ℕ)) (before : List TableFile) → making_of_math_prog text data_texts tables ≡ Some (record { printed = printed; files = before }) → IsPending text data_texts tables pending → IsReading before text data_texts (tables ++ table ∷ []) r)
+    → IfOk made (IsOfReading s r)
+    → IfOk made (λ e. (text : List ℕ) (data_texts tables : List (List ℕ)) (files : List TableFile) → s.language ≡ MathProg → making_of_math_prog text data_texts tables ≡ Some (record { printed = printed; files = files }) → IsPending text data_texts tables pending → IsExecutionOf (file_pieces files) s text data_texts (tables ++ table ∷ []) e)
+reads_on s table printed pending r (Ok e) read of = λ text data_texts tables files is making pends. reads s text data_texts (tables ++ table ∷ []) is files r e (read text data_texts tables files making pends) of
+reads_on s table printed pending r (Err e) read of = tt
 
 -- ---- all texts
 
 module _ {X : Type 0} (f : X → List ℕ) (s : Settings) (xs others taken : List X) (x : X) (text : List ℕ) (parts : xs ≡ x ∷ others) (first : text ≡ f x) (some : taken ≡ take (length s.data_files) others) where
-  texts_are : map f xs ≡ text ∷ map f others
-  texts_are = ap (map f) parts ∙ ap (λ t. t ∷ map f others) (sym first)
-
-  data_are : take (length s.data_files) (map f others) ≡ map f taken
-  data_are = take-map f (length s.data_files) others ∙ ap (map f) (sym some)
-
-  executes : (e : Executed) → IsExecutionOf s text (map f taken) e → IsExecution s (map f xs) e
+  executes : (e : Executed) → IsExecutionOf [] s text (map f taken) [] e → IsExecution s (map f xs) e
   executes e h = record {
     text = text;
-    data_texts = map f taken;
-    means = ap (meaning_of s) texts_are ∙ ap (λ ds. Some (meaning_in s text ds)) data_are;
-    execution = h;
+    others = map f others;
+    are = ap (map f) parts ∙ ap (λ t. t ∷ map f others) (sym first);
+    execution = subst (λ ds. IsExecutionOf [] s text ds [] e) (ap (map f) some ∙ sym (take-map f (length s.data_files) others)) h;
   }
 
-  pub executes_all : {E : Type 0} (r : Result Executed E) → IfOk r (IsExecutionOf s text (map f taken)) → IfOk r (IsExecution s (map f xs))
+  pub executes_all : {E : Type 0} (r : Result Executed E) → IfOk r (IsExecutionOf [] s text (map f taken) []) → IfOk r (IsExecution s (map f xs))
   executes_all (Ok e) h = executes e h
   executes_all (Err e) h = tt
 
@@ -112,19 +134,29 @@ solves_by task outputs e = subst IsSolve (sym e) tt
 
 -- ---- checking
 
--- texts that ask about a problem are not empty
-pub not_empty : (s : Settings) (texts : List (List ℕ)) (p : Problem) → IsAsked s texts p → 0 < length texts
-not_empty s [] p h = absurd (none_some p h)
-  where
-    none_some : (p : Problem) → None ≡ Some (Declared p) → ⊥
-    none_some p e = cc
-not_empty s (text ∷ others) p h = omega arith
+-- there is a text behind those of the data files
+pub one_behind : (s : Settings) (name : List ℕ) (count : ℕ) → s.task ≡ CheckCertificate name → length (names_read s) ≤ count → suc (length s.data_files) < count
+one_behind s name count is h =
+    let both = length-append s.data_files (names_checked s.task) in
+    let one : length (names_checked s.task) ≡ 1 = ap (λ t. length (names_checked t)) is in
+    omega (arith, h, both, one)
+
+text_at : {X : Type 0} (f : X → List ℕ) (xs : List X) (m : ℕ) (x : X) → m < length xs → x ≡ get_or xs m x → slice_get (map f xs) m ≡ Some (f x)
+text_at f [] m x within e = absurd (omega (arith, within))
+text_at f (y ∷ ys) zero x within e = ap (λ z. Some (f z)) (sym e)
+text_at f (y ∷ ys) (suc m) x within e = text_at f ys m x (omega (arith, within)) e
+
+-- the text behind the first and so many others
+pub next_text_is : {X : Type 0} (f : X → List ℕ) (xs : List X) (count : ℕ) (x : X) (bytes : List ℕ) → suc count < length xs → x ≡ get_or xs (count + 1) x → bytes ≡ f x → slice_get (map f xs) (suc count) ≡ Some bytes
+next_text_is f xs count x bytes within e is =
+    let next : count + 1 ≡ suc count = omega arith in
+    text_at f xs (suc count) x within (subst (λ k. x ≡ get_or xs k x) next e) ∙ ap Some (sym is)
 
 module _ (s : Settings) (texts : List (List ℕ)) (p : Problem) (name : List ℕ) (is : s.task ≡ CheckCertificate name) (asks : IsAsked s texts p) where
-  pub of_checked : (P : Problem → List ℕ → Type 0) → OfLast (P p) texts → OfCertificate P s texts
-  of_checked P h = record { problem = p; asked = asks; name = name; checks = is; before = h.before; bytes = h.bytes; last = h.last; holds = h.holds }
+  pub of_checked : (P : Problem → List ℕ → Type 0) → OfNext (P p) (length s.data_files) texts → OfCertificate P s texts
+  of_checked P h = record { problem = p; asked = asks; name = name; checks = is; bytes = h.bytes; stands = h.stands; holds = h.holds }
 
-  pub unchecked : (stop : CheckStop) → OfLast (λ bytes. IsCheckStop p bytes stop) texts → IsUnfound (Check stop) s texts
+  pub unchecked : (stop : CheckStop) → OfNext (λ bytes. IsCheckStop p bytes stop) (length s.data_files) texts → IsUnfound (Check stop) s texts
   unchecked (BadText fault) h = of_checked (IsNoCertificate fault) h
   unchecked (Refused part) h = of_checked (IsRefusedAt part) h
   unchecked (CheckNoFit f) h = of_checked (IsCheckOverflow f.part f.fault) h

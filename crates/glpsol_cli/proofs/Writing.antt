@@ -6,7 +6,8 @@ use Rattle.glpsol_cli.specs.Asked.{ToldNames}
 use Rattle.glpsol_cli.specs.Pieces.{Piece, Outside, IsSame, IsWritten, IsWrittenInPart, AllWritten, WrittenUpTo, SomeWritten, Extent, Whole, UpTo, Part, WrittenTo}
 use Rattle.glpsol_cli.specs.Written.{ThenLine}
 use Rattle.outside.specs.Causes.{Rose}
-use Rattle.glpsol_cli.specs.Stages.{HasFailed}
+use Rattle.std.specs.Prelude.{Result, Ok, Err}
+use Rattle.glpsol_cli.specs.Stages.{EndsWriting, HasFailed}
 use Rattle.glpsol_cli.specs.declared.answer.Target.{Target}
 use Rattle.glpsol_cli.specs.declared.answer.Target.TheVariants.{Out, File}
 use Rattle.glpsol_cli.specs.declared.publish.PublishFault.{PublishFault}
@@ -64,7 +65,7 @@ module _ (old middle : Outside) (same : IsSame old middle) where
 
 -- ---- what is written in two goes
 
-written_after : (extent : Extent) (ps qs : List Piece) (old middle new : Outside) → AllWritten ps old middle → WrittenTo extent qs middle new → WrittenTo extent (ps ++ qs) old new
+pub written_after : (extent : Extent) (ps qs : List Piece) (old middle new : Outside) → AllWritten ps old middle → WrittenTo extent qs middle new → WrittenTo extent (ps ++ qs) old new
 written_after extent [] qs old middle new all more = written_to_from old middle all extent qs new more
 written_after Whole (p ∷ ps) qs old middle new all more = (all.0, all.1, written_after Whole ps qs all.0 middle new all.2 more)
 written_after (UpTo target) (p ∷ ps) qs old middle new all more = inr (all.0, all.1, written_after (UpTo target) ps qs all.0 middle new all.2 more)
@@ -89,6 +90,11 @@ some_of_more (p ∷ ps) qs old new h = elim h [
   | inr more ↦ inr (more.0, more.1, some_of_more ps qs more.0 new more.2)
 ]
 
+-- all are some
+pub all_some : (ps : List Piece) (old new : Outside) → AllWritten ps old new → SomeWritten ps old new
+all_some [] old new h = h
+all_some (p ∷ ps) old new h = inr (h.0, h.1, all_some ps h.0 new h.2)
+
 -- ---- a line alone
 
 -- a line that is told, where nothing else is written
@@ -106,3 +112,20 @@ module _ (a b c d : ℕ) (before : a ≤ b) (after : c ≤ d) (p q r s : ℕ) (b
   failed_within (Write Out) h = rose_within p q r s before' after' h
   failed_within (Write (File name)) h = rose_within a b c d before after h
   failed_within NoMemory h = tt
+
+-- ---- a fault of the writing
+
+-- of the first of them it is so of all
+pub ends_of_more : (fault : PublishFault) (ps qs : List Piece) (old middle : Outside) → EndsWriting {T = Unit {0}} ps old middle (Err fault) → EndsWriting {T = Unit {0}} (ps ++ qs) old middle (Err fault)
+ends_of_more (Write target) ps qs old middle h = up_to_of_more target ps qs old middle h
+ends_of_more NoMemory ps qs old middle h = some_of_more ps qs old middle h
+
+-- behind others that were all written
+pub ends_after : (fault : PublishFault) (ps qs : List Piece) (old middle new : Outside) → AllWritten ps old middle → EndsWriting {T = Unit {0}} qs middle new (Err fault) → EndsWriting {T = Unit {0}} (ps ++ qs) old new (Err fault)
+ends_after (Write target) ps qs old middle new all h = written_after (UpTo target) ps qs old middle new all h
+ends_after NoMemory ps qs old middle new all h = written_after Part ps qs old middle new all h
+
+-- the writing of both ends so
+pub both_end : (r : Result (Unit {0}) PublishFault) (ps qs : List Piece) (old middle new : Outside) → AllWritten ps old middle → EndsWriting qs middle new r → EndsWriting (ps ++ qs) old new r
+both_end (Ok u) ps qs old middle new all h = written_after Whole ps qs old middle new all h
+both_end (Err fault) ps qs old middle new all h = ends_after fault ps qs old middle new all h

@@ -78,11 +78,3 @@ AreTexts told [] [] = Unit {0}
 AreTexts told [] (text ∷ texts) = ⊥
 AreTexts told (name ∷ names) [] = ⊥
 AreTexts told (name ∷ names) (text ∷ texts) = IsTextOf (told name) text × AreTexts told names texts
-
--- the words are a command whose files are there, and P holds of its settings and of the texts of these files
-pub record OfTexts (words : List (List ℕ)) (told : ToldNames) (P : Settings → List (List ℕ) → Type 0) : Type 0 where
-  pub settings : Settings
-  pub asks : settings_of words ≡ Some settings
-  pub texts : List (List ℕ)
-  pub read : AreTexts told (names_read settings) texts
-  pub has : P settings texts

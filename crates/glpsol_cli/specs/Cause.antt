@@ -1,5 +1,5 @@
 -- What each answer of a run says of the words, of what is told of the files, and of the faults that rose.
-use Rattle.std.specs.Prelude.{◌≡◌, ◌<◌, ℕ, List, [], ◌∷◌, ◌++◌, length, Some, None, Ok, Err}
+use Rattle.std.specs.Prelude.{◌≡◌, ◌<◌, ℕ, suc, List, [], length, slice_get, Some, None, Ok, Err}
 use Rattle.milp.specs.Problem.{Problem}
 use Rattle.milp.specs.Points.{IsOptimal, Feasible, IsUnbounded, objective_value}
 use Rattle.rational.specs.Rational.{Rational}
@@ -21,8 +21,9 @@ use Rattle.std.specs.declared.option.Option.{Option}
 use Rattle.outside.specs.Told.{Lacks, Has}
 use Rattle.command_line.specs.Meaning.{settings_of}
 use Rattle.command_line.specs.declared.settings.Settings.{Settings}
-use Rattle.glpsol_cli.specs.Asked.{ToldNames, OfTexts, IsInTurn, Solves, Translates, Checks}
+use Rattle.glpsol_cli.specs.Asked.{ToldNames, Solves, Translates, Checks}
 use Rattle.glpsol_cli.specs.Meaning.{Meaning, IsAsked, IsRefused, HasDone, meaning_of}
+use Rattle.glpsol_cli.specs.Texts.{OfFile, OfTexts}
 use Rattle.glpsol_cli.specs.declared.answer.Answer.{Answer}
 use Rattle.glpsol_cli.specs.declared.answer.Answer.TheVariants.{Optimal, Infeasible, Unbounded, Translated, Accepted, Usage, Missing, OpenFault, ReadFault, WriteFault, TooLong, BadText, FaultBehindSolve, BadCertificate, Overflow, Undecided, Refused, NoMemory}
 use Rattle.glpsol_cli.specs.declared.answer.Limit.{Limit}
@@ -94,15 +95,14 @@ pub record IsTranslated (s : Settings) (texts : List (List ℕ)) : Type 0 where
 
 -- ---- certificates that are to be checked
 
--- P of the problem, and of the text of the certificate that is to be checked, which is the last text
+-- P of the problem, and of the text of the certificate that is to be checked, which stands behind those of the data files
 pub record OfCertificate (P : Problem → List ℕ → Type 0) (s : Settings) (texts : List (List ℕ)) : Type 0 where
   pub problem : Problem
   pub asked : IsAsked s texts problem
   pub name : List ℕ
   pub checks : Checks s name
-  pub before : List (List ℕ)
   pub bytes : List ℕ
-  pub last : texts ≡ before ++ bytes ∷ []
+  pub stands : slice_get texts (suc (length s.data_files)) ≡ Some bytes
   pub holds : P problem bytes
 
 -- the bytes are the text of a certificate that proves its verdict
@@ -179,11 +179,11 @@ reached_of (Unbounded c) = Verdict c
 reached_of Translated = Size
 reached_of Accepted = Acceptance
 reached_of Usage = Nothing
-reached_of (Missing name) = Nothing
-reached_of (OpenFault name) = Nothing
-reached_of (ReadFault name) = Nothing
+reached_of (Missing name reached) = reached
+reached_of (OpenFault name reached) = reached
+reached_of (ReadFault name reached) = reached
 reached_of (WriteFault target reached) = reached
-reached_of (TooLong name) = Nothing
+reached_of (TooLong name reached) = reached
 reached_of (BadText fault) = Executed
 reached_of (FaultBehindSolve fault c) = Verdict c
 reached_of (BadCertificate fault) = Executed
@@ -207,11 +207,11 @@ Cause words told files_rose out_rose (Unbounded c) = (c.verdict ≡ kind.Unbound
 Cause words told files_rose out_rose Translated = IsReached words told Size
 Cause words told files_rose out_rose Accepted = IsReached words told Acceptance
 Cause words told files_rose out_rose Usage = settings_of words ≡ None
-Cause words told files_rose out_rose (Missing name) = IsInTurn words told name × ((text : List ℕ) → Has (told name) text → ⊥)
-Cause words told files_rose out_rose (OpenFault name) = IsInTurn words told name × files_rose
-Cause words told files_rose out_rose (ReadFault name) = IsInTurn words told name × (Lacks (told name) → ⊥) × files_rose
+Cause words told files_rose out_rose (Missing name reached) = OfFile words told name reached (λ now. (text : List ℕ) → Has now text → ⊥)
+Cause words told files_rose out_rose (OpenFault name reached) = OfFile words told name reached (λ now. files_rose)
+Cause words told files_rose out_rose (ReadFault name reached) = OfFile words told name reached (λ now. (Lacks now → ⊥) × files_rose)
 Cause words told files_rose out_rose (WriteFault target reached) = IsReached words told reached × RoseAt target files_rose out_rose
-Cause words told files_rose out_rose (TooLong name) = IsInTurn words told name × (Lacks (told name) → ⊥) × ((text : List ℕ) → Has (told name) text → 16777216 < length text)
+Cause words told files_rose out_rose (TooLong name reached) = OfFile words told name reached (λ now. (Lacks now → ⊥) × ((text : List ℕ) → Has now text → 16777216 < length text))
 Cause words told files_rose out_rose (BadText fault) = OfTexts words told (IsRefused fault)
 Cause words told files_rose out_rose (FaultBehindSolve fault c) = (c.verdict ≡ kind.Optimal) × OfTexts words told (EndsBehind (Some fault) c)
 Cause words told files_rose out_rose (BadCertificate fault) = OfTexts words told (OfCertificate (IsNoCertificate fault))

@@ -1,5 +1,6 @@
 -- When a run gives a verdict, and when a certificate that it wrote is accepted: where no cause of another answer is there.
 use Rattle.std.specs.Prelude.{◌≡◌, ◌≤◌, ℕ, List, [], ◌∷◌, ◌++◌, length, Some, None}
+use Rattle.std.specs.declared.option.Option.{Option}
 use Rattle.rational.specs.Rational.{Rational}
 use Rattle.milp.specs.Problem.{Problem}
 use Rattle.milp.specs.Points.{IsOptimal}
@@ -12,6 +13,7 @@ use Rattle.command_line.specs.declared.settings.Settings.{Settings}
 use Rattle.command_line.specs.declared.settings.Task.TheVariants.{CheckCertificate}
 use Rattle.glpsol_cli.specs.Asked.{ToldNames, Solves, names_read}
 use Rattle.glpsol_cli.specs.Meaning.{Meaning, IsAsked, meaning_of}
+use Rattle.glpsol_cli.specs.Texts.{IsTableInTurn}
 use Rattle.glpsol_cli.specs.Cause.{IsOverflow, IsUndecided, IsProved}
 use Rattle.glpsol_cli.specs.declared.answer.Answer.{Answer}
 use Rattle.glpsol_cli.specs.declared.answer.Answer.TheVariants.{Optimal, Infeasible, Unbounded, Accepted, OpenFault, ReadFault, WriteFault, NoMemory}
@@ -25,6 +27,20 @@ AreTold told [] (text ∷ texts) = ⊥
 AreTold told (name ∷ names) [] = ⊥
 AreTold told (name ∷ names) (text ∷ texts) = Has (told name) text × (length text ≤ 16777216) × AreTold told names texts
 
+-- it is told with this text, which isn't too long
+abbrev pub IsToldShort : List ℕ → Option (Option (List ℕ)) → Type 0
+IsToldShort text told = Has told text × (length text ≤ 16777216)
+
+-- the table's file that is to be read next is told with this text then, which isn't too long
+pub record IsTableTold (told : ToldNames) (s : Settings) (texts : List (List ℕ)) (text : List ℕ) : Type 0 where
+  pub name : List ℕ
+  pub in_turn : IsTableInTurn told name (IsToldShort text) s texts
+
+-- the files of the tables that are read behind these texts are told with these texts
+abbrev pub AreTablesTold : ToldNames → Settings → List (List ℕ) → List (List ℕ) → Type 0
+AreTablesTold told s texts [] = Unit {0}
+AreTablesTold told s texts (text ∷ tables) = IsTableTold told s texts text × AreTablesTold told s (texts ++ text ∷ []) tables
+
 -- the answer is a verdict, or want of memory
 abbrev pub IsVerdictOrNoMemory : Answer → Type 0
 IsVerdictOrNoMemory (Optimal c) = Unit {0}
@@ -33,38 +49,42 @@ IsVerdictOrNoMemory (Unbounded c) = Unit {0}
 IsVerdictOrNoMemory (NoMemory reached) = Unit {0}
 IsVerdictOrNoMemory answer = ⊥
 
--- Words that ask for a solution, told files, texts that declare a problem, no operation that doesn't fit, no run that is
--- too long, no search that needs more splits than are allowed, no best point at which a statement behind `solve` has a fault,
--- and counts that didn't rise: then nothing but a verdict or want of memory is answered.
+-- Words that ask for a solution, told files, of the command and of tables, texts that declare a problem, no operation that doesn't
+-- fit, no run that is too long, no search that needs more splits than are allowed, no best point at which a statement behind `solve`
+-- has a fault, and counts that didn't rise: then nothing but a verdict or want of memory is answered.
 pub record IsComplete (words : List (List ℕ)) (told : ToldNames) (files_rose out_rose : Type 0) : Type 0 where
   pub settings : Settings
   pub texts : List (List ℕ)
   pub problem : Problem
   pub asks : settings_of words ≡ Some settings
   pub solves : Solves settings
+  pub tables : List (List ℕ)
   pub has : AreTold told (names_read settings) texts
-  pub asked : IsAsked settings texts problem
-  pub fits : (at : OverflowSite) (e : NoFit) → ¬ (IsOverflow at e settings texts)
-  pub ends : (limit : Limit) → ¬ (IsUndecided limit settings texts)
-  pub behind : (meaning : Meaning) → meaning_of settings texts ≡ Some meaning → (x : List Rational) → IsOptimal problem x → (meaning.behind x).fault ≡ None
+  pub tables_told : AreTablesTold told settings texts tables
+  pub asked : IsAsked settings (texts ++ tables) problem
+  pub fits : (at : OverflowSite) (e : NoFit) → ¬ (IsOverflow at e settings (texts ++ tables))
+  pub ends : (limit : Limit) → ¬ (IsUndecided limit settings (texts ++ tables))
+  pub behind : (meaning : Meaning) → meaning_of settings (texts ++ tables) ≡ Some meaning → (x : List Rational) → IsOptimal problem x → (meaning.behind x).fault ≡ None
   pub files_held : files_rose → ⊥
   pub out_held : out_rose → ⊥
 
 -- the answer is that a certificate is accepted, or that the outside failed, or want of memory
 abbrev pub IsAcceptedOrFault : Answer → Type 0
 IsAcceptedOrFault Accepted = Unit {0}
-IsAcceptedOrFault (OpenFault name) = Unit {0}
-IsAcceptedOrFault (ReadFault name) = Unit {0}
+IsAcceptedOrFault (OpenFault name reached) = Unit {0}
+IsAcceptedOrFault (ReadFault name reached) = Unit {0}
 IsAcceptedOrFault (WriteFault target reached) = Unit {0}
 IsAcceptedOrFault (NoMemory reached) = Unit {0}
 IsAcceptedOrFault answer = ⊥
 
--- The words ask for a check of c, whose text stands in a file; the rest of them, and the other texts, are those of a run
--- that found c.
+-- The words ask for a check of c, whose text stands in a file; the rest of them, and the other texts, those of tables too, are those
+-- of a run that found c.
 pub record IsRecheck (c : Certificate) (again : List (List ℕ)) (told : ToldNames) : Type 0 where
   pub settings : Settings
   pub texts : List (List ℕ)
-  pub found : IsProved c settings texts
+  pub tables : List (List ℕ)
+  pub found : IsProved c settings (texts ++ tables)
   pub name : List ℕ
   pub asks : settings_of again ≡ Some (record settings { task = CheckCertificate name })
   pub has : AreTold told (settings.model ∷ (settings.data_files ++ name ∷ [])) (texts ++ certificate_text c ∷ [])
+  pub tables_told : AreTablesTold told (record settings { task = CheckCertificate name }) (texts ++ certificate_text c ∷ []) tables

@@ -1,6 +1,7 @@
 pub mod Asked
 pub mod Pieces
 pub mod Meaning
+pub mod Texts
 pub mod Cause
 pub mod Complete
 pub mod Code

@@ -1,5 +1,5 @@
 -- What the texts of a command's files mean, and what is written of it.
-use Rattle.std.specs.Prelude.{◌≡◌, ℕ, Bool, true, false, List, [], ◌∷◌, ◌++◌, length, take, unwrap_or, Result, Some, None, Ok, Err}
+use Rattle.std.specs.Prelude.{◌≡◌, ℕ, Bool, true, false, List, [], ◌∷◌, ◌++◌, length, take, drop, map, Result, Some, None, Ok, Err}
 use Rattle.std.specs.declared.option.Option.{Option}
 use Rattle.std.specs.Option.{option_map}
 use Rattle.rational.specs.Rational.{Rational}
@@ -10,9 +10,11 @@ use Rattle.verdicts.specs.Certificate.{Certificate, Verdict}
 use Rattle.verdicts.specs.Certificate as kind
 use Rattle.certificate.specs.Text.{certificate_text}
 use Rattle.gmpl_generate.specs.declared.fault.ModelFault.{ModelFault}
-use Rattle.gmpl_reader.specs.MathProg.{declared as declared_by_math_prog, printed as printed_by_math_prog, afterwards as afterwards_by_math_prog}
+use Rattle.gmpl_generate.specs.Running.{File as TableFile, Made}
+use Rattle.gmpl_reader.specs.MathProg.{Ending, Declares, Fails, Wants, ending as ending_of_math_prog, making as making_of_math_prog, afterwards as afterwards_of_math_prog}
 use Rattle.gmpl_reader.specs.declared.fault.MathProgFault.{MathProgFault}
 use Rattle.gmpl_reader.specs.declared.fault.MathProgFault.TheVariants as math_prog
+use Rattle.model_text.specs.declared.fault.FileFault.{FileFault}
 use Rattle.mps_reader.specs.FreeMps.{declared as declared_by_free_mps}
 use Rattle.cplex_lp_reader.specs.CplexLp.{declared as declared_by_cplex_lp}
 use Rattle.command_line.specs.declared.settings.Language.{Language}
@@ -22,7 +24,7 @@ use Rattle.command_line.specs.declared.settings.Settings.{Settings}
 use Rattle.command_line.specs.declared.settings.Task.{Task}
 use Rattle.solution_writer.specs.Report.{solved_report, translated_report, accepted_report}
 use Rattle.solution_writer.specs.Solution.{raw_solution}
-use Rattle.glpsol_cli.specs.Asked.{ToldNames, OfTexts, outputs_of}
+use Rattle.glpsol_cli.specs.Asked.{names_checked, outputs_of}
 use Rattle.glpsol_cli.specs.Pieces.{Piece}
 use Rattle.glpsol_cli.specs.declared.answer.Reached.{Reached}
 use Rattle.glpsol_cli.specs.declared.answer.Reached.TheVariants.{Nothing, Executed, Size, Acceptance, Verdict as VerdictReached}
@@ -33,19 +35,22 @@ use Rattle.glpsol_cli.specs.declared.answer.TextFault.TheVariants as text_fault
 
 -- ---- what the texts mean
 
--- how the execution of the texts ends: they declare a problem, or have this fault and none before it
+-- how the execution of the texts ends: they declare a problem, or have this fault and none before it, or the file of this name, which
+-- a table is read from, is to be read next
 pub data End : Type 0 where
   Declared : Problem → End
   Faulty : TextFault → End
+  Wanting : List ℕ → End
 
 -- what the statements behind `solve` come to: what they write, in order, and their first fault
 pub record Behind : Type 0 where
   pub pieces : List Piece
   pub fault : Option ModelFault
 
--- what is written while the texts are executed, in order, and how that ends; and what the statements behind `solve` come to
--- at a point of the problem
+-- the files of tables that are made while the texts are executed, in order; all that is written by then, which is these files and
+-- behind them what is displayed, and how that ends; and what the statements behind `solve` come to at a point of the problem
 pub record Meaning : Type 0 where
+  pub files : List Piece
   pub done : List Piece
   pub end : End
   pub behind : List Rational → Behind
@@ -54,17 +59,6 @@ abbrev pub text_fault_of : MathProgFault → TextFault
 text_fault_of (math_prog.Syntax fault) = text_fault.Syntax fault
 text_fault_of (math_prog.Data fault) = text_fault.Data fault
 text_fault_of (math_prog.Model fault) = text_fault.Model fault
-
--- a fault as one of a text of any language
-abbrev pub told_as : {F : Type 0} → (F → TextFault) → Result Problem F → Result Problem TextFault
-told_as make (Ok p) = Ok p
-told_as make (Err fault) = Err (make fault)
-
--- the problem that a text of this language declares, in MathProg with the texts of data files, or the first fault
-abbrev pub declared_in : Language → List ℕ → List (List ℕ) → Result Problem TextFault
-declared_in MathProg text data_texts = told_as text_fault_of (declared_by_math_prog text data_texts)
-declared_in FreeMps text data_texts = told_as text_fault.File (declared_by_free_mps text)
-declared_in CplexLp text data_texts = told_as text_fault.File (declared_by_cplex_lp text)
 
 -- `--min` and `--max` set the direction
 abbrev pub directed : Option Direction → Problem → Problem
@@ -80,21 +74,35 @@ relaxed false p = p
 abbrev pub asked_of : Settings → Problem → Problem
 asked_of s p = relaxed s.relaxed (directed s.direction p)
 
-abbrev pub end_of : Settings → Result Problem TextFault → End
+-- of a text of a language whose texts read no tables
+abbrev pub end_of : Settings → Result Problem FileFault → End
 end_of s (Ok p) = Declared (asked_of s p)
-end_of s (Err fault) = Faulty fault
+end_of s (Err fault) = Faulty (text_fault.File fault)
 
--- what a text prints while it is executed; the texts of MathProg alone print, where the text and its data are good
-abbrev pub printed_in : Language → List ℕ → List (List ℕ) → Option (List ℕ)
-printed_in MathProg text data_texts = printed_by_math_prog text data_texts
-printed_in FreeMps text data_texts = None
-printed_in CplexLp text data_texts = None
+abbrev pub end_of_ending : Settings → Ending → End
+end_of_ending s (Declares p) = Declared (asked_of s p)
+end_of_ending s (Fails fault) = Faulty (text_fault_of fault)
+end_of_ending s (Wants name) = Wanting name
 
--- what the statements behind `solve` print at a point, and their first fault, where there are any
-abbrev pub afterwards_in : Language → List ℕ → List (List ℕ) → List Rational → Option (List ℕ × Option ModelFault)
-afterwards_in MathProg text data_texts x = afterwards_by_math_prog text data_texts x
-afterwards_in FreeMps text data_texts x = None
-afterwards_in CplexLp text data_texts x = None
+-- how a text of this language ends, in MathProg with the texts of data files, and those of the files that tables are read from, in the
+-- order in which they are read
+abbrev pub ends_in : Settings → Language → List ℕ → List (List ℕ) → List (List ℕ) → End
+ends_in s MathProg text data_texts tables = end_of_ending s (ending_of_math_prog text data_texts tables)
+ends_in s FreeMps text data_texts tables = end_of s (declared_by_free_mps text)
+ends_in s CplexLp text data_texts tables = end_of s (declared_by_cplex_lp text)
+
+-- what a text prints and which files it makes while it is executed; the texts of MathProg alone do so, where the text and its data are
+-- good
+abbrev pub made_in : Language → List ℕ → List (List ℕ) → List (List ℕ) → Option Made
+made_in MathProg text data_texts tables = making_of_math_prog text data_texts tables
+made_in FreeMps text data_texts tables = None
+made_in CplexLp text data_texts tables = None
+
+-- what the statements behind `solve` print and make at a point, and their first fault, where there are any
+abbrev pub afterwards_in : Language → List ℕ → List (List ℕ) → List (List ℕ) → List Rational → Option (Made × Option ModelFault)
+afterwards_in MathProg text data_texts tables x = afterwards_of_math_prog text data_texts tables x
+afterwards_in FreeMps text data_texts tables x = None
+afterwards_in CplexLp text data_texts tables x = None
 
 -- where printed texts go: the file that `--display` names, or the output
 abbrev pub display_target : Option (List ℕ) → Target
@@ -104,36 +112,55 @@ display_target (Some name) = File name
 abbrev pub displayed : Option (List ℕ) → List ℕ → List Piece
 displayed file text = record { target = display_target file; text = text } ∷ []
 
--- what a text prints goes there at once
-abbrev pub done_by : Option (List ℕ) → Option (List ℕ) → List Piece
-done_by file None = []
-done_by file (Some text) = displayed file text
+-- a file that a table is written to
+abbrev pub file_piece : TableFile → Piece
+file_piece f = record { target = File f.name; text = f.text }
+
+abbrev pub file_pieces : List TableFile → List Piece
+file_pieces fs = map file_piece fs
+
+abbrev pub files_by : Option Made → List Piece
+files_by None = []
+files_by (Some made) = file_pieces made.files
+
+abbrev pub shown_by : Option (List ℕ) → Option Made → List Piece
+shown_by file None = []
+shown_by file (Some made) = displayed file made.printed
+
+abbrev pub printed_by : Option Made → List ℕ
+printed_by None = []
+printed_by (Some made) = made.printed
 
 -- the file is made anew with the whole text, of which this was printed before
-abbrev pub with_earlier : Option (List ℕ) → Option (List ℕ) → List ℕ → List ℕ
+abbrev pub with_earlier : Option (List ℕ) → List ℕ → List ℕ → List ℕ
 with_earlier None earlier text = text
-with_earlier (Some name) earlier text = unwrap_or earlier [] ++ text
+with_earlier (Some name) earlier text = earlier ++ text
 
 -- no statement stands behind `solve`
 abbrev pub nothing_behind : Behind
 nothing_behind = record { pieces = []; fault = None }
 
-abbrev pub behind_by : Option (List ℕ) → Option (List ℕ) → Option (List ℕ × Option ModelFault) → Behind
+abbrev pub behind_by : Option (List ℕ) → List ℕ → Option (Made × Option ModelFault) → Behind
 behind_by file earlier None = nothing_behind
-behind_by file earlier (Some after) = record { pieces = displayed file (with_earlier file earlier after.0); fault = after.1 }
+behind_by file earlier (Some after) = record { pieces = file_pieces after.0.files ++ displayed file (with_earlier file earlier after.0.printed); fault = after.1 }
 
--- the meaning of a model's text, with those of the data files
-abbrev pub meaning_in : Settings → List ℕ → List (List ℕ) → Meaning
-meaning_in s text data_texts = record {
-  done = done_by s.display (printed_in s.language text data_texts);
-  end = end_of s (declared_in s.language text data_texts);
-  behind = λ x. behind_by s.display (printed_in s.language text data_texts) (afterwards_in s.language text data_texts x);
+-- the meaning of a model's text, with those of the data files and of the tables that were read
+abbrev pub meaning_in : Settings → List ℕ → List (List ℕ) → List (List ℕ) → Meaning
+meaning_in s text data_texts tables = record {
+  files = files_by (made_in s.language text data_texts tables);
+  done = files_by (made_in s.language text data_texts tables) ++ shown_by s.display (made_in s.language text data_texts tables);
+  end = ends_in s s.language text data_texts tables;
+  behind = λ x. behind_by s.display (printed_by (made_in s.language text data_texts tables)) (afterwards_in s.language text data_texts tables x);
 }
 
--- the model's text stands first, and then those of the data files
+-- how many texts stand behind the model's that are read before it is executed
+abbrev pub files_behind : Settings → ℕ
+files_behind s = length (s.data_files ++ names_checked s.task)
+
+-- the model's text stands first, and then those of the data files, of the certificate that is to be checked, and of the tables
 abbrev pub meaning_of : Settings → List (List ℕ) → Option Meaning
 meaning_of s [] = None
-meaning_of s (text ∷ others) = Some (meaning_in s text (take (length s.data_files) others))
+meaning_of s (text ∷ others) = Some (meaning_in s text (take (length s.data_files) others) (drop (files_behind s) others))
 
 abbrev pub end_in : Settings → List (List ℕ) → Option End
 end_in s texts = option_map (λ (m : Meaning). m.end) (meaning_of s texts)
@@ -203,11 +230,3 @@ pub record HasFound (reached : Reached) (P : List Piece → Type 0) (s : Setting
   pub found : List Piece
   pub are : found_pieces s.task problem reached ≡ Some found
   pub has : P (meaning.done ++ (found ++ (behind_of meaning.behind reached).pieces))
-
--- P holds of all that is to be written once this was reached
-abbrev pub OfPieces : List (List ℕ) → ToldNames → Reached → (List Piece → Type 0) → Type 0
-OfPieces words told Nothing P = P []
-OfPieces words told Executed P = OfTexts words told (HasDone P)
-OfPieces words told Size P = OfTexts words told (HasFound Size P)
-OfPieces words told Acceptance P = OfTexts words told (HasFound Acceptance P)
-OfPieces words told (VerdictReached c) P = OfTexts words told (HasFound (VerdictReached c) P)

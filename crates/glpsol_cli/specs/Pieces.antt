@@ -1,7 +1,8 @@
 -- Texts that are written in order, some on the output and some to files.
-use Rattle.std.specs.Prelude.{◌≡◌, ◌⊎◌, ℕ, List, [], ◌∷◌, Some}
+use Rattle.std.specs.Prelude.{◌≡◌, ◌⊎◌, ℕ, List, [], ◌∷◌, None, Some, if◌then◌else◌}
 use Rattle.std.specs.declared.option.Option.{Option}
 use Rattle.std.specs.Io.KnownBytes.{Appends}
+use Rattle.std.specs.Str.{bytes_eq}
 use Rattle.outside.specs.Told.{Has, AppendsPrefix, IsKeptOrPrefix}
 use Rattle.glpsol_cli.specs.Asked.{ToldNames}
 use Rattle.glpsol_cli.specs.declared.answer.Target.{Target}
@@ -73,3 +74,23 @@ abbrev pub WrittenTo : Extent → List Piece → Outside → Outside → Type 0
 WrittenTo Whole ps old new = AllWritten ps old new
 WrittenTo (UpTo target) ps old new = WrittenUpTo target ps old new
 WrittenTo Part ps old new = SomeWritten ps old new
+
+-- ---- what is told of files behind pieces that are written
+
+-- of a file that is made with this text something is told where something was told before
+abbrev pub told_made : List ℕ → Option (Option (List ℕ)) → Option (Option (List ℕ))
+told_made text None = None
+told_made text (Some before) = Some (Some text)
+
+abbrev pub told_written : Target → List ℕ → ToldNames → ToldNames
+told_written Out text told name = told name
+told_written (File made) text told name = if bytes_eq name made then told_made text (told name) else told name
+
+-- a file has the last text that was written to it
+abbrev pub told_behind : ToldNames → List Piece → ToldNames
+told_behind told [] = told
+told_behind told (p ∷ ps) = told_behind (told_written p.target p.text told) ps
+
+-- whatever the first tells of a name, the second tells too
+abbrev pub Says : ToldNames → ToldNames → Type 0
+Says told more = (name : List ℕ) (is : Option (List ℕ)) → told name ≡ Some is → more name ≡ Some is

@@ -1,6 +1,6 @@
 -- What the stages of a run say: what is executed and found, why nothing is found, how the writing ends, and what is said of an
 -- answer by the settings and the texts that were read.
-use Rattle.std.specs.Prelude.{◌≡◌, ◌<◌, ◌⊎◌, ℕ, List, [], ◌∷◌, ◌++◌, length, Result, Ok, Err, Some, None, map, string_bytes}
+use Rattle.std.specs.Prelude.{◌≡◌, ◌<◌, ◌≤◌, ◌⊎◌, ℕ, suc, List, [], ◌∷◌, ◌++◌, length, slice_get, take, drop, Result, Ok, Err, Some, None, map, string_bytes}
 use Rattle.std.specs.declared.option.Option.{Option}
 use Rattle.rational.specs.Rational.{Rational}
 use Rattle.milp.specs.Problem.{Problem}
@@ -8,7 +8,8 @@ use Rattle.verdicts.specs.Certificate.{Certificate}
 use Rattle.verdicts.specs.Certificate as kind
 use Rattle.verdicts.specs.Proves.{Proves}
 use Rattle.gmpl_generate.specs.declared.fault.ModelFault.{ModelFault}
-use Rattle.gmpl_reader.specs.MathProg.{IsRest, declared as declared_by_math_prog, printed as printed_by_math_prog}
+use Rattle.gmpl_generate.specs.Running.{File as TableFile, files_of}
+use Rattle.gmpl_reader.specs.MathProg.{Declares, IsPending, IsRest, ending as ending_of_math_prog, making as making_of_math_prog}
 use Rattle.gmpl_reader.specs.declared.read.Reading.{Reading}
 use Rattle.gmpl_reader.specs.declared.read.ReadingEnd.{ReadingEnd}
 use Rattle.gmpl_reader.specs.declared.read.ReadingEnd.TheVariants as reading_end
@@ -25,9 +26,11 @@ use Rattle.command_line.specs.declared.settings.Task.{Task}
 use Rattle.command_line.specs.declared.settings.WordsFault.{WordsFault}
 use Rattle.command_line.specs.declared.settings.WordsFault.TheVariants.{Usage as WordsUsage, NoMemory as WordsNoMemory}
 use Rattle.solution_writer.specs.Report.{IsReportable}
+use Rattle.outside.specs.Causes.{Rose}
 use Rattle.glpsol_cli.specs.Asked.{ToldNames, AreTexts, AreThere, IsInTurn, Solves, Translates, names_read}
-use Rattle.glpsol_cli.specs.Pieces.{Piece, Outside, AllWritten, WrittenUpTo, SomeWritten, IsWritten, IsWrittenInPart}
-use Rattle.glpsol_cli.specs.Meaning.{Behind, Declared, Faulty, Meaning, IsRefused, HasDone, HasFound, asked_of, behind_of, declared_in, displayed, end_of, found_pieces, meaning_in, meaning_of, nothing_behind}
+use Rattle.glpsol_cli.specs.Pieces.{Piece, Outside, AllWritten, SameNames, Says, WrittenUpTo, SomeWritten, IsWritten, IsWrittenInPart, told_behind}
+use Rattle.glpsol_cli.specs.Meaning.{Behind, Declared, Faulty, Wanting, Meaning, IsRefused, HasDone, HasFound, asked_of, behind_of, displayed, ends_in, file_pieces, files_behind, files_by, found_pieces, made_in, meaning_in, meaning_of, nothing_behind, shown_by}
+use Rattle.glpsol_cli.specs.Texts.{AreTables, OfTexts, OfPieces}
 use Rattle.glpsol_cli.specs.Written.{ThenLine, extent_of, line_of}
 use Rattle.glpsol_cli.specs.Cause.{EndsBehind, IsProved, IsTranslated, reached_of, OfCertificate, IsAccepted, IsRefusedAt, IsCheckOverflow, IsNoCertificate, IsOverflow, IsUndecided, RoseAt}
 use Rattle.glpsol_cli.specs.declared.answer.Answer.{Answer}
@@ -41,6 +44,9 @@ use Rattle.glpsol_cli.specs.declared.inputs.Inputs.{Inputs}
 use Rattle.glpsol_cli.specs.declared.execution.Executed.{Executed as ExecutedHeld}
 use Rattle.glpsol_cli.specs.declared.execution.ExecutionEnd.{ExecutionEnd}
 use Rattle.glpsol_cli.specs.declared.execution.ExecutionEnd.TheVariants.{Problem as AtProblem, Fault as AtFault}
+use Rattle.glpsol_cli.specs.declared.execution.Halt.{Halt}
+use Rattle.glpsol_cli.specs.declared.execution.Halt.TheVariants as halts
+use Rattle.glpsol_cli.specs.declared.execution.Waiting.{Waiting}
 use Rattle.glpsol_cli.specs.declared.execution.Later.{Later}
 use Rattle.glpsol_cli.specs.declared.behind.Behind.{Behind as BehindHeld}
 use Rattle.glpsol_cli.specs.declared.found.Finding.{Finding}
@@ -55,6 +61,7 @@ use Rattle.glpsol_cli.specs.declared.stop.CheckStop.TheVariants.{BadText, Refuse
 use Rattle.glpsol_cli.specs.declared.publish.PublishFault.{PublishFault}
 use Rattle.glpsol_cli.specs.declared.publish.PublishFault.TheVariants.{Write, NoMemory as PublishNoMemory}
 use Rattle.glpsol_cli.specs.declared.publish.Piece.{Piece as PieceHeld}
+use Rattle.glpsol_cli.specs.declared.tables.Run.{Run as RunHeld}
 
 -- ---- what is read
 
@@ -77,61 +84,101 @@ pieces_of ps = map piece_of ps
 -- ---- what is executed
 
 -- what is kept of a text is what the statements behind `solve` need
-pub record IsLater (s : Settings) (text : List ℕ) (data_texts : List (List ℕ)) (p : Problem) (later : Later) : Type 0 where
+pub record IsLater (s : Settings) (text : List ℕ) (data_texts tables : List (List ℕ)) (p : Problem) (later : Later) : Type 0 where
   pub language : s.language ≡ MathProg
   pub problem : Problem
-  pub declares : declared_by_math_prog text data_texts ≡ Ok problem
+  pub declares : ending_of_math_prog text data_texts tables ≡ Declares problem
   pub rows : problem.rows ≡ p.rows
-  pub earlier : printed_by_math_prog text data_texts ≡ Some (string_bytes later.printed)
-  pub rest : IsRest text data_texts later.rest
+  pub files : List TableFile
+  pub earlier : making_of_math_prog text data_texts tables ≡ Some (record { printed = string_bytes later.printed; files = files })
+  pub rest : IsRest text data_texts tables later.rest
 
 -- nothing is kept only where no statement stands behind `solve`
-abbrev pub IsKept : Settings → List ℕ → List (List ℕ) → Problem → Option Later → Type 0
-IsKept s text data_texts p None = (x : List Rational) → (meaning_in s text data_texts).behind x ≡ nothing_behind
-IsKept s text data_texts p (Some later) = IsLater s text data_texts p later
+abbrev pub IsKept : Settings → List ℕ → List (List ℕ) → List (List ℕ) → Problem → Option Later → Type 0
+IsKept s text data_texts tables p None = (x : List Rational) → (meaning_in s text data_texts tables).behind x ≡ nothing_behind
+IsKept s text data_texts tables p (Some later) = IsLater s text data_texts tables p later
 
 -- the execution ends so
-abbrev pub IsEnd : Settings → List ℕ → List (List ℕ) → ExecutionEnd → Type 0
-IsEnd s text data_texts (AtProblem p later) = (end_of s (declared_in s.language text data_texts) ≡ Declared p) × IsKept s text data_texts p later
-IsEnd s text data_texts (AtFault fault) = end_of s (declared_in s.language text data_texts) ≡ Faulty fault
+abbrev pub IsEnd : Settings → List ℕ → List (List ℕ) → List (List ℕ) → ExecutionEnd → Type 0
+IsEnd s text data_texts tables (AtProblem p later) = (ends_in s s.language text data_texts tables ≡ Declared p) × IsKept s text data_texts tables p later
+IsEnd s text data_texts tables (AtFault fault) = ends_in s s.language text data_texts tables ≡ Faulty fault
 
--- the model's text with those of its data is executed so
-pub record IsExecutionOf (s : Settings) (text : List ℕ) (data_texts : List (List ℕ)) (e : ExecutedHeld) : Type 0 where
-  pub done : pieces_of e.done.items ≡ (meaning_in s text data_texts).done
-  pub end : IsEnd s text data_texts e.end
+-- it waits for the text of a table
+pub record IsWaiting (s : Settings) (text : List ℕ) (data_texts tables : List (List ℕ)) (w : Waiting) : Type 0 where
+  pub wants : ends_in s s.language text data_texts tables ≡ Wanting w.pending.pause.name
+  pub language : s.language ≡ MathProg
+  pub files : List TableFile
+  pub made : making_of_math_prog text data_texts tables ≡ Some (record { printed = string_bytes w.printed; files = files })
+  pub pending : IsPending text data_texts tables w.pending
 
--- the same, of all texts
+-- it halts so; no table's file is found unread yet
+abbrev pub IsHalt : Settings → List ℕ → List (List ℕ) → List (List ℕ) → Halt → Type 0
+IsHalt s text data_texts tables (halts.End end) = IsEnd s text data_texts tables end
+IsHalt s text data_texts tables (halts.Table w) = IsWaiting s text data_texts tables w
+IsHalt s text data_texts tables (halts.Unread u) = ⊥
+
+-- the model's text with those of its data and of its tables is executed so, where these files were made before
+pub record IsExecutionOf (before : List Piece) (s : Settings) (text : List ℕ) (data_texts tables : List (List ℕ)) (e : ExecutedHeld) : Type 0 where
+  pub files : files_by (made_in s.language text data_texts tables) ≡ before ++ pieces_of e.files.items
+  pub shown : shown_by s.display (made_in s.language text data_texts tables) ≡ pieces_of e.shown.items
+  pub halt : IsHalt s text data_texts tables e.halt
+
+-- all texts, by what they are
+pub record AreParts (s : Settings) (texts : List (List ℕ)) (text : List ℕ) (data_texts tables : List (List ℕ)) : Type 0 where
+  pub others : List (List ℕ)
+  pub are : texts ≡ text ∷ others
+  pub enough : files_behind s ≤ length others
+  pub data_are : take (length s.data_files) others ≡ data_texts
+  pub tables_are : drop (files_behind s) others ≡ tables
+
+-- the texts that are read first are executed so, without one of a table
 pub record IsExecution (s : Settings) (texts : List (List ℕ)) (e : ExecutedHeld) : Type 0 where
   pub text : List ℕ
-  pub data_texts : List (List ℕ)
-  pub means : meaning_of s texts ≡ Some (meaning_in s text data_texts)
-  pub execution : IsExecutionOf s text data_texts e
+  pub others : List (List ℕ)
+  pub are : texts ≡ text ∷ others
+  pub execution : IsExecutionOf [] s text (take (length s.data_files) others) [] e
 
 pub record IsEndIn (s : Settings) (texts : List (List ℕ)) (end : ExecutionEnd) : Type 0 where
   pub text : List ℕ
   pub data_texts : List (List ℕ)
-  pub means : meaning_of s texts ≡ Some (meaning_in s text data_texts)
-  pub is_end : IsEnd s text data_texts end
+  pub tables : List (List ℕ)
+  pub parts : AreParts s texts text data_texts tables
+  pub is_end : IsEnd s text data_texts tables end
+
+abbrev pub IsEndOf : Settings → List (List ℕ) → Halt → Type 0
+IsEndOf s texts (halts.End end) = IsEndIn s texts end
+IsEndOf s texts (halts.Table w) = Unit {0}
+IsEndOf s texts (halts.Unread u) = Unit {0}
 
 -- this is the problem that is asked about, and what the statements behind `solve` need is kept
 pub record IsSubject (s : Settings) (texts : List (List ℕ)) (p : Problem) (later : Option Later) : Type 0 where
   pub text : List ℕ
   pub data_texts : List (List ℕ)
-  pub means : meaning_of s texts ≡ Some (meaning_in s text data_texts)
-  pub declares : end_of s (declared_in s.language text data_texts) ≡ Declared p
-  pub kept : IsKept s text data_texts p later
+  pub tables : List (List ℕ)
+  pub parts : AreParts s texts text data_texts tables
+  pub means : meaning_of s texts ≡ Some (meaning_in s text data_texts tables)
+  pub declares : ends_in s s.language text data_texts tables ≡ Declared p
+  pub kept : IsKept s text data_texts tables p later
 
 -- the end of an execution is that of a reading of a MathProg text
-abbrev pub IsOfReadingEnd : Settings → List ℕ → ReadingEnd → ExecutionEnd → Type 0
-IsOfReadingEnd s printed (reading_end.Problem p rest) (AtProblem q None) = ⊥
-IsOfReadingEnd s printed (reading_end.Problem p rest) (AtProblem q (Some later)) = (q ≡ asked_of s p) × (string_bytes later.printed ≡ printed) × (later.rest ≡ rest)
-IsOfReadingEnd s printed (reading_end.Problem p rest) (AtFault fault) = ⊥
-IsOfReadingEnd s printed (reading_end.Fault fault) (AtProblem q later) = ⊥
-IsOfReadingEnd s printed (reading_end.Fault fault) (AtFault other) = other ≡ text_fault.Model fault
+abbrev pub IsOfReadingEnd : Settings → List ℕ → ReadingEnd → Halt → Type 0
+IsOfReadingEnd s printed (reading_end.Problem p rest) (halts.End (AtProblem q None)) = ⊥
+IsOfReadingEnd s printed (reading_end.Problem p rest) (halts.End (AtProblem q (Some later))) = (q ≡ asked_of s p) × (string_bytes later.printed ≡ printed) × (later.rest ≡ rest)
+IsOfReadingEnd s printed (reading_end.Problem p rest) (halts.End (AtFault fault)) = ⊥
+IsOfReadingEnd s printed (reading_end.Problem p rest) (halts.Table w) = ⊥
+IsOfReadingEnd s printed (reading_end.Problem p rest) (halts.Unread u) = ⊥
+IsOfReadingEnd s printed (reading_end.Table pending) (halts.End end) = ⊥
+IsOfReadingEnd s printed (reading_end.Table pending) (halts.Table w) = (string_bytes w.printed ≡ printed) × (w.pending ≡ pending)
+IsOfReadingEnd s printed (reading_end.Table pending) (halts.Unread u) = ⊥
+IsOfReadingEnd s printed (reading_end.Fault fault) (halts.End (AtProblem q later)) = ⊥
+IsOfReadingEnd s printed (reading_end.Fault fault) (halts.End (AtFault other)) = other ≡ text_fault.Model fault
+IsOfReadingEnd s printed (reading_end.Fault fault) (halts.Table w) = ⊥
+IsOfReadingEnd s printed (reading_end.Fault fault) (halts.Unread u) = ⊥
 
 pub record IsOfReading (s : Settings) (r : Reading) (e : ExecutedHeld) : Type 0 where
-  pub done : pieces_of e.done.items ≡ displayed s.display (string_bytes r.printed)
-  pub end : IsOfReadingEnd s (string_bytes r.printed) r.end e.end
+  pub files : pieces_of e.files.items ≡ file_pieces (files_of r.files.items)
+  pub shown : pieces_of e.shown.items ≡ displayed s.display (string_bytes r.printed)
+  pub halt : IsOfReadingEnd s (string_bytes r.printed) r.end e.halt
 
 -- ---- what is found
 
@@ -155,11 +202,10 @@ IsCheckStop p bytes (CheckRefused part) = IsRefusedAt part p bytes
 IsCheckStop p bytes (CheckNoFit f) = IsCheckOverflow f.part f.fault p bytes
 IsCheckStop p bytes CheckNoMemory = Unit {0}
 
--- P of the last text
-pub record OfLast (P : List ℕ → Type 0) (texts : List (List ℕ)) : Type 0 where
-  pub before : List (List ℕ)
+-- P of the text behind the model's and so many others
+pub record OfNext (P : List ℕ → Type 0) (count : ℕ) (texts : List (List ℕ)) : Type 0 where
   pub bytes : List ℕ
-  pub last : texts ≡ before ++ bytes ∷ []
+  pub stands : slice_get texts (suc count) ≡ Some bytes
   pub holds : P bytes
 
 -- why nothing is found
@@ -222,12 +268,13 @@ IsStop words told files_rose StopNoMemory = Unit {0}
 
 -- ---- the answers of a stop
 
-abbrev pub unread_answer : List ℕ → LoadFault → Answer
-unread_answer name LoadMissing = Missing name
-unread_answer name Open = OpenFault name
-unread_answer name Read = ReadFault name
-unread_answer name LoadTooLong = TooLong name
-unread_answer name LoadNoMemory = NoMemory Nothing
+-- of a file that is not read once this was reached
+abbrev pub unread_answer : Reached → List ℕ → LoadFault → Answer
+unread_answer reached name LoadMissing = Missing name reached
+unread_answer reached name Open = OpenFault name reached
+unread_answer reached name Read = ReadFault name reached
+unread_answer reached name LoadTooLong = TooLong name reached
+unread_answer reached name LoadNoMemory = NoMemory reached
 
 abbrev pub solve_answer : VerdictFault → Answer
 solve_answer (SearchNoFit wanted site) = Overflow (AtNode wanted site.node) site.fault
@@ -252,7 +299,7 @@ words_answer WordsNoMemory = NoMemory Nothing
 
 abbrev pub stop_answer : Stop → Answer
 stop_answer (Words fault) = words_answer fault
-stop_answer (File u) = unread_answer u.name u.fault
+stop_answer (File u) = unread_answer Nothing u.name u.fault
 stop_answer StopNoMemory = NoMemory Nothing
 
 -- ---- writing
@@ -306,6 +353,115 @@ best_answer (Some fault) c = FaultBehindSolve fault c
 abbrev pub IsEndBehind : Option ModelFault → Certificate → Type 0 → Type 0 → Answer → Type 0
 IsEndBehind fault c files_rose out_rose answer = (answer ≡ best_answer fault c) ⊎ ((f : PublishFault) × (answer ≡ unwritten_answer (VerdictReached c) f) × HasFailed files_rose out_rose f)
 
+-- ---- tables that are read
+
+-- what the outside is at a moment, and the counts of the faults of the store and of the output
+pub record Moment : Type 0 where
+  pub outside : Outside
+  pub files : ℕ
+  pub out : ℕ
+
+-- these are the texts of the words' files and of tables that were read
+pub record AreRead (words : List (List ℕ)) (told : ToldNames) (s : Settings) (texts : List (List ℕ)) : Type 0 where
+  pub asks : settings_of words ≡ Some s
+  pub first : List (List ℕ)
+  pub tables : List (List ℕ)
+  pub texts_are : texts ≡ first ++ tables
+  pub read : AreTexts told (names_read s) first
+  pub tables_read : AreTables told s first tables
+
+-- these pieces were written since the start, at which at least this was told
+pub record IsSince (told : ToldNames) (pieces : List Piece) (start now : Moment) : Type 0 where
+  pub says : Says told start.outside.told
+  pub written : AllWritten pieces start.outside now.outside
+  pub files_later : start.files ≤ now.files
+  pub out_later : start.out ≤ now.out
+
+-- all texts that were read are executed so, and these pieces of their meaning were written since the start
+pub record IsAt (words : List (List ℕ)) (told : ToldNames) (pieces : List Piece) (start now : Moment) (s : Settings) (texts : List (List ℕ)) (text : List ℕ) (data_texts tables : List (List ℕ)) : Type 0 where
+  pub are_read : AreRead words told s texts
+  pub parts : AreParts s texts text data_texts tables
+  pub since : IsSince told pieces start now
+
+-- it halts so; or the file of a table is not read
+abbrev pub IsHaltOrUnread : ToldNames → Type 0 → Settings → List ℕ → List (List ℕ) → List (List ℕ) → Halt → Type 0
+IsHaltOrUnread told files_rose s text data_texts tables (halts.End end) = IsEnd s text data_texts tables end
+IsHaltOrUnread told files_rose s text data_texts tables (halts.Table w) = IsWaiting s text data_texts tables w
+IsHaltOrUnread told files_rose s text data_texts tables (halts.Unread u) =
+    (ends_in s s.language text data_texts tables ≡ Wanting u.name) × IsUnread (told_behind told (files_by (made_in s.language text data_texts tables)) u.name) files_rose u.fault
+
+-- how a run stands between two tables: all files are written but those that were made last, and nothing that is displayed
+pub record IsRun (words : List (List ℕ)) (told : ToldNames) (start now : Moment) (s : Settings) (texts : List (List ℕ)) (e : ExecutedHeld) : Type 0 where
+  pub text : List ℕ
+  pub data_texts : List (List ℕ)
+  pub tables : List (List ℕ)
+  pub before : List Piece
+  pub at : IsAt words told before start now s texts text data_texts tables
+  pub files : files_by (made_in s.language text data_texts tables) ≡ before ++ pieces_of e.files.items
+  pub shown : shown_by s.display (made_in s.language text data_texts tables) ≡ pieces_of e.shown.items
+  pub halt : IsHaltOrUnread told (Rose start.files now.files) s text data_texts tables e.halt
+
+-- the words and the start are some
+pub record IsSomeRun (now : Moment) (s : Settings) (texts : List (List ℕ)) (e : ExecutedHeld) : Type 0 where
+  pub words : List (List ℕ)
+  pub told : ToldNames
+  pub start : Moment
+  pub run : IsRun words told start now s texts e
+
+pub record AreSomeInputs (now : ToldNames) (inputs : Inputs) : Type 0 where
+  pub words : List (List ℕ)
+  pub told : ToldNames
+  pub same : SameNames told now
+  pub are : AreInputs words told inputs
+
+-- how it stands where a table's file is to be read: all files are written, and nothing that is displayed
+pub record IsPaused (words : List (List ℕ)) (told : ToldNames) (start now : Moment) (s : Settings) (texts : List (List ℕ)) (shown : List Piece) (w : Waiting) : Type 0 where
+  pub text : List ℕ
+  pub data_texts : List (List ℕ)
+  pub tables : List (List ℕ)
+  pub at : IsAt words told (files_by (made_in s.language text data_texts tables)) start now s texts text data_texts tables
+  pub shown_is : shown_by s.display (made_in s.language text data_texts tables) ≡ shown
+  pub waiting : IsWaiting s text data_texts tables w
+
+-- what holds of a run at one moment, holds of it at a later one
+abbrev pub GoesOn : Moment → Moment → RunHeld → RunHeld → Type 0
+GoesOn now later run made = (words : List (List ℕ)) (told : ToldNames) (start : Moment) → IsRun words told start now run.inputs.settings (texts_in run.inputs) run.executed → IsRun words told start later made.inputs.settings (texts_in made.inputs) made.executed
+
+-- the same where its table's file is read, whatever the output is
+abbrev pub GoesOnPaused : ToldNames → ℕ → ToldNames → ℕ → Inputs → List Piece → Waiting → RunHeld → Type 0
+GoesOnPaused now files later files_later inputs shown w made = (words : List (List ℕ)) (told : ToldNames) (start : Moment) (taken : Option (List ℕ)) (out : ℕ)
+    → IsPaused words told start (record { outside = record { taken = taken; told = now }; files = files; out = out }) inputs.settings (texts_in inputs) shown w
+    → IsRun words told start (record { outside = record { taken = taken; told = later }; files = files_later; out = out }) made.inputs.settings (texts_in made.inputs) made.executed
+
+-- the inputs with the text of one more table, and what their execution then comes to
+pub record IsTableExecuted (inputs : Inputs) (w : Waiting) (table : List ℕ) (more : Inputs) (e : ExecutedHeld) : Type 0 where
+  pub settings : more.settings ≡ inputs.settings
+  pub texts : texts_in more ≡ texts_in inputs ++ table ∷ []
+  pub execution : (text : List ℕ) (data_texts tables : List (List ℕ)) (files : List TableFile) → inputs.settings.language ≡ MathProg
+      → making_of_math_prog text data_texts tables ≡ Some (record { printed = string_bytes w.printed; files = files })
+      → IsPending text data_texts tables w.pending → IsExecutionOf (file_pieces files) inputs.settings text data_texts (tables ++ table ∷ []) e
+
+-- how it stands where all is written that was executed
+pub record IsWhole (words : List (List ℕ)) (told : ToldNames) (start now : Moment) (s : Settings) (texts : List (List ℕ)) (halt : Halt) : Type 0 where
+  pub text : List ℕ
+  pub data_texts : List (List ℕ)
+  pub tables : List (List ℕ)
+  pub at : IsAt words told (meaning_in s text data_texts tables).done start now s texts text data_texts tables
+  pub is_halt : IsHaltOrUnread told (Rose start.files now.files) s text data_texts tables halt
+
+-- not all is written that was executed, for this fault
+pub record IsUnwritten (words : List (List ℕ)) (told : ToldNames) (start now : Moment) (fault : PublishFault) : Type 0 where
+  pub done : OfTexts words told (HasDone (λ done. EndsWriting {T = Unit {0}} done start.outside now.outside (Err fault)))
+  pub failed : HasFailed (Rose start.files now.files) (Rose start.out now.out) fault
+
+-- a run does not come further for this fault
+abbrev pub Stops : Moment → Moment → RunHeld → PublishFault → Type 0
+Stops now later run fault = (words : List (List ℕ)) (told : ToldNames) (start : Moment) → IsRun words told start now run.inputs.settings (texts_in run.inputs) run.executed → IsUnwritten words told start later fault
+
+-- what is written from the start on, with an answer
+abbrev pub WrittenSince : List (List ℕ) → ToldNames → Outside → Outside → Answer → Type 0
+WrittenSince words told old new answer = OfPieces words told (reached_of answer) (ThenLine (extent_of answer) (line_of answer) old new)
+
 -- ---- what is said of an answer by the settings and the texts that were read
 
 abbrev pub ReachedIn : Settings → List (List ℕ) → Reached → Type 0
@@ -323,11 +479,11 @@ CauseIn s texts files_rose out_rose (Unbounded c) = (c.verdict ≡ kind.Unbounde
 CauseIn s texts files_rose out_rose Translated = IsTranslated s texts
 CauseIn s texts files_rose out_rose Accepted = OfCertificate IsAccepted s texts
 CauseIn s texts files_rose out_rose Usage = ⊥
-CauseIn s texts files_rose out_rose (Missing name) = ⊥
-CauseIn s texts files_rose out_rose (OpenFault name) = ⊥
-CauseIn s texts files_rose out_rose (ReadFault name) = ⊥
+CauseIn s texts files_rose out_rose (Missing name reached) = ⊥
+CauseIn s texts files_rose out_rose (OpenFault name reached) = ⊥
+CauseIn s texts files_rose out_rose (ReadFault name reached) = ⊥
 CauseIn s texts files_rose out_rose (WriteFault target reached) = ReachedIn s texts reached × RoseAt target files_rose out_rose
-CauseIn s texts files_rose out_rose (TooLong name) = ⊥
+CauseIn s texts files_rose out_rose (TooLong name reached) = ⊥
 CauseIn s texts files_rose out_rose (TextRefused fault) = IsRefused fault s texts
 CauseIn s texts files_rose out_rose (FaultBehindSolve fault c) = (c.verdict ≡ kind.Optimal) × EndsBehind (Some fault) c s texts
 CauseIn s texts files_rose out_rose (BadCertificate fault) = OfCertificate (IsNoCertificate fault) s texts

@@ -2,7 +2,7 @@
 use Rattle.std.specs.Prelude.{ℕ, List, [], codes}
 use Rattle.solution_writer.specs.FaultLine.{named_line, overflow_line, usage_line, syntax_line, data_line, model_line, file_line, certificate_line, undecided_nodes_line, undecided_pivots_line, refused_line, no_memory_line}
 use Rattle.glpsol_cli.specs.Pieces.{Piece, Outside, IsWrittenInPart, Extent, Whole, UpTo, Part, WrittenTo}
-use Rattle.glpsol_cli.specs.Meaning.{OfPieces}
+use Rattle.glpsol_cli.specs.Texts.{OfPieces}
 use Rattle.glpsol_cli.specs.Cause.{reached_of}
 use Rattle.glpsol_cli.specs.declared.answer.Answer.{Answer}
 use Rattle.glpsol_cli.specs.declared.answer.Answer.TheVariants.{Optimal, Infeasible, Unbounded, Translated, Accepted, Usage, Missing, OpenFault, ReadFault, WriteFault, TooLong, BadText, FaultBehindSolve, BadCertificate, Overflow, Undecided, Refused, NoMemory}
@@ -36,11 +36,11 @@ line_of (Unbounded c) = []
 line_of Translated = []
 line_of Accepted = []
 line_of Usage = usage_line
-line_of (Missing name) = named_line (codes "missing") name
-line_of (OpenFault name) = named_line (codes "open fault") name
-line_of (ReadFault name) = named_line (codes "read fault") name
+line_of (Missing name reached) = named_line (codes "missing") name
+line_of (OpenFault name reached) = named_line (codes "open fault") name
+line_of (ReadFault name reached) = named_line (codes "read fault") name
 line_of (WriteFault target reached) = target_line_of target
-line_of (TooLong name) = named_line (codes "too long") name
+line_of (TooLong name reached) = named_line (codes "too long") name
 line_of (BadText fault) = text_line fault
 line_of (FaultBehindSolve fault c) = model_line fault
 line_of (BadCertificate fault) = certificate_line fault
@@ -57,11 +57,11 @@ extent_of (Unbounded c) = Whole
 extent_of Translated = Whole
 extent_of Accepted = Whole
 extent_of Usage = Whole
-extent_of (Missing name) = Whole
-extent_of (OpenFault name) = Whole
-extent_of (ReadFault name) = Whole
+extent_of (Missing name reached) = Whole
+extent_of (OpenFault name reached) = Whole
+extent_of (ReadFault name reached) = Whole
 extent_of (WriteFault target reached) = UpTo target
-extent_of (TooLong name) = Whole
+extent_of (TooLong name reached) = Whole
 extent_of (BadText fault) = Whole
 extent_of (FaultBehindSolve fault c) = Whole
 extent_of (BadCertificate fault) = Whole

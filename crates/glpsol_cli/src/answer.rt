@@ -60,7 +60,7 @@ pub enum Limit {
 pub enum Reached {
     /// Nothing is executed yet: the words, the files and the model's text come first.
     Nothing,
-    /// The texts are executed, up to a problem or to their first fault.
+    /// The texts are executed as far as the files of their tables were read: up to a problem, to their first fault, or to a table.
     Executed,
     /// The size of the problem is found, which was asked for.
     Size,
@@ -85,19 +85,32 @@ pub enum Answer {
     Accepted,
     /// The words are no command.
     Usage,
-    /// There is no file of this name.
-    Missing(Name),
+    /// There is no file of this name, which is to be read after this was reached: of the command's files nothing, of a table's the
+    /// execution up to the table.
+    Missing {
+        name: Name,
+        reached: Reached,
+    },
     /// The file of this name can't be opened.
-    OpenFault(Name),
+    OpenFault {
+        name: Name,
+        reached: Reached,
+    },
     /// The file of this name can't be read.
-    ReadFault(Name),
+    ReadFault {
+        name: Name,
+        reached: Reached,
+    },
     /// The target can't be written, after this was reached.
     WriteFault {
         target: Target,
         reached: Reached,
     },
     /// The file of this name is longer than 16,777,216 bytes.
-    TooLong(Name),
+    TooLong {
+        name: Name,
+        reached: Reached,
+    },
     /// The model's text has this fault, and none before it.
     BadText(TextFault),
     /// The certificate's point is best, and was reported; there a statement behind `solve` has this fault, and none before it.
@@ -136,11 +149,11 @@ impl Answer {
             | Answer::Translated
             | Answer::Accepted => 0,
             Answer::Usage
-            | Answer::Missing(_)
-            | Answer::OpenFault(_)
-            | Answer::ReadFault(_)
+            | Answer::Missing { .. }
+            | Answer::OpenFault { .. }
+            | Answer::ReadFault { .. }
             | Answer::WriteFault { .. } => 1,
-            Answer::TooLong(_)
+            Answer::TooLong { .. }
             | Answer::BadText(_)
             | Answer::FaultBehindSolve { .. }
             | Answer::BadCertificate(_) => 2,

@@ -9,7 +9,7 @@ ghost use Rattle.glpsol_cli.specs.Meaning.{meaning_in};
 ghost use Rattle.glpsol_cli.specs.Written.{ThenLine, extent_of, line_of};
 ghost use Rattle.glpsol_cli.specs.Stages.{IsEndBehind, IsKept, IsLater, behind_in, best_answer, pieces_of};
 
-use crate::display::{displayed, with_earlier};
+use crate::display::{behind_files, with_earlier};
 use crate::execution::Later;
 use crate::publish::{Piece, write_pieces};
 use crate::stop::unwritten_answer;
@@ -18,7 +18,7 @@ use crate::{Answer, Reached};
 use certificate::Certificate;
 use command_line::Settings;
 use gmpl_generate::ModelFault;
-use gmpl_reader::after_solve;
+use gmpl_reader::{Afterwards, after_solve};
 use instance::{Instance, Point};
 use outside::{Sink, Store};
 use std::alloc::{AllocError, Global};
@@ -40,8 +40,8 @@ pub fn afterwards(
     certificate: &Certificate,
 ) -> Result<Behind, AllocError>
     requires { IsSomeAnd certificate.now.point (IsShownPoint problem.now) }
-    ensures { IfOk result (λ b. (text : List ℕ) (data_texts : List (List ℕ)) (x : List Rational) → IsKept settings.now text data_texts problem.now later
-        → certificate.now.point ≡ Some x → (meaning_in settings.now text data_texts).behind x ≡ behind_in b) }
+    ensures { IfOk result (λ b. (text : List ℕ) (data_texts tables : List (List ℕ)) (x : List Rational) → IsKept settings.now text data_texts tables problem.now later
+        → certificate.now.point ≡ Some x → (meaning_in settings.now text data_texts tables).behind x ≡ behind_in b) }
 {
     let Some(point) = certificate.point() else {
         unreachable!()
@@ -65,17 +65,19 @@ fn at_point(
 ) -> Result<Behind, AllocError>
     requires size { length point.now ≡ length problem.now.columns }
     requires rows { RowsFit point.now problem.now.rows }
-    ensures { IfOk result (λ b. (text : List ℕ) (data_texts : List (List ℕ)) → IsLater settings.now text data_texts problem.now later
-        → (meaning_in settings.now text data_texts).behind point.now ≡ behind_in b) }
+    ensures { IfOk result (λ b. (text : List ℕ) (data_texts tables : List (List ℕ)) → IsLater settings.now text data_texts tables problem.now later
+        → (meaning_in settings.now text data_texts tables).behind point.now ≡ behind_in b) }
 {
     let Later { printed, rest } = later;
     let after = after_solve(alloc, rest, problem, point)?;
-    let text = with_earlier(alloc, &settings.display, &printed, &after.printed)?;
-    let pieces = displayed(alloc, &settings.display, &text)?;
-    Ok(Behind {
-        pieces,
-        fault: after.fault,
-    })
+    let Afterwards {
+        printed: more,
+        files,
+        fault,
+    } = after;
+    let text = with_earlier(alloc, &settings.display, &printed, &more)?;
+    let pieces = behind_files(alloc, files, &settings.display, text)?;
+    Ok(Behind { pieces, fault })
 }
 
 /// What the statements behind `solve` come to is written, and the run ends.

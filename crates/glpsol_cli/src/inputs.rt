@@ -1,8 +1,8 @@
 // What the words and the files give.
-ghost use Rattle.std.specs.Prelude.{◌≡◌, ◌≤◌, ◌++◌, ℕ, List, IfOk, IfErr, OnOk, map, string_bytes};
+ghost use Rattle.std.specs.Prelude.{◌≡◌, ◌≤◌, ◌++◌, ◌∷◌, [], ℕ, List, IfOk, IfErr, OnOk, map, string_bytes};
 ghost use Rattle.outside.specs.Causes.{Rose};
 ghost use Rattle.glpsol_cli.specs.Asked.{AreTexts, IsTextOf, names_read, names_checked};
-ghost use Rattle.glpsol_cli.specs.Stages.{AreInputs, IsStop, IsStopAt, IsStopAmong, IsUnreadStop};
+ghost use Rattle.glpsol_cli.specs.Stages.{AreInputs, IsStop, IsStopAt, IsStopAmong, IsUnreadStop, texts_in};
 
 use crate::stop::{Stop, Unread};
 use command_line::{Settings, Task, read_words};
@@ -10,7 +10,7 @@ use instance::Name;
 use outside::{LoadFault, Store, read_all};
 use std::alloc::{AllocError, Global};
 
-// The settings, with the texts of the files that they name, in the order in which these are read.
+// The settings, with the texts of the files that they name, in the order in which these are read, and behind them those of tables.
 #[derive(Drop)]
 pub struct Inputs {
     pub settings: Settings,
@@ -35,6 +35,21 @@ pub fn read_inputs<S: Store>(alloc: Global, words: &[String], files: &mut S) -> 
     match load_all(alloc, &names, files) {
         Ok(texts) => Ok(Inputs { settings, texts }),
         Err(stop) => Err(stop),
+    }
+}
+
+impl Inputs {
+    /// With the text of one more table.
+    pub fn with_table(self, text: Vec<u8>) -> Result<Inputs, AllocError>
+        ensures settings { IfOk result (λ inputs. inputs.settings ≡ self.settings) }
+        ensures texts { IfOk result (λ inputs. texts_in inputs ≡ texts_in self ++ text.items ∷ []) }
+    {
+        let Inputs {
+            settings,
+            mut texts,
+        } = self;
+        texts.push(text)?;
+        Ok(Inputs { settings, texts })
     }
 }
 
@@ -93,8 +108,8 @@ fn load_all<S: Store>(alloc: Global, names: &[Name], files: &mut S) -> Result<Ve
     Ok(texts)
 }
 
-// The text of a file.
-fn load<S: Store>(alloc: Global, name: &Name, files: &mut S) -> Result<Vec<u8>, Stop>
+/// The text of a file.
+pub fn load<S: Store>(alloc: Global, name: &Name, files: &mut S) -> Result<Vec<u8>, Stop>
     ensures text { IfOk result (λ text. IsTextOf (S.told files.old name.now) text.items) }
     ensures stop { IfErr result (IsStopAt name.now (S.told files.old) (Rose (S.faults files.old) (S.faults files.new))) }
     ensures told { (other : List ℕ) → S.told files.new other ≡ S.told files.old other }

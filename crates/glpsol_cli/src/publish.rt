@@ -220,6 +220,24 @@ pub fn write_pieces<S: Store, O: Sink>(
     Ok(())
 }
 
+/// Writes the first pieces, in order, and then the others.
+pub fn write_both<S: Store, O: Sink>(
+    files: &mut S,
+    out: &mut O,
+    first: Vec<Piece>,
+    others: Vec<Piece>,
+) -> Result<(), PublishFault>
+    ensures ends { EndsWriting (pieces_of first.items ++ pieces_of others.items) (record { taken = O.taken out.old; told = S.told files.old }) (record { taken = O.taken out.new; told = S.told files.new }) result }
+    ensures failed { IfErr result (HasFailed (Rose (S.faults files.old) (S.faults files.new)) (Rose (O.faults out.old) (O.faults out.new))) }
+    ensures files_later { S.faults files.old ≤ S.faults files.new }
+    ensures out_later { O.faults out.old ≤ O.faults out.new }
+{
+    match write_pieces(files, out, first) {
+        Ok(()) => write_pieces(files, out, others),
+        Err(fault) => Err(fault),
+    }
+}
+
 // Writes a piece.
 fn write_piece<S: Store, O: Sink>(
     files: &mut S,

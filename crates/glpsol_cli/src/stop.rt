@@ -48,7 +48,7 @@ pub fn stop_answer(stop: Stop) -> Answer
 {
     match stop {
         Stop::Words(fault) => words_answer(fault),
-        Stop::File(unread) => unread_answer(unread.name, unread.fault),
+        Stop::File(unread) => unread_answer(Reached::Nothing, unread),
         Stop::NoMemory => no_memory(Reached::Nothing),
     }
 }
@@ -62,15 +62,17 @@ fn words_answer(fault: WordsFault) -> Answer
     }
 }
 
-fn unread_answer(name: Name, fault: LoadFault) -> Answer
-    ensures { result ≡ unread_answer name fault }
+/// The answer where a file is not read once this was reached.
+pub fn unread_answer(reached: Reached, unread: Unread) -> Answer
+    ensures { result ≡ unread_answer reached unread.name unread.fault }
 {
+    let Unread { name, fault } = unread;
     match fault {
-        LoadFault::Missing => Answer::Missing(name),
-        LoadFault::Open => Answer::OpenFault(name),
-        LoadFault::Read => Answer::ReadFault(name),
-        LoadFault::TooLong => Answer::TooLong(name),
-        LoadFault::NoMemory => no_memory(Reached::Nothing),
+        LoadFault::Missing => Answer::Missing { name, reached },
+        LoadFault::Open => Answer::OpenFault { name, reached },
+        LoadFault::Read => Answer::ReadFault { name, reached },
+        LoadFault::TooLong => Answer::TooLong { name, reached },
+        LoadFault::NoMemory => no_memory(reached),
     }
 }
 

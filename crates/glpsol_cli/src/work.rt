@@ -1,17 +1,20 @@
 // The whole of the program's work.
-ghost use Rattle.std.specs.Prelude.{◌≡◌, ◌<◌, ℕ, List, length, map, string_bytes};
+ghost use Rattle.std.specs.Prelude.{◌≡◌, ◌≤◌, ℕ, List, map, string_bytes};
 ghost use Rattle.verdicts.specs.Certificate.{Certificate};
 ghost use Rattle.outside.specs.Causes.{Rose};
-ghost use Rattle.glpsol_cli.specs.Asked.{OfTexts};
+ghost use Rattle.glpsol_cli.specs.Asked.{ToldNames};
+ghost use Rattle.glpsol_cli.specs.Pieces.{Outside, SameNames};
+ghost use Rattle.glpsol_cli.specs.Texts.{OfTexts};
 ghost use Rattle.glpsol_cli.specs.Cause.{Cause, IsBest, HasNoPoint, HasRay, IsTrueOf, reached_of};
 ghost use Rattle.glpsol_cli.specs.Written.{Written};
 ghost use Rattle.glpsol_cli.specs.Complete.{IsComplete, IsVerdictOrNoMemory};
-ghost use Rattle.glpsol_cli.specs.Stages.{CauseIn, IsEndIn, IsExecution, IsSubject, LeftWritten, WrittenIn, texts_in};
+ghost use Rattle.glpsol_cli.specs.Stages.{AreInputs, AreSomeInputs, CauseIn, IsEndIn, IsEndOf, IsRun, IsSomeRun, IsSubject, IsWhole, LeftWritten, Moment, WrittenSince, texts_in};
 
-use crate::execution::{Executed, ExecutionEnd, Later, execute};
+use crate::execution::{Executed, ExecutionEnd, Halt, Later, execute};
 use crate::inputs::{Inputs, read_inputs};
-use crate::publish::write_pieces;
-use crate::stop::{stop_answer, unwritten_answer};
+use crate::publish::write_both;
+use crate::stop::{stop_answer, unread_answer, unwritten_answer};
+use crate::tables::{Run, with_tables};
 use crate::task::from_problem;
 use crate::tell::tell;
 use crate::{Answer, Reached};
@@ -45,8 +48,8 @@ pub fn run<T: Threads + Sync, S: Store, O: Sink>(
     ensures cause { Cause (map string_bytes words.items) (S.told files.old)
         (Rose (S.faults files.old) (S.faults files.new)) (Rose (O.faults out.old) (O.faults out.new)) result }
 
-    // It writes what the statements print, then the report and the files, and then what the statements behind `solve` print, or
-    // the first part of this, and then the line of a fault or a part of it.
+    // It writes the files of tables that the statements make, what they print, then the report and the files, and then what the
+    // statements behind `solve` make and print, or the first part of this, and then the line of a fault or a part of it.
     ensures written { Written (map string_bytes words.items) (record { taken = O.taken out.old; told = S.told files.old })
         (record { taken = O.taken out.new; told = S.told files.new }) result }
 
@@ -74,21 +77,21 @@ fn carried_out<S: Store, O: Sink>(
         Ok(inputs) => inputs,
         Err(stop) => return tell(alloc, out, stop_answer(stop)),
     };
-    from_inputs(alloc, &inputs, files, out)
+    from_inputs(alloc, inputs, files, out)
 }
 
 // The texts are executed.
 fn from_inputs<S: Store, O: Sink>(
     alloc: Global,
-    inputs: &Inputs,
+    inputs: Inputs,
     files: &mut S,
     out: &mut O,
 ) -> Answer
-    requires { length inputs.now.settings.data_files < length inputs.now.texts.items }
-    ensures cause { CauseIn inputs.now.settings (texts_in inputs.now)
-        (Rose (S.faults files.old) (S.faults files.new)) (Rose (O.faults out.old) (O.faults out.new)) result }
-    ensures written { WrittenIn inputs.now.settings (texts_in inputs.now) (record { taken = O.taken out.old; told = S.told files.old })
-        (record { taken = O.taken out.new; told = S.told files.new }) result }
+    requires { AreSomeInputs (S.told files.old) inputs }
+    ensures cause { (words : List (List ℕ)) (told : ToldNames) (count : ℕ) → AreInputs words told inputs → SameNames told (S.told files.old)
+        → count ≤ S.faults files.old → Cause words told (Rose count (S.faults files.new)) (Rose (O.faults out.old) (O.faults out.new)) result }
+    ensures written { (words : List (List ℕ)) (told : ToldNames) → AreInputs words told inputs → SameNames told (S.told files.old)
+        → WrittenSince words told (record { taken = O.taken out.old; told = S.told files.old }) (record { taken = O.taken out.new; told = S.told files.new }) result }
 {
     match execute(alloc, &inputs.settings, &inputs.texts) {
         Ok(executed) => from_execution(alloc, inputs, executed, files, out),
@@ -102,24 +105,76 @@ fn from_inputs<S: Store, O: Sink>(
     }
 }
 
-// What was printed is written.
+// The files of tables are read, and the execution goes on behind them.
 fn from_execution<S: Store, O: Sink>(
     alloc: Global,
-    inputs: &Inputs,
+    inputs: Inputs,
     executed: Executed,
     files: &mut S,
     out: &mut O,
 ) -> Answer
-    requires { IsExecution inputs.now.settings (texts_in inputs.now) executed }
-    ensures cause { CauseIn inputs.now.settings (texts_in inputs.now)
-        (Rose (S.faults files.old) (S.faults files.new)) (Rose (O.faults out.old) (O.faults out.new)) result }
-    ensures written { WrittenIn inputs.now.settings (texts_in inputs.now) (record { taken = O.taken out.old; told = S.told files.old })
-        (record { taken = O.taken out.new; told = S.told files.new }) result }
+    requires { IsSomeRun (record { outside = record { taken = O.taken out.old; told = S.told files.old }; files = S.faults files.old; out = O.faults out.old }) inputs.settings (texts_in inputs) executed }
+    ensures cause { (words : List (List ℕ)) (told : ToldNames) (start : Moment)
+        → IsRun words told start (record { outside = record { taken = O.taken out.old; told = S.told files.old }; files = S.faults files.old; out = O.faults out.old }) inputs.settings (texts_in inputs) executed
+        → Cause words told (Rose start.files (S.faults files.new)) (Rose start.out (O.faults out.new)) result }
+    ensures written { (words : List (List ℕ)) (told : ToldNames) (start : Moment)
+        → IsRun words told start (record { outside = record { taken = O.taken out.old; told = S.told files.old }; files = S.faults files.old; out = O.faults out.old }) inputs.settings (texts_in inputs) executed
+        → WrittenSince words told start.outside (record { taken = O.taken out.new; told = S.told files.new }) result }
 {
-    let Executed { done, end } = executed;
-    match write_pieces(files, out, done) {
-        Ok(()) => from_end(alloc, inputs, end, files, out),
+    match with_tables(alloc, Run { inputs, executed }, files, out) {
+        Ok(run) => from_run(alloc, run, files, out),
         Err(fault) => tell(alloc, out, unwritten_answer(Reached::Executed, fault)),
+    }
+}
+
+// What is not written yet of what was executed is written.
+fn from_run<S: Store, O: Sink>(alloc: Global, run: Run, files: &mut S, out: &mut O) -> Answer
+    requires { IsSomeRun (record { outside = record { taken = O.taken out.old; told = S.told files.old }; files = S.faults files.old; out = O.faults out.old }) run.inputs.settings (texts_in run.inputs) run.executed }
+    ensures cause { (words : List (List ℕ)) (told : ToldNames) (start : Moment)
+        → IsRun words told start (record { outside = record { taken = O.taken out.old; told = S.told files.old }; files = S.faults files.old; out = O.faults out.old }) run.inputs.settings (texts_in run.inputs) run.executed
+        → Cause words told (Rose start.files (S.faults files.new)) (Rose start.out (O.faults out.new)) result }
+    ensures written { (words : List (List ℕ)) (told : ToldNames) (start : Moment)
+        → IsRun words told start (record { outside = record { taken = O.taken out.old; told = S.told files.old }; files = S.faults files.old; out = O.faults out.old }) run.inputs.settings (texts_in run.inputs) run.executed
+        → WrittenSince words told start.outside (record { taken = O.taken out.new; told = S.told files.new }) result }
+{
+    let Run { inputs, executed } = run;
+    let Executed {
+        files: made,
+        shown,
+        halt,
+    } = executed;
+    match write_both(files, out, made, shown) {
+        Ok(()) => from_halt(alloc, inputs, halt, files, out),
+        Err(fault) => tell(alloc, out, unwritten_answer(Reached::Executed, fault)),
+    }
+}
+
+// The execution is over, or the file of a table is not read. Where a table is left that is to be read, memory is wanting.
+fn from_halt<S: Store, O: Sink>(
+    alloc: Global,
+    inputs: Inputs,
+    halt: Halt,
+    files: &mut S,
+    out: &mut O,
+) -> Answer
+    requires { IsEndOf inputs.settings (texts_in inputs) halt }
+    ensures cause { (words : List (List ℕ)) (told : ToldNames) (start : Moment)
+        → IsWhole words told start (record { outside = record { taken = O.taken out.old; told = S.told files.old }; files = S.faults files.old; out = O.faults out.old }) inputs.settings (texts_in inputs) halt
+        → Cause words told (Rose start.files (S.faults files.new)) (Rose start.out (O.faults out.new)) result }
+    ensures written { (words : List (List ℕ)) (told : ToldNames) (start : Moment)
+        → IsWhole words told start (record { outside = record { taken = O.taken out.old; told = S.told files.old }; files = S.faults files.old; out = O.faults out.old }) inputs.settings (texts_in inputs) halt
+        → WrittenSince words told start.outside (record { taken = O.taken out.new; told = S.told files.new }) result }
+{
+    match halt {
+        Halt::End(end) => from_end(alloc, &inputs, end, files, out),
+        Halt::Table(_) => tell(
+            alloc,
+            out,
+            Answer::NoMemory {
+                reached: Reached::Executed,
+            },
+        ),
+        Halt::Unread(unread) => tell(alloc, out, unread_answer(Reached::Executed, unread)),
     }
 }
 

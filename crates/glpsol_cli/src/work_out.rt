@@ -1,11 +1,12 @@
 // What the words ask for is worked out: the problem is measured or solved, or a certificate checked against it.
-ghost use Rattle.std.specs.Prelude.{◌≡◌, ◌<◌, length, IfOk, IfErr, OnOk, map};
+ghost use Rattle.std.specs.Prelude.{◌≡◌, ◌<◌, ◌≤◌, suc, length, IfOk, IfErr, OnOk, map};
 ghost use Rattle.verdicts.specs.Proves.{Proves};
 ghost use Rattle.mixed_solve.specs.Faults.{IsFault};
 ghost use Rattle.cert_check.specs.Outcome.{Acceptance, outcome, trials};
+ghost use Rattle.glpsol_cli.specs.Asked.{names_read};
 ghost use Rattle.glpsol_cli.specs.Meaning.{IsAsked};
 ghost use Rattle.glpsol_cli.specs.Cause.{IsAccepted};
-ghost use Rattle.glpsol_cli.specs.Stages.{IsFinding, IsUnfound, IsCheckStop, OfLast, texts_in};
+ghost use Rattle.glpsol_cli.specs.Stages.{IsFinding, IsUnfound, IsCheckStop, OfNext, texts_in};
 
 use crate::found::Finding;
 use crate::inputs::Inputs;
@@ -21,6 +22,7 @@ use std::alloc::Global;
 /// What is found of the problem, as the task asks.
 pub fn finding(alloc: Global, problem: &Instance, inputs: &Inputs) -> Result<Finding, Unfound>
     requires asked { IsAsked inputs.now.settings (texts_in inputs.now) problem.now }
+    requires enough { length (names_read inputs.now.settings) ≤ length (texts_in inputs.now) }
     ensures finding { IfOk result (IsFinding problem.now inputs.now.settings (texts_in inputs.now)) }
     ensures fault { IfErr result (λ unfound. IsUnfound unfound inputs.now.settings (texts_in inputs.now)) }
 {
@@ -30,10 +32,13 @@ pub fn finding(alloc: Global, problem: &Instance, inputs: &Inputs) -> Result<Fin
             Err(fault) => Err(Unfound::Solve(fault)),
         },
         Task::Translate => Ok(Finding::Size),
-        Task::CheckCertificate(_) => match accept_last(alloc, problem, &inputs.texts) {
-            Ok(()) => Ok(Finding::Acceptance),
-            Err(stop) => Err(Unfound::Check(stop)),
-        },
+        Task::CheckCertificate(_) => {
+            let count = inputs.settings.data_files.as_slice().len();
+            match accept_behind(alloc, problem, count, &inputs.texts) {
+                Ok(()) => Ok(Finding::Acceptance),
+                Err(stop) => Err(Unfound::Check(stop)),
+            }
+        }
     }
 }
 
@@ -53,16 +58,18 @@ fn solved(
     }
 }
 
-// The last text is that of a certificate that proves its verdict.
-fn accept_last(alloc: Global, problem: &Instance, texts: &[Vec<u8>]) -> Result<(), CheckStop>
-    requires { 0 < length texts.now }
-    ensures accepted { OnOk result (OfLast (IsAccepted problem.now) (map (λ text. text.items) texts.now)) }
-    ensures stop { IfErr result (λ stop. OfLast (λ bytes. IsCheckStop problem.now bytes stop) (map (λ text. text.items) texts.now)) }
+// The text behind the model's and so many others is that of a certificate that proves its verdict.
+fn accept_behind(
+    alloc: Global,
+    problem: &Instance,
+    count: usize,
+    texts: &[Vec<u8>],
+) -> Result<(), CheckStop>
+    requires { suc count < length texts.now }
+    ensures accepted { OnOk result (OfNext (IsAccepted problem.now) count (map (λ text. text.items) texts.now)) }
+    ensures stop { IfErr result (λ stop. OfNext (λ bytes. IsCheckStop problem.now bytes stop) count (map (λ text. text.items) texts.now)) }
 {
-    match texts.split_last() {
-        Some((text, _)) => accept(alloc, problem, text),
-        None => unreachable!(),
-    }
+    accept(alloc, problem, &texts[count + 1])
 }
 
 // The text is that of a certificate that proves its verdict.

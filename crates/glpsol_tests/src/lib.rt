@@ -27,4 +27,6 @@ mod raw_solutions;
 #[cfg(test)]
 mod runs;
 #[cfg(test)]
+mod tables;
+#[cfg(test)]
 mod written_files;

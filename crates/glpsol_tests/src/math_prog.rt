@@ -68,7 +68,7 @@ const FAULTS: &str = "\
 2 syntax fault: statement 2, line 3: Undeclared$ <- --math f <- var x;$$minimize z: x +$y;$end;
 2 syntax fault: statement 1, line 1: Unended$ <- --math f <- var x
 2 syntax fault: statement 2, line 1: WrongKind$ <- --math f <- var x; display x; end;
-2 syntax fault: statement 2, line 1: Unsupported$ <- --math f <- set I := 1..2; table t {i in I} OUT 'CSV' 'o.csv' : i ~ k; end;
+2 syntax fault: statement 2, line 1: Unsupported$ <- --math f <- set I := 1..2; table t {i in I} OUT 'ODBC' 'o' : i ~ k; end;
 2 data fault: block 1, line 1: Unknown$ <- --math f <- var x; data; param q := 1; end;
 2 data fault: block 2, line 3: Twice$ <- --math f <- param p{1..2}; data;$param p := 1 5;$param p := 2 6 1 7; end;
 2 model fault: statement 3, line 2: CheckFailed$ <- --math f <- var x >= 1; minimize z: x;$check{i in 1..3}: i < 3; end;

@@ -21,9 +21,8 @@ use Rattle.gmpl_data.specs.Given.{statement_at}
 use Rattle.gmpl_meaning.specs.declared.walk.Element.{Element}
 use Rattle.gmpl_meaning.specs.Members.{evaluated, elements_of, member_at}
 use Rattle.gmpl_meaning.specs.Parts.{Bindings}
-use Rattle.gmpl_generate.specs.declared.fault.ModelFaultKind.{ModelFaultKind}
 use Rattle.gmpl_generate.specs.declared.scopes.Scopes.{Scopes}
-use Rattle.gmpl_generate.specs.Running.{Running, ◌>>=◌, pure}
+use Rattle.gmpl_generate.specs.Running.{Printing, ◌>>=◌, pure}
 use Rattle.gmpl_generate.specs.Scopes.{behind, over}
 use Rattle.gmpl_generate.specs.Printing.{put}
 use Rattle.gmpl_generate.specs.Shown.{shown}
@@ -65,35 +64,35 @@ module _ (model : LoadedModel) where
   member_line place name subscripts =
       then_do (λ v. then_do (λ text. Ok (line (member_name name subscripts) text)) (shown v)) (member_at model place subscripts)
 
-  abbrev pub show_member : ℕ → List ℕ → Element → Running ModelFaultKind (Unit {0})
+  abbrev pub show_member : ℕ → List ℕ → Element → Printing (Unit {0})
   show_member place name e = put (member_line place name e.tuple)
 
-  abbrev pub show_members : ℕ → List ℕ → List Element → Option EvalFault → Running ModelFaultKind (Unit {0})
+  abbrev pub show_members : ℕ → List ℕ → List Element → Option EvalFault → Printing (Unit {0})
   show_members place name [] fault = behind fault
   show_members place name (e ∷ es) fault = show_member place name e >>= (λ _. show_members place name es fault)
 
-  abbrev pub show_head : ℕ → Head → Running ModelFaultKind (Unit {0})
+  abbrev pub show_head : ℕ → Head → Printing (Unit {0})
   show_head place head = show_members place head.name (elements_of model head.domain []).elements (elements_of model head.domain []).fault
 
-  abbrev pub show_declared : ℕ → Option Numbered → Running ModelFaultKind (Unit {0})
+  abbrev pub show_declared : ℕ → Option Numbered → Printing (Unit {0})
   show_declared place None = behind (Some NoValue)
   show_declared place (Some x) = show_head place (head_of x.statement)
 
-  abbrev pub show_object : ℕ → Running ModelFaultKind (Unit {0})
+  abbrev pub show_object : ℕ → Printing (Unit {0})
   show_object place = show_declared place (statement_at model place)
 
   -- ---- items
 
-  abbrev pub show_item_by : Option ℕ → Bindings → Expr → Running ModelFaultKind (Unit {0})
+  abbrev pub show_item_by : Option ℕ → Bindings → Expr → Printing (Unit {0})
   show_item_by (Some place) b x = show_object place
   show_item_by None b x = put (expression_line x b)
 
-  abbrev pub show_item : Bindings → Expr → Running ModelFaultKind (Unit {0})
+  abbrev pub show_item : Bindings → Expr → Printing (Unit {0})
   show_item b x = show_item_by (object_alone x) b x
 
-  abbrev pub show_items : Bindings → List Expr → Running ModelFaultKind (Unit {0})
+  abbrev pub show_items : Bindings → List Expr → Printing (Unit {0})
   show_items b [] = pure tt
   show_items b (x ∷ xs) = show_item b x >>= (λ _. show_items b xs)
 
-  abbrev pub show_each : List Expr → Scopes → Running ModelFaultKind (Unit {0})
+  abbrev pub show_each : List Expr → Scopes → Printing (Unit {0})
   show_each items s = over (λ b. show_items b items) s.all s.fault

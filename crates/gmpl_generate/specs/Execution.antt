@@ -1,7 +1,7 @@
--- The statements of a model in the order of the text, up to `solve` or to the first that faults (GNU MathProg Language Reference,
--- chapter on statements): a constraint or an objective makes a row at each element of its domain, steps are performed, and no other
--- statement evaluates anything.
-use Rattle.std.specs.Prelude.{ℕ, ◌+◌, Bool, true, false, Option, Result, Ok, List, [], ◌∷◌}
+-- The statements of a model in the order of the text, up to `solve`, to a table that is to be read, or to the first that faults (GNU
+-- MathProg Language Reference, chapter on statements): a constraint or an objective makes a row at each element of its domain, steps
+-- are performed, and no other statement evaluates anything.
+use Rattle.std.specs.Prelude.{ℕ, ◌+◌, drop, Option, Result, Ok, List, [], ◌∷◌}
 use Rattle.gmpl_resolved.specs.declared.statement.Constraint.{Constraint}
 use Rattle.gmpl_resolved.specs.declared.statement.Numbered.{Numbered}
 use Rattle.gmpl_resolved.specs.declared.statement.NumberedStep.{NumberedStep}
@@ -18,10 +18,15 @@ use Rattle.gmpl_meaning.specs.Members.{elements_of}
 use Rattle.gmpl_rows.specs.Draft.{Draft}
 use Rattle.gmpl_generate.specs.declared.fault.ModelFault.{ModelFault}
 use Rattle.gmpl_generate.specs.Rows.{constraint_row, objective_row}
+use Rattle.gmpl_generate.specs.declared.steps.Reached.{Reached}
+use Rattle.gmpl_generate.specs.declared.steps.Reached.TheVariants as reached
 use Rattle.gmpl_generate.specs.declared.turns.Going.{Going}
 use Rattle.gmpl_generate.specs.declared.turns.Going.TheVariants as going
+use Rattle.gmpl_generate.specs.declared.turns.Pause.{Pause}
+use Rattle.gmpl_generate.specs.declared.turns.Stopped.{Stopped}
+use Rattle.gmpl_generate.specs.declared.turns.Stopped.TheVariants as stopped
 use Rattle.gmpl_generate.specs.Faults.{of_statement}
-use Rattle.gmpl_generate.specs.Running.{Running, ◌>>=◌, pure, beside}
+use Rattle.gmpl_generate.specs.Running.{Made, Running, ◌>>=◌, pure, beside}
 use Rattle.gmpl_generate.specs.Steps.{steps_before}
 
 -- ---- the elements of a domain in order; behind them its fault, where there is one
@@ -45,24 +50,43 @@ module _ (model : LoadedModel) (place : ℕ) where
 
 -- ---- the statements
 
+-- at a step before the statement at a place, which reads a table of this name, with the rows so far
+abbrev pub paused : ℕ → Draft → ℕ → List ℕ → Pause
+paused place d step name = record { place = place; step = step; name = name; draft = d }
+
 -- where the execution stands behind a statement
-abbrev pub onward : Going → (Draft → Running ModelFault Draft) → Running ModelFault Draft
-onward (going.Solved d) go = pure d
+abbrev pub onward : Going → (Draft → Running Made ModelFault Stopped) → Running Made ModelFault Stopped
+onward (going.Stopped s) go = pure s
 onward (going.On d) go = go d
+
+-- where it stops behind the last statement
+abbrev pub ending : ℕ → Draft → Reached → Stopped
+ending place d reached.End = stopped.AtEnd d
+ending place d reached.Solve = stopped.AtEnd d
+ending place d (reached.Table step name) = stopped.AtTable (paused place d step name)
 
 module _ (model : LoadedModel) where
   abbrev pub statement_executed : ℕ → Numbered → Draft → Result Draft ModelFault
   statement_executed place x d = of_statement x.number x.line (executed model place x.statement d)
 
-  abbrev pub turn_by : Bool → ℕ → Numbered → Draft → Running ModelFault Going
-  turn_by true place x d = pure (going.Solved d)
-  turn_by false place x d = beside (statement_executed place x d) >>= (λ more. pure (going.On more))
+  abbrev pub turn_by : ℕ → Numbered → Draft → Reached → Running Made ModelFault Going
+  turn_by place x d reached.End = beside (statement_executed place x d) >>= (λ more. pure (going.On more))
+  turn_by place x d reached.Solve = pure (going.Stopped (stopped.AtEnd d))
+  turn_by place x d (reached.Table step name) = pure (going.Stopped (stopped.AtTable (paused place d step name)))
 
-  -- the steps before the statement at a place, then the statement
-  abbrev pub turn : ℕ → Numbered → Draft → Running ModelFault Going
-  turn place x d = steps_before model x.steps >>= (λ solved. turn_by solved place x d)
+  -- the steps before the statement at a place from one of them on, then the statement
+  abbrev pub turn : ℕ → ℕ → Numbered → Draft → Running Made ModelFault Going
+  turn place step x d = steps_before model step (drop step x.steps) >>= (λ r. turn_by place x d r)
+
+  abbrev pub last_steps : ℕ → ℕ → List NumberedStep → Draft → Running Made ModelFault Stopped
+  last_steps place step steps d = steps_before model step (drop step steps) >>= (λ r. pure (ending place d r))
 
   -- from the statement at a place on, then the last steps; behind `solve` nothing
-  abbrev pub executed_from : ℕ → List Numbered → List NumberedStep → Draft → Running ModelFault Draft
-  executed_from place [] steps d = steps_before model steps >>= (λ _. pure d)
-  executed_from place (x ∷ xs) steps d = turn place x d >>= (λ g. onward g (executed_from (place + 1) xs steps))
+  abbrev pub executed_from : ℕ → List Numbered → List NumberedStep → Draft → Running Made ModelFault Stopped
+  executed_from place [] steps d = last_steps place 0 steps d
+  executed_from place (x ∷ xs) steps d = turn place 0 x d >>= (λ g. onward g (executed_from (place + 1) xs steps))
+
+  -- the same from a step before that statement on
+  abbrev pub resumed_from : ℕ → ℕ → List Numbered → List NumberedStep → Draft → Running Made ModelFault Stopped
+  resumed_from place step [] steps d = last_steps place step steps d
+  resumed_from place step (x ∷ xs) steps d = turn place step x d >>= (λ g. onward g (executed_from (place + 1) xs steps))

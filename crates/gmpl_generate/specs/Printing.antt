@@ -11,14 +11,13 @@ use Rattle.gmpl_operations.specs.Values.{symbol_in}
 use Rattle.gmpl_data.specs.declared.tables.LoadedModel.{LoadedModel}
 use Rattle.gmpl_meaning.specs.Members.{evaluated}
 use Rattle.gmpl_meaning.specs.Parts.{Bindings}
-use Rattle.gmpl_generate.specs.declared.fault.ModelFaultKind.{ModelFaultKind}
 use Rattle.gmpl_generate.specs.declared.fault.ModelFaultKind.TheVariants.{Evaluation}
 use Rattle.gmpl_generate.specs.declared.scopes.Scopes.{Scopes}
-use Rattle.gmpl_generate.specs.Running.{Running}
+use Rattle.gmpl_generate.specs.Running.{Printing}
 use Rattle.gmpl_generate.specs.Scopes.{over}
 
 -- a text behind what is printed so far, or its fault
-abbrev pub put : Outcome (List ℕ) → Running ModelFaultKind (Unit {0})
+abbrev pub put : Outcome (List ℕ) → Printing (Unit {0})
 put (Ok more) text = Ok (tt, text ++ more)
 put (Err fault) text = Err (Evaluation fault, text)
 
@@ -39,8 +38,8 @@ module _ (model : LoadedModel) where
   abbrev pub text_at : List Expr → Bindings → Outcome (List ℕ)
   text_at parts b = then_do formatted (symbols_of b [] parts)
 
-  abbrev pub print_at : List Expr → Bindings → Running ModelFaultKind (Unit {0})
+  abbrev pub print_at : List Expr → Bindings → Printing (Unit {0})
   print_at parts b = put (text_at parts b)
 
-  abbrev pub print_each : List Expr → Scopes → Running ModelFaultKind (Unit {0})
+  abbrev pub print_each : List Expr → Scopes → Printing (Unit {0})
   print_each parts s = over (print_at parts) s.all s.fault

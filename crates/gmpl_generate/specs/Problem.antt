@@ -1,6 +1,5 @@
--- The problem that a model with its data means, or its first fault, and what its execution prints.
-use Rattle.std.specs.Prelude.{◌≡◌, ℕ, Bool, true, false, Result, Ok, Err, List, [], ◌∷◌, map, if◌then◌else◌}
-use Rattle.milp.specs.Problem.{Problem}
+-- What the execution of a model with its data makes, where it stops, and the problem that it means, or its first fault.
+use Rattle.std.specs.Prelude.{◌≡◌, ℕ, Bool, true, false, Result, Ok, Err, List, [], ◌∷◌, ◌+◌, ◌++◌, drop, map, string_bytes, if◌then◌else◌}
 use Rattle.gmpl_resolved.specs.declared.statement.Attribute.{Attribute}
 use Rattle.gmpl_resolved.specs.declared.statement.Attribute.TheVariants as a
 use Rattle.gmpl_resolved.specs.declared.statement.Numbered.{Numbered}
@@ -14,8 +13,13 @@ use Rattle.gmpl_generate.specs.declared.fault.ModelFault.{ModelFault}
 use Rattle.gmpl_generate.specs.declared.problem.End.{End}
 use Rattle.gmpl_generate.specs.declared.problem.End.TheVariants as ends
 use Rattle.gmpl_generate.specs.declared.problem.Generated.{Generated}
-use Rattle.gmpl_generate.specs.Running.{Ran, Running, result_of, text_of, then_on}
-use Rattle.gmpl_generate.specs.Execution.{executed_from}
+use Rattle.gmpl_generate.specs.declared.problem.Executed.{Executed}
+use Rattle.gmpl_generate.specs.declared.turns.Pause.{Pause}
+use Rattle.gmpl_generate.specs.declared.turns.Stopped.{Stopped}
+use Rattle.gmpl_generate.specs.declared.turns.Stopped.TheVariants as stopped
+use Rattle.gmpl_generate.specs.Running.{File, Made, Ran, Running, files_of, nothing_made, result_of, state_of}
+use Rattle.gmpl_generate.specs.Execution.{executed_from, resumed_from}
+use Rattle.gmpl_generate.specs.InputTables.{with_table}
 
 -- ---- what statements declare
 
@@ -48,24 +52,63 @@ all_declared model = map declared_at model.statements
 
 -- ---- the execution
 
--- the rows that the statements make and what they print, where nothing is printed before
-abbrev pub all_executed : LoadedModel → Running ModelFault Draft
+-- a model with what tables gave so far, and where its execution stops
+pub record Execution : Type 0 where
+  pub model : LoadedModel
+  pub stopped : Stopped
+
+abbrev pub Executing : Type 0
+Executing = Ran Made ModelFault Execution
+
+abbrev pub of_model : LoadedModel → Ran Made ModelFault Stopped → Executing
+of_model model (Ok r) = Ok (record { model = model; stopped = r.0 }, r.1)
+of_model model (Err r) = Err r
+
+abbrev pub all_executed : LoadedModel → Running Made ModelFault Stopped
 all_executed model = executed_from model 0 model.statements model.steps (no_rows (all_declared model))
 
-unfoldable pub execution : LoadedModel → Ran ModelFault Draft
-execution model = all_executed model []
+-- the rows that the statements make and what they print and write, up to `solve` or to the first table that is to be read, where
+-- nothing is made before
+unfoldable pub execution : LoadedModel → Executing
+execution model = of_model model (all_executed model nothing_made)
 
--- what a model prints up to `solve`, or up to its first fault
-abbrev pub printed_by : LoadedModel → List ℕ
-printed_by model = text_of (execution model)
+-- ---- where a table is read
 
--- the rows that the statements make, or the first fault
-abbrev pub drafted : LoadedModel → Result Draft ModelFault
-drafted model = result_of (execution model)
+abbrev pub printed_so_far : List ℕ → Made
+printed_so_far printed = record { printed = printed; files = [] }
 
--- the problem that they are
-abbrev pub generated : LoadedModel → Result Problem ModelFault
-generated model = then_on (λ d. Ok (problem_of d)) (drafted model)
+abbrev pub from_pause : Pause → LoadedModel → Running Made ModelFault Stopped
+from_pause p model = resumed_from model p.place (p.step + 1) (drop p.place model.statements) model.steps p.draft
+
+abbrev pub resumed_by : Pause → List ℕ → Result LoadedModel ModelFault → Executing
+resumed_by p printed (Ok model) = of_model model (from_pause p model (printed_so_far printed))
+resumed_by p printed (Err fault) = Err (fault, printed_so_far printed)
+
+-- the execution goes on behind the table with what its file's text gives, where this was printed; the files that are made from there
+-- on
+unfoldable pub resumed : LoadedModel → Pause → List ℕ → List ℕ → Executing
+resumed model p printed text = resumed_by p printed (with_table model p text)
+
+-- files that were made before
+abbrev pub made_behind : List File → Made → Made
+made_behind files made = record { printed = made.printed; files = files ++ made.files }
+
+abbrev pub behind_files : List File → Executing → Executing
+behind_files files (Ok r) = Ok (r.0, made_behind files r.1)
+behind_files files (Err r) = Err (r.0, made_behind files r.1)
+
+abbrev pub next_by : Execution → Made → Stopped → List ℕ → (Executing → Executing) → Executing
+next_by e made (stopped.AtEnd d) text go = Ok (e, made)
+next_by e made (stopped.AtTable p) text go = behind_files made.files (go (resumed e.model p made.printed text))
+
+abbrev pub next : Executing → List ℕ → (Executing → Executing) → Executing
+next (Ok r) text go = next_by r.0 r.1 r.0.stopped text go
+next (Err r) text go = Err r
+
+-- with the texts of the tables' files in the order in which they are read
+abbrev pub with_texts : Executing → List (List ℕ) → Executing
+with_texts run [] = run
+with_texts run (text ∷ texts) = next run text (λ more. with_texts more texts)
 
 -- ---- what a call answers
 
@@ -75,10 +118,22 @@ pub record IsMade (d : Draft) (g : Generated) : Type 0 where
   pub columns : g.columns.items ≡ column_members d
   pub rows : g.rows.items ≡ row_members d
 
-abbrev pub IsGenerated : Result Draft ModelFault → Generated → Type 0
-IsGenerated (Ok d) g = IsMade d g
-IsGenerated (Err fault) g = ⊥
+-- the execution is over, with these rows
+abbrev pub IsOver : Stopped → Generated → Type 0
+IsOver (stopped.AtEnd d) g = IsMade d g
+IsOver (stopped.AtTable p) g = ⊥
 
-abbrev pub IsEnd : Result Draft ModelFault → End → Type 0
-IsEnd right (ends.Problem g) = IsGenerated right g
+abbrev pub IsProblemOf : Result Execution ModelFault → LoadedModel → Generated → Type 0
+IsProblemOf (Ok e) model g = (e.model ≡ model) × IsOver e.stopped g
+IsProblemOf (Err fault) model g = ⊥
+
+abbrev pub IsEnd : Result Execution ModelFault → End → Type 0
+IsEnd right (ends.Problem model g) = IsProblemOf right model g
+IsEnd right (ends.Table model p) = right ≡ Ok (record { model = model; stopped = stopped.AtTable p })
 IsEnd right (ends.Fault fault) = right ≡ Err fault
+
+-- what is made and where it ends
+pub record IsExecuted (run : Executing) (e : Executed) : Type 0 where
+  pub printed : string_bytes e.printed ≡ (state_of run).printed
+  pub files : files_of e.files.items ≡ (state_of run).files
+  pub end : IsEnd (result_of run) e.end

@@ -1,6 +1,6 @@
--- What an execution prints on its way: the text so far goes in, and comes out with a value or with the first fault. What was
--- printed before a fault stays.
-use Rattle.std.specs.Prelude.{◌≡◌, ℕ, List, Result, Ok, Err}
+-- What an execution makes on its way: what is made so far goes in, and comes out with a value or with the first fault. What was made
+-- before a fault stays.
+use Rattle.std.specs.Prelude.{◌≡◌, ℕ, List, [], map, string_bytes, Result, Ok, Err}
 use Rattle.gmpl_fault.specs.declared.fault.EvalFault.{EvalFault}
 use Rattle.gmpl_generate.specs.declared.fault.Halt.{Halt}
 use Rattle.gmpl_generate.specs.declared.fault.Halt.TheVariants as halt
@@ -9,39 +9,41 @@ use Rattle.gmpl_generate.specs.declared.fault.ModelFaultKind.{ModelFaultKind}
 use Rattle.gmpl_generate.specs.declared.fault.ModelFaultKind.TheVariants.{CheckFailed, Evaluation}
 use Rattle.gmpl_generate.specs.declared.fault.Stop.{Stop}
 use Rattle.gmpl_generate.specs.declared.fault.Stop.TheVariants as stop
+use Rattle.gmpl_generate.specs.declared.progress.Progress.{Progress}
+use Rattle.gmpl_generate.specs.declared.progress.TableFile.{TableFile}
 
--- a value or a fault, each with the text up to there
-abbrev pub Ran : Type 0 → Type 0 → Type 0
-Ran F A = Result (A × List ℕ) (F × List ℕ)
+-- a value or a fault, each with what is made up to there
+abbrev pub Ran : Type 0 → Type 0 → Type 0 → Type 0
+Ran S F A = Result (A × S) (F × S)
 
-abbrev pub Running : Type 0 → Type 0 → Type 0
-Running F A = List ℕ → Ran F A
+abbrev pub Running : Type 0 → Type 0 → Type 0 → Type 0
+Running S F A = S → Ran S F A
 
-abbrev pub and_then : {F A B : Type 0} → Ran F A → (A → Running F B) → Ran F B
+abbrev pub and_then : {S F A B : Type 0} → Ran S F A → (A → Running S F B) → Ran S F B
 and_then (Ok r) go = go r.0 r.1
 and_then (Err r) go = Err r
 
 infixl 10 ◌>>=◌
-abbrev pub ◌>>=◌ : {F A B : Type 0} → Running F A → (A → Running F B) → Running F B
-p >>= go = λ text. and_then (p text) go
+abbrev pub ◌>>=◌ : {S F A B : Type 0} → Running S F A → (A → Running S F B) → Running S F B
+p >>= go = λ state. and_then (p state) go
 
-abbrev pub pure : {F A : Type 0} → A → Running F A
-pure a = λ text. Ok (a, text)
+abbrev pub pure : {S F A : Type 0} → A → Running S F A
+pure a = λ state. Ok (a, state)
 
--- what prints nothing
-abbrev pub beside : {F A : Type 0} → Result A F → Running F A
-beside (Ok a) text = Ok (a, text)
-beside (Err fault) text = Err (fault, text)
+-- what makes nothing
+abbrev pub beside : {S F A : Type 0} → Result A F → Running S F A
+beside (Ok a) state = Ok (a, state)
+beside (Err fault) state = Err (fault, state)
 
 abbrev pub then_on : {F A B : Type 0} → (A → Result B F) → Result A F → Result B F
 then_on go (Err fault) = Err fault
 then_on go (Ok a) = go a
 
-abbrev pub text_of : {F A : Type 0} → Ran F A → List ℕ
-text_of (Ok r) = r.1
-text_of (Err r) = r.1
+abbrev pub state_of : {S F A : Type 0} → Ran S F A → S
+state_of (Ok r) = r.1
+state_of (Err r) = r.1
 
-abbrev pub result_of : {F A : Type 0} → Ran F A → Result A F
+abbrev pub result_of : {S F A : Type 0} → Ran S F A → Result A F
 result_of (Ok r) = Ok r.0
 result_of (Err r) = Err r.0
 
@@ -49,16 +51,53 @@ result_of (Err r) = Err r.0
 abbrev pub fault_at : ℕ → ℕ → ModelFaultKind → ModelFault
 fault_at number line kind = record { statement = number; line = line; kind = kind }
 
+-- ---- what is made: a text that is printed, and files of tables
+
+-- what prints, on the text so far
+abbrev pub Printing : Type 0 → Type 0
+Printing A = Running (List ℕ) ModelFaultKind A
+
+pub record File : Type 0 where
+  pub name : List ℕ
+  pub text : List ℕ
+
+-- what is printed, and the files in the order in which they are made
+pub record Made : Type 0 where
+  pub printed : List ℕ
+  pub files : List File
+
+abbrev pub nothing_made : Made
+nothing_made = record { printed = []; files = [] }
+
+abbrev pub with_printed : {F A : Type 0} → List File → Ran (List ℕ) F A → Ran Made F A
+with_printed files (Ok r) = Ok (r.0, record { printed = r.1; files = files })
+with_printed files (Err r) = Err (r.0, record { printed = r.1; files = files })
+
+-- what prints makes no file
+abbrev pub printing : {F A : Type 0} → Running (List ℕ) F A → Running Made F A
+printing p made = with_printed made.files (p made.printed)
+
+-- what code has made
+
+abbrev pub file_of : TableFile → File
+file_of f = record { name = f.name; text = f.text.items }
+
+abbrev pub files_of : List TableFile → List File
+files_of fs = map file_of fs
+
+abbrev pub made_of : Progress → Made
+made_of p = record { printed = string_bytes p.printed; files = files_of p.files.items }
+
 -- ---- a call goes the way of the definition; want of memory is free
 
 -- within a statement
-abbrev pub Follows : {A : Type 0} → Ran ModelFaultKind A → Result A (Stop EvalFault) → List ℕ → Type 0
-Follows ran (Ok a) text = ran ≡ Ok (a, text)
-Follows ran (Err (stop.Fault fault)) text = ran ≡ Err (Evaluation fault, text)
-Follows ran (Err stop.CheckFailed) text = ran ≡ Err (CheckFailed, text)
-Follows ran (Err stop.NoMemory) text = Unit {0}
+abbrev pub Follows : {S A : Type 0} → Ran S ModelFaultKind A → Result A (Stop EvalFault) → S → Type 0
+Follows ran (Ok a) state = ran ≡ Ok (a, state)
+Follows ran (Err (stop.Fault fault)) state = ran ≡ Err (Evaluation fault, state)
+Follows ran (Err stop.CheckFailed) state = ran ≡ Err (CheckFailed, state)
+Follows ran (Err stop.NoMemory) state = Unit {0}
 
--- the same of what prints nothing
+-- the same of what makes nothing
 abbrev pub Gives : {A : Type 0} → Result A ModelFaultKind → Result A (Stop EvalFault) → Type 0
 Gives right (Ok a) = right ≡ Ok a
 Gives right (Err (stop.Fault fault)) = right ≡ Err (Evaluation fault)
@@ -66,11 +105,11 @@ Gives right (Err stop.CheckFailed) = right ≡ Err CheckFailed
 Gives right (Err stop.NoMemory) = Unit {0}
 
 -- of statements
-abbrev pub Runs : {A : Type 0} → Ran ModelFault A → Result A (Halt EvalFault) → List ℕ → Type 0
-Runs ran (Ok a) text = ran ≡ Ok (a, text)
-Runs ran (Err (halt.Fault number line fault)) text = ran ≡ Err (fault_at number line (Evaluation fault), text)
-Runs ran (Err (halt.CheckFailed number line)) text = ran ≡ Err (fault_at number line CheckFailed, text)
-Runs ran (Err halt.NoMemory) text = Unit {0}
+abbrev pub Runs : {S A : Type 0} → Ran S ModelFault A → Result A (Halt EvalFault) → S → Type 0
+Runs ran (Ok a) state = ran ≡ Ok (a, state)
+Runs ran (Err (halt.Fault number line fault)) state = ran ≡ Err (fault_at number line (Evaluation fault), state)
+Runs ran (Err (halt.CheckFailed number line)) state = ran ≡ Err (fault_at number line CheckFailed, state)
+Runs ran (Err halt.NoMemory) state = Unit {0}
 
 abbrev pub Makes : {A : Type 0} → Result A ModelFault → Result A (Halt EvalFault) → Type 0
 Makes right (Ok a) = right ≡ Ok a

@@ -26,10 +26,10 @@ abbrev pub ended : Option EvalFault → Result (Unit {0}) ModelFaultKind
 ended None = Ok tt
 ended (Some fault) = Err (Evaluation fault)
 
-abbrev pub behind : Option EvalFault → Running ModelFaultKind (Unit {0})
+abbrev pub behind : {S : Type 0} → Option EvalFault → Running S ModelFaultKind (Unit {0})
 behind fault = beside (ended fault)
 
-abbrev pub over : (Bindings → Running ModelFaultKind (Unit {0})) → List Bindings → Option EvalFault → Running ModelFaultKind (Unit {0})
+abbrev pub over : {S : Type 0} → (Bindings → Running S ModelFaultKind (Unit {0})) → List Bindings → Option EvalFault → Running S ModelFaultKind (Unit {0})
 over done [] fault = behind fault
 over done (b ∷ bs) fault = done b >>= (λ _. over done bs fault)
 

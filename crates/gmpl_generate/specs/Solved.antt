@@ -1,6 +1,6 @@
 -- What the statements behind `solve` come to at a point of the problem (GNU MathProg Language Reference, section on the solve
 -- statement): there the members of variables, constraints and objectives are numbers.
-use Rattle.std.specs.Prelude.{ℕ, Bool, false, IsOk, List, [], ◌∷◌, Option, Some, None, Result, Ok, Err}
+use Rattle.std.specs.Prelude.{Bool, false, IsOk, string_bytes, List, [], ◌∷◌, Option, Some, None, Ok, Err}
 use Rattle.rational.specs.Rational.{Rational, zero_ℚ}
 use Rattle.milp.specs.Form.{sum_at}
 use Rattle.milp.specs.Problem.{Row}
@@ -12,8 +12,8 @@ use Rattle.gmpl_data.specs.declared.tables.LoadedModel.{LoadedModel}
 use Rattle.gmpl_rows.specs.Draft.{Draft}
 use Rattle.gmpl_rows.specs.Problem.{column_members, problem_of, row_members}
 use Rattle.gmpl_generate.specs.declared.fault.ModelFault.{ModelFault}
-use Rattle.gmpl_generate.specs.Problem.{drafted}
-use Rattle.gmpl_generate.specs.Running.{Ran, Running, ◌>>=◌}
+use Rattle.gmpl_generate.specs.declared.solved.Afterwards.{Afterwards}
+use Rattle.gmpl_generate.specs.Running.{Made, Ran, Running, ◌>>=◌, files_of, nothing_made}
 use Rattle.gmpl_generate.specs.Steps.{steps_after}
 
 -- the value of each row's form at the point fits
@@ -52,26 +52,26 @@ with_solution model s = record model { solution = Some s }
 
 module _ (model : LoadedModel) where
   -- the steps of these statements that stand behind `solve`; whether it stands before what follows
-  abbrev pub statements_after : Bool → List Numbered → Running ModelFault Bool
-  statements_after solved [] text = Ok (solved, text)
-  statements_after solved (x ∷ xs) text = (steps_after model solved x.steps >>= (λ after. statements_after after xs)) text
+  abbrev pub statements_after : Bool → List Numbered → Running Made ModelFault Bool
+  statements_after solved [] made = Ok (solved, made)
+  statements_after solved (x ∷ xs) made = (steps_after model solved x.steps >>= (λ after. statements_after after xs)) made
 
-  abbrev pub all_after : Running ModelFault Bool
+  abbrev pub all_after : Running Made ModelFault Bool
   all_after = statements_after false model.statements >>= (λ solved. steps_after model solved model.steps)
 
--- what is printed, and the first fault
-abbrev pub printed_and_fault : {A : Type 0} → Ran ModelFault A → List ℕ × Option ModelFault
-printed_and_fault (Ok r) = (r.1, None)
-printed_and_fault (Err r) = (r.1, Some r.0)
+-- what is made, and the first fault
+abbrev pub made_and_fault : {A : Type 0} → Ran Made ModelFault A → Made × Option ModelFault
+made_and_fault (Ok r) = (r.1, None)
+made_and_fault (Err r) = (r.1, Some r.0)
+
+-- what a call says that is made
+abbrev pub made_after : Afterwards → Made
+made_after a = record { printed = string_bytes a.printed; files = files_of a.files.items }
 
 -- of a model with its solution
-abbrev pub behind_solve : LoadedModel → List ℕ × Option ModelFault
-behind_solve model = printed_and_fault (all_after model [])
+abbrev pub behind_solve : LoadedModel → Made × Option ModelFault
+behind_solve model = made_and_fault (all_after model nothing_made)
 
-abbrev pub after_draft : LoadedModel → List Rational → Result Draft ModelFault → List ℕ × Option ModelFault
-after_draft model x (Ok d) = behind_solve (with_solution model (solution_at d x))
-after_draft model x (Err fault) = ([], None)
-
--- of a model and a point of its problem; nothing, where there is no problem
-abbrev pub after_by : LoadedModel → List Rational → List ℕ × Option ModelFault
-after_by model x = after_draft model x (drafted model)
+-- of a model, the rows of its execution, and a point of their problem
+unfoldable pub after_by : LoadedModel → Draft → List Rational → Made × Option ModelFault
+after_by model d x = behind_solve (with_solution model (solution_at d x))

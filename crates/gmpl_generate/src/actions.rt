@@ -1,12 +1,14 @@
 // Statements that are executed and declare nothing.
-ghost use Rattle.std.specs.Prelude.{◌≡◌, string_bytes};
-ghost use Rattle.gmpl_generate.specs.Running.{Follows};
+ghost use Rattle.std.specs.Prelude.{◌≡◌};
+ghost use Rattle.gmpl_generate.specs.Running.{Follows, made_of};
 ghost use Rattle.gmpl_generate.specs.Actions as spec;
 
 use crate::checks::check_each;
 use crate::display::show_each;
 use crate::fault::Stop;
+use crate::output_tables::write_table;
 use crate::printing::print_each;
+use crate::progress::Progress;
 use crate::scopes::{Scopes, at_heads, behind, scopes_of};
 use gmpl_data::LoadedModel;
 use gmpl_expr::Context;
@@ -22,11 +24,11 @@ fn check(
     domain: &Option<Indexing>,
     condition: &Expr,
     bindings: &Tuple,
-    so_far: &mut String,
+    so_far: &mut Progress,
 ) -> Result<(), Stop<EvalFault>>
     requires of { context.old ≡ model.now }
     ensures of { context.new ≡ model.now }
-    ensures value { Follows (spec.check model.now domain.now condition.now bindings.now (string_bytes so_far.old)) result (string_bytes so_far.new) }
+    ensures value { Follows (spec.check model.now domain.now condition.now bindings.now (made_of so_far.old)) result (made_of so_far.new) }
 {
     let scopes = scopes_of(alloc, model, context, domain, bindings)?;
     check_each(alloc, model, context, condition, &scopes)?;
@@ -40,14 +42,14 @@ fn display(
     domain: &Option<Indexing>,
     items: &[Expr],
     bindings: &Tuple,
-    so_far: &mut String,
+    so_far: &mut Progress,
 ) -> Result<(), Stop<EvalFault>>
     requires of { context.old ≡ model.now }
     ensures of { context.new ≡ model.now }
-    ensures value { Follows (spec.display model.now domain.now items.now bindings.now (string_bytes so_far.old)) result (string_bytes so_far.new) }
+    ensures value { Follows (spec.display model.now domain.now items.now bindings.now (made_of so_far.old)) result (made_of so_far.new) }
 {
     let scopes = scopes_of(alloc, model, context, domain, bindings)?;
-    show_each(alloc, model, context, items, &scopes, so_far)
+    show_each(alloc, model, context, items, &scopes, &mut so_far.printed)
 }
 
 fn printf(
@@ -57,14 +59,14 @@ fn printf(
     domain: &Option<Indexing>,
     parts: &[Expr],
     bindings: &Tuple,
-    so_far: &mut String,
+    so_far: &mut Progress,
 ) -> Result<(), Stop<EvalFault>>
     requires of { context.old ≡ model.now }
     ensures of { context.new ≡ model.now }
-    ensures value { Follows (spec.printf model.now domain.now parts.now bindings.now (string_bytes so_far.old)) result (string_bytes so_far.new) }
+    ensures value { Follows (spec.printf model.now domain.now parts.now bindings.now (made_of so_far.old)) result (made_of so_far.new) }
 {
     let scopes = scopes_of(alloc, model, context, domain, bindings)?;
-    print_each(alloc, model, context, parts, &scopes, so_far)
+    print_each(alloc, model, context, parts, &scopes, &mut so_far.printed)
 }
 
 /// A statement that may stand in a `for`, where the indices in scope have these values.
@@ -75,11 +77,11 @@ pub(crate) fn action(
     context: &mut Context<'_>,
     whole: &Action,
     bindings: &Tuple,
-    so_far: &mut String,
+    so_far: &mut Progress,
 ) -> Result<(), Stop<EvalFault>>
     requires of { context.old ≡ model.now }
     ensures of { context.new ≡ model.now }
-    ensures value { Follows (spec.action model.now whole.now bindings.now (string_bytes so_far.old)) result (string_bytes so_far.new) }
+    ensures value { Follows (spec.action model.now whole.now bindings.now (made_of so_far.old)) result (made_of so_far.new) }
 {
     match whole {
         Action::Check(domain, condition) => {
@@ -103,6 +105,9 @@ pub(crate) fn action(
             bindings,
             so_far,
         ),
+        Action::TableOutput(table) => {
+            write_table(alloc, model, context, table, bindings, so_far)
+        }
         Action::For(heads, body) => {
             let scopes = at_heads(alloc, model, context, heads.as_slice(), bindings)?;
             actions_each(alloc, model, context, body.as_slice(), &scopes, so_far)
@@ -118,11 +123,11 @@ fn actions_each(
     context: &mut Context<'_>,
     body: &[Action],
     scopes: &Scopes,
-    so_far: &mut String,
+    so_far: &mut Progress,
 ) -> Result<(), Stop<EvalFault>>
     requires of { context.old ≡ model.now }
     ensures of { context.new ≡ model.now }
-    ensures value { Follows (spec.actions_each model.now body.now scopes.now (string_bytes so_far.old)) result (string_bytes so_far.new) }
+    ensures value { Follows (spec.actions_each model.now body.now scopes.now (made_of so_far.old)) result (made_of so_far.new) }
 {
     for bindings in scopes.all.as_slice() {
         actions(alloc, model, context, body, bindings, so_far)?;
@@ -137,11 +142,11 @@ fn actions(
     context: &mut Context<'_>,
     all: &[Action],
     bindings: &Tuple,
-    so_far: &mut String,
+    so_far: &mut Progress,
 ) -> Result<(), Stop<EvalFault>>
     requires of { context.old ≡ model.now }
     ensures of { context.new ≡ model.now }
-    ensures value { Follows (spec.actions model.now all.now bindings.now (string_bytes so_far.old)) result (string_bytes so_far.new) }
+    ensures value { Follows (spec.actions model.now all.now bindings.now (made_of so_far.old)) result (made_of so_far.new) }
 {
     for one in all {
         action(alloc, model, context, one, bindings, so_far)?;

@@ -2,6 +2,7 @@
 ghost use Rattle.std.specs.Prelude.{◌≡◌};
 ghost use Rattle.gmpl_generate.specs.Running.{fault_at};
 
+use csv_tables::TableFault;
 use gmpl_fault::EvalFault;
 use std::alloc::AllocError;
 
@@ -12,6 +13,8 @@ pub enum ModelFaultKind {
     Evaluation(EvalFault),
     /// The condition of a check is false.
     CheckFailed,
+    /// The text of a table's file is bad, or what it gives is given already.
+    Table(TableFault),
 }
 
 /// The first fault of a model: the number of its statement, counted from 1, the line of that statement's first token, counted

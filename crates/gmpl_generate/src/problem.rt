@@ -1,12 +1,15 @@
 // The problem of a model.
-ghost use Rattle.std.specs.Prelude.{◌≡◌, IfOk, string_bytes};
-ghost use Rattle.gmpl_generate.specs.Problem.{all_declared, all_executed, drafted, printed_by, IsEnd, IsMade};
-ghost use Rattle.gmpl_generate.specs.Running.{Runs};
+ghost use Rattle.std.specs.Prelude.{◌≡◌, Ok, IfOk, string_bytes};
+ghost use Rattle.gmpl_generate.specs.Problem as spec;
+ghost use Rattle.gmpl_generate.specs.Problem.{all_declared, Execution, IsEnd, IsExecuted, IsMade};
+ghost use Rattle.gmpl_generate.specs.Running.{Made, Ran, Runs, files_of, made_of};
 ghost use Rattle.gmpl_rows.specs.Premises.{AreObjects};
 
 use crate::declared::all_declared;
 use crate::fault::{Halt, ModelFault, ModelFaultKind, fault_at};
-use crate::turns::executed_all;
+use crate::input_tables::{Untaken, with_table};
+use crate::progress::{Progress, TableFile};
+use crate::turns::{Pause, Stopped, executed_from, resumed_from};
 use gmpl_data::LoadedModel;
 use gmpl_expr::Context;
 use gmpl_fault::EvalFault;
@@ -15,18 +18,24 @@ use gmpl_solution::Member;
 use instance::Instance;
 use std::alloc::{AllocError, Global};
 
-/// What the execution of a model comes to, up to `solve`.
+/// What the execution of a model comes to, up to where it stops.
 #[derive(Drop)]
 pub struct Executed {
-    /// What its statements print.
+    /// What its statements print, from the first on.
     pub printed: String,
+    /// The files that its statements make, in order; behind a table that was read those that are made from there on.
+    pub files: Vec<TableFile>,
     pub end: End,
 }
 
-/// The problem that a model means, or its first fault.
+/// How an execution ends.
 #[derive(Drop)]
 pub enum End {
-    Problem(Generated),
+    /// At `solve` or behind the last statement: the model with what tables gave, and its problem.
+    Problem(LoadedModel, Generated),
+    /// At a table whose file is to be read.
+    Table(LoadedModel, Pause),
+    /// At the first fault.
     Fault(ModelFault),
 }
 
@@ -41,16 +50,40 @@ pub struct Generated {
 fn all_executed(
     alloc: Global,
     model: &LoadedModel,
-    so_far: &mut String,
-) -> Result<Draft, Halt<EvalFault>>
+    so_far: &mut Progress,
+) -> Result<Stopped, Halt<EvalFault>>
     requires { AreObjects (all_declared model.now) }
-    ensures { Runs (all_executed model.now (string_bytes so_far.old)) result (string_bytes so_far.new) }
+    ensures { Runs (spec.all_executed model.now (made_of so_far.old)) result (made_of so_far.new) }
 {
     let objects = all_declared(alloc, model)?;
     let draft = Draft::new(alloc, objects)?;
     let mut context = Context::new(alloc, model);
-    executed_all(alloc, model, &mut context, draft, so_far)
+    executed_from(alloc, model, &mut context, 0, draft, so_far)
 }
+
+// Behind the table at which it pauses. A place of a step that has none behind it, which no text reaches, counts as want of memory.
+fn from_pause(
+    alloc: Global,
+    model: &LoadedModel,
+    pause: Pause,
+    so_far: &mut Progress,
+) -> Result<Stopped, Halt<EvalFault>>
+    ensures { Runs (spec.from_pause pause model.now (made_of so_far.old)) result (made_of so_far.new) }
+{
+    let Pause {
+        place,
+        step,
+        draft,
+        ..
+    } = pause;
+    let Some(next) = step.checked_add(1) else {
+        return Err(Halt::NoMemory);
+    };
+    let mut context = Context::new(alloc, model);
+    resumed_from(alloc, model, &mut context, place, next, draft, so_far)
+}
+
+// ---- the end
 
 // The problem of these rows.
 fn made(alloc: Global, draft: &Draft) -> Result<Generated, AllocError>
@@ -63,31 +96,100 @@ fn made(alloc: Global, draft: &Draft) -> Result<Generated, AllocError>
     })
 }
 
-/// What the execution of a model with its data comes to, in the order of its text, up to `solve` or to its end: what it prints, and
-/// the problem, or the first fault. The problem has the rows that constraints and objectives make, the columns of the variables that
-/// have a coefficient other than 0 in some row, and the first row of an objective as the objective.
+fn end_of(alloc: Global, model: LoadedModel, stopped: Stopped) -> Result<End, AllocError>
+    ensures { IfOk result (IsEnd (Ok (record { model = model; stopped = stopped }))) }
+{
+    match stopped {
+        Stopped::AtEnd(draft) => {
+            let made = made(alloc, &draft)?;
+            Ok(End::Problem(model, made))
+        }
+        Stopped::AtTable(pause) => Ok(End::Table(model, pause)),
+    }
+}
+
+// What is made, and the end.
+fn with_end(so_far: Progress, end: End) -> Executed
+    ensures made { made_of so_far ≡ record { printed = string_bytes result.printed; files = files_of result.files.items } }
+    ensures end { result.end ≡ end }
+{
+    let Progress { printed, files } = so_far;
+    Executed {
+        printed,
+        files,
+        end,
+    }
+}
+
+fn at_fault(so_far: Progress, fault: ModelFault) -> Executed
+    ensures { IsExecuted (Err (fault, made_of so_far)) result }
+{
+    with_end(so_far, End::Fault(fault))
+}
+
+// What an execution comes to that stops so, and has made this.
+fn outcome_of(
+    alloc: Global,
+    model: LoadedModel,
+    stopped: Result<Stopped, Halt<EvalFault>>,
+    so_far: Progress,
+) -> Result<Executed, AllocError>
+    ensures { IfOk result (λ e. (ran : Ran Made ModelFault Stopped) → Runs ran stopped (made_of so_far) → IsExecuted (spec.of_model model ran) e) }
+{
+    match stopped {
+        Ok(stopped) => {
+            let end = end_of(alloc, model, stopped)?;
+            Ok(with_end(so_far, end))
+        }
+        Err(Halt::Fault(number, line, fault)) => Ok(at_fault(
+            so_far,
+            fault_at(number, line, ModelFaultKind::Evaluation(fault)),
+        )),
+        Err(Halt::CheckFailed(number, line)) => Ok(at_fault(
+            so_far,
+            fault_at(number, line, ModelFaultKind::CheckFailed),
+        )),
+        Err(Halt::NoMemory) => Err(AllocError),
+    }
+}
+
+/// What the execution of a model with its data comes to, in the order of its text, up to `solve`, to its end, or to the first table
+/// that is to be read: what it prints and writes, and the problem, or the first fault. The problem has the rows that constraints and
+/// objectives make, the columns of the variables that have a coefficient other than 0 in some row, and the first row of an objective
+/// as the objective.
 /// Objects have names, of which no two are the same.
 /// Errors: want of memory.
 #[tactic(auto, unfolding(crate::specs::Problem::execution))]
-pub fn generate(alloc: Global, model: &LoadedModel) -> Result<Executed, AllocError>
-    requires { AreObjects (all_declared model.now) }
-    ensures printed { IfOk result (λ done. string_bytes done.printed ≡ printed_by model.now) }
-    ensures end { IfOk result (λ done. IsEnd (drafted model.now) done.end) }
+pub fn generate(alloc: Global, model: LoadedModel) -> Result<Executed, AllocError>
+    requires { AreObjects (all_declared model) }
+    ensures { IfOk result (IsExecuted (spec.execution model)) }
 {
-    let mut printed = String::new(alloc);
-    match all_executed(alloc, model, &mut printed) {
-        Ok(draft) => {
-            let end = End::Problem(made(alloc, &draft)?);
-            Ok(Executed { printed, end })
+    let mut so_far = Progress::new(alloc);
+    let stopped = all_executed(alloc, &model, &mut so_far);
+    outcome_of(alloc, model, stopped, so_far)
+}
+
+/// The same from a table on at which an execution paused: with what the text of its file gives, where this was printed before. The
+/// fault of a text is that of the table's statement.
+/// Errors: want of memory.
+#[tactic(auto, unfolding(crate::specs::Problem::resumed))]
+pub fn resume(
+    alloc: Global,
+    model: LoadedModel,
+    pause: Pause,
+    printed: String,
+    text: &[u8],
+) -> Result<Executed, AllocError>
+    ensures { IfOk result (IsExecuted (spec.resumed model pause (string_bytes printed) text.now)) }
+{
+    let files = Vec::new(alloc);
+    let mut so_far = Progress { printed, files };
+    match with_table(alloc, model, &pause, text) {
+        Ok(model) => {
+            let stopped = from_pause(alloc, &model, pause, &mut so_far);
+            outcome_of(alloc, model, stopped, so_far)
         }
-        Err(Halt::Fault(number, line, fault)) => {
-            let end = End::Fault(fault_at(number, line, ModelFaultKind::Evaluation(fault)));
-            Ok(Executed { printed, end })
-        }
-        Err(Halt::CheckFailed(number, line)) => {
-            let end = End::Fault(fault_at(number, line, ModelFaultKind::CheckFailed));
-            Ok(Executed { printed, end })
-        }
-        Err(Halt::NoMemory) => Err(AllocError),
+        Err(Untaken::Fault(fault)) => Ok(at_fault(so_far, fault)),
+        Err(Untaken::NoMemory) => Err(AllocError),
     }
 }

@@ -1,6 +1,6 @@
 // The elements of domains.
 ghost use Rattle.std.specs.Prelude.{◌≡◌, [], List, ℕ, Some, IfOk, OnOk};
-ghost use Rattle.gmpl_generate.specs.Running.{Follows, Gives};
+ghost use Rattle.gmpl_generate.specs.Running.{Follows, Gives, Made};
 ghost use Rattle.gmpl_generate.specs.Scopes as spec;
 ghost use Rattle.gmpl_meaning.specs.Members as members;
 
@@ -26,6 +26,7 @@ pub struct Scopes {
 pub(crate) fn behind(fault: Option<EvalFault>) -> Result<(), Stop<EvalFault>>
     ensures value { Gives (spec.ended fault) result }
     ensures text { (text : List ℕ) → Follows (spec.behind fault text) result text }
+    ensures made { (made : Made) → Follows (spec.behind fault made) result made }
 {
     match fault {
         None => Ok(()),
@@ -62,6 +63,24 @@ pub(crate) fn scopes_of(
     ensures value { IfOk result (λ made. made ≡ spec.scopes_of model.now domain.now bindings.now) }
 {
     let Walk { elements, fault } = over_domain(alloc, model, context, domain, bindings)?;
+    let mut all = Items::new(alloc);
+    add_elements(alloc, &mut all, bindings, elements.as_slice())?;
+    Ok(Scopes { all, fault })
+}
+
+/// The elements of an indexing expression.
+pub(crate) fn scopes_over(
+    alloc: Global,
+    model: &LoadedModel,
+    context: &mut Context<'_>,
+    domain: &Indexing,
+    bindings: &Tuple,
+) -> Result<Scopes, AllocError>
+    requires of { context.old ≡ model.now }
+    ensures of { context.new ≡ model.now }
+    ensures value { IfOk result (λ made. made ≡ spec.scopes_of model.now (Some domain.now) bindings.now) }
+{
+    let Walk { elements, fault } = over_head(alloc, model, context, domain, bindings)?;
     let mut all = Items::new(alloc);
     add_elements(alloc, &mut all, bindings, elements.as_slice())?;
     Ok(Scopes { all, fault })

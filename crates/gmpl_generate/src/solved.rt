@@ -1,16 +1,16 @@
 // Behind `solve`.
-ghost use Rattle.std.specs.Prelude.{◌≡◌, ◌<◌, false, Ok, IfOk, IsOk, OnOk, length, slice_get, string_bytes};
+ghost use Rattle.std.specs.Prelude.{◌≡◌, ◌<◌, false, IfOk, IsOk, OnOk, length, slice_get};
 ghost use Rattle.instance.specs.Sums.{sum_answer, form_of};
 ghost use Rattle.milp.specs.Form.{sum_at};
 ghost use Rattle.rational.specs.Rational.{zero_ℚ};
-ghost use Rattle.gmpl_generate.specs.Problem.{drafted};
-ghost use Rattle.gmpl_generate.specs.Running.{Runs};
+ghost use Rattle.gmpl_generate.specs.Running.{Runs, made_of};
 ghost use Rattle.gmpl_generate.specs.Solved as spec;
-ghost use Rattle.gmpl_generate.specs.Solved.{RowsFit};
+ghost use Rattle.gmpl_generate.specs.Solved.{RowsFit, made_after};
 ghost use Rattle.gmpl_rows.specs.Draft.{Draft};
 ghost use Rattle.gmpl_rows.specs.Problem.{column_members, problem_of, row_members};
 
 use crate::fault::{Halt, ModelFault, ModelFaultKind, fault_at};
+use crate::progress::{Progress, TableFile};
 use crate::steps::steps_after;
 use fraction::Frac;
 use gmpl_data::LoadedModel;
@@ -26,6 +26,8 @@ use std::alloc::{AllocError, Global};
 pub struct Afterwards {
     /// What they print.
     pub printed: String,
+    /// The files that they make, in order.
+    pub files: Vec<TableFile>,
     /// The first that cannot be executed.
     pub fault: Option<ModelFault>,
 }
@@ -147,11 +149,11 @@ fn statements_after(
     model: &LoadedModel,
     context: &mut Context<'_>,
     statements: &[Numbered],
-    so_far: &mut String,
+    so_far: &mut Progress,
 ) -> Result<bool, Halt<EvalFault>>
     requires of { context.old ≡ model.now }
     ensures of { context.new ≡ model.now }
-    ensures value { Runs (spec.statements_after model.now false statements.now (string_bytes so_far.old)) result (string_bytes so_far.new) }
+    ensures value { Runs (spec.statements_after model.now false statements.now (made_of so_far.old)) result (made_of so_far.new) }
 {
     let mut solved = false;
     for numbered in statements {
@@ -164,9 +166,9 @@ fn statements_after(
 fn all_after(
     alloc: Global,
     model: &LoadedModel,
-    so_far: &mut String,
+    so_far: &mut Progress,
 ) -> Result<bool, Halt<EvalFault>>
-    ensures { Runs (spec.all_after model.now (string_bytes so_far.old)) result (string_bytes so_far.new) }
+    ensures { Runs (spec.all_after model.now (made_of so_far.old)) result (made_of so_far.new) }
 {
     let mut context = Context::new(alloc, model);
     let statements = model.statements.as_slice();
@@ -176,29 +178,31 @@ fn all_after(
 }
 
 fn behind_solve(alloc: Global, model: &LoadedModel) -> Result<Afterwards, AllocError>
-    ensures { IfOk result (λ after. spec.behind_solve model.now ≡ (string_bytes after.printed, after.fault)) }
+    ensures { IfOk result (λ after. spec.behind_solve model.now ≡ (made_after after, after.fault)) }
 {
-    let mut printed = String::new(alloc);
-    match all_after(alloc, model, &mut printed) {
-        Ok(_) => Ok(Afterwards {
-            printed,
-            fault: None,
-        }),
-        Err(Halt::Fault(number, line, fault)) => Ok(Afterwards {
-            printed,
-            fault: Some(fault_at(number, line, ModelFaultKind::Evaluation(fault))),
-        }),
-        Err(Halt::CheckFailed(number, line)) => Ok(Afterwards {
-            printed,
-            fault: Some(fault_at(number, line, ModelFaultKind::CheckFailed)),
-        }),
-        Err(Halt::NoMemory) => Err(AllocError),
-    }
+    let mut so_far = Progress::new(alloc);
+    let fault = match all_after(alloc, model, &mut so_far) {
+        Ok(_) => None,
+        Err(Halt::Fault(number, line, fault)) => {
+            Some(fault_at(number, line, ModelFaultKind::Evaluation(fault)))
+        }
+        Err(Halt::CheckFailed(number, line)) => {
+            Some(fault_at(number, line, ModelFaultKind::CheckFailed))
+        }
+        Err(Halt::NoMemory) => return Err(AllocError),
+    };
+    let Progress { printed, files } = so_far;
+    Ok(Afterwards {
+        printed,
+        files,
+        fault,
+    })
 }
 
 /// The statements behind `solve`, in order, up to the first fault, where the members that the columns and rows of the problem come
-/// from have these numbers: what they print, and the fault.
+/// from have these numbers: what they print and write, and the fault.
 /// Errors: want of memory.
+#[tactic(auto, unfolding(crate::specs::Solved::after_by))]
 pub fn after_solve(
     alloc: Global,
     model: LoadedModel,
@@ -209,8 +213,8 @@ pub fn after_solve(
 ) -> Result<Afterwards, AllocError>
     requires size { length point.now ≡ length problem.now.columns }
     requires rows { RowsFit point.now problem.now.rows }
-    ensures { IfOk result (λ after. (d : Draft) → drafted model ≡ Ok d → columns.now ≡ column_members d → rows.now ≡ row_members d → problem.now.rows ≡ (problem_of d).rows
-        → spec.after_by model point.now ≡ (string_bytes after.printed, after.fault)) }
+    ensures { IfOk result (λ after. (d : Draft) → columns.now ≡ column_members d → rows.now ≡ row_members d → problem.now.rows ≡ (problem_of d).rows
+        → spec.after_by model d point.now ≡ (made_after after, after.fault)) }
 {
     let solution = solution_by(alloc, columns, rows, problem, point)?;
     behind_solve(alloc, &with_solution(model, solution))

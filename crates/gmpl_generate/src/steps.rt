@@ -1,14 +1,19 @@
 // Steps: what is done where statements stand that declare nothing.
-ghost use Rattle.std.specs.Prelude.{◌≡◌, [], string_bytes};
-ghost use Rattle.gmpl_generate.specs.Running.{Runs};
+ghost use Rattle.std.specs.Prelude.{◌≡◌, [], drop};
+ghost use Rattle.gmpl_fault.specs.Outcome.{Gives};
+ghost use Rattle.gmpl_generate.specs.Running.{Runs, Makes, made_of};
+ghost use Rattle.gmpl_generate.specs.Faults.{of_statement};
 ghost use Rattle.gmpl_generate.specs.Steps as spec;
 
 use crate::actions::action;
 use crate::fault::{Halt, Stop};
+use crate::output_tables::file_name;
+use crate::progress::Progress;
 use gmpl_data::LoadedModel;
 use gmpl_expr::Context;
 use gmpl_fault::EvalFault;
-use gmpl_resolved::{Action, NumberedStep, Step};
+use gmpl_resolved::{Action, NumberedStep, Step, TableInput};
+use gmpl_text::Text;
 use gmpl_value::Tuple;
 use std::alloc::Global;
 
@@ -18,11 +23,11 @@ fn performed(
     context: &mut Context<'_>,
     step: &NumberedStep,
     done: &Action,
-    so_far: &mut String,
+    so_far: &mut Progress,
 ) -> Result<(), Halt<EvalFault>>
     requires of { context.old ≡ model.now }
     ensures of { context.new ≡ model.now }
-    ensures value { Runs (spec.performed model.now step.now done.now (string_bytes so_far.old)) result (string_bytes so_far.new) }
+    ensures value { Runs (spec.performed model.now step.now done.now (made_of so_far.old)) result (made_of so_far.new) }
 {
     match action(alloc, model, context, done, &Tuple::new(alloc), so_far) {
         Ok(()) => Ok(()),
@@ -32,47 +37,97 @@ fn performed(
     }
 }
 
-// ---- up to `solve`
+// ---- up to `solve`, or to a table that is to be read
 
-// Whether the step is `solve`.
+/// Where steps end.
+#[derive(Drop)]
+pub enum Reached {
+    /// Behind the last of them.
+    End,
+    Solve,
+    /// At the step at this place, which reads a table from the file of this name.
+    Table(usize, Text),
+}
+
+// A table that is to be read.
+fn table_reached(
+    alloc: Global,
+    model: &LoadedModel,
+    context: &mut Context<'_>,
+    place: usize,
+    table: &TableInput,
+) -> Result<Reached, EvalFault>
+    requires of { context.old ≡ model.now }
+    ensures of { context.new ≡ model.now }
+    ensures value { Gives result (spec.table_reached model.now place table.now) }
+{
+    let name = file_name(alloc, model, context, &table.file, &Tuple::new(alloc))?;
+    Ok(Reached::Table(place, name))
+}
+
+// The same, where a fault is the statement's.
+fn table_before(
+    alloc: Global,
+    model: &LoadedModel,
+    context: &mut Context<'_>,
+    place: usize,
+    step: &NumberedStep,
+    table: &TableInput,
+) -> Result<Reached, Halt<EvalFault>>
+    requires of { context.old ≡ model.now }
+    ensures of { context.new ≡ model.now }
+    ensures value { Makes (of_statement step.now.number step.now.line (spec.table_reached model.now place table.now)) result }
+{
+    match table_reached(alloc, model, context, place, table) {
+        Ok(reached) => Ok(reached),
+        Err(EvalFault::NoMemory) => Err(Halt::NoMemory),
+        Err(fault) => Err(Halt::Fault(step.number, step.line, fault)),
+    }
+}
+
+// Where the step at a place ends.
 fn step_before(
     alloc: Global,
     model: &LoadedModel,
     context: &mut Context<'_>,
+    place: usize,
     step: &NumberedStep,
-    so_far: &mut String,
-) -> Result<bool, Halt<EvalFault>>
+    so_far: &mut Progress,
+) -> Result<Reached, Halt<EvalFault>>
     requires of { context.old ≡ model.now }
     ensures of { context.new ≡ model.now }
-    ensures value { Runs (spec.step_before model.now step.now (string_bytes so_far.old)) result (string_bytes so_far.new) }
+    ensures value { Runs (spec.step_before model.now place step.now (made_of so_far.old)) result (made_of so_far.new) }
 {
     match &step.step {
         Step::Action(done) => {
             performed(alloc, model, context, step, done, so_far)?;
-            Ok(false)
+            Ok(Reached::End)
         }
-        Step::Solve => Ok(true),
+        Step::TableInput(table) => table_before(alloc, model, context, place, step, table),
+        Step::Solve => Ok(Reached::Solve),
     }
 }
 
-/// The steps in order, up to `solve`: whether it stands there.
+/// The steps in order from the one at a place on, up to `solve` or to a table that is to be read.
 pub(crate) fn steps_before(
     alloc: Global,
     model: &LoadedModel,
     context: &mut Context<'_>,
     steps: &[NumberedStep],
-    so_far: &mut String,
-) -> Result<bool, Halt<EvalFault>>
+    from: usize,
+    so_far: &mut Progress,
+) -> Result<Reached, Halt<EvalFault>>
     requires of { context.old ≡ model.now }
     ensures of { context.new ≡ model.now }
-    ensures value { Runs (spec.steps_before model.now steps.now (string_bytes so_far.old)) result (string_bytes so_far.new) }
+    ensures value { Runs (spec.steps_before model.now from (drop from steps.now) (made_of so_far.old)) result (made_of so_far.new) }
 {
-    for step in steps {
-        if step_before(alloc, model, context, step, so_far)? {
-            return Ok(true);
+    for place in from..steps.len() {
+        match step_before(alloc, model, context, place, &steps[place], so_far)? {
+            Reached::End => {}
+            reached => return Ok(reached),
         }
     }
-    Ok(false)
+    Ok(Reached::End)
 }
 
 // ---- behind `solve`
@@ -82,7 +137,7 @@ fn is_solve(step: &Step) -> bool
 {
     match step {
         Step::Solve => true,
-        Step::Action(_) => false,
+        Step::Action(_) | Step::TableInput(_) => false,
     }
 }
 
@@ -91,18 +146,18 @@ fn step_behind(
     model: &LoadedModel,
     context: &mut Context<'_>,
     step: &NumberedStep,
-    so_far: &mut String,
+    so_far: &mut Progress,
 ) -> Result<bool, Halt<EvalFault>>
     requires of { context.old ≡ model.now }
     ensures of { context.new ≡ model.now }
-    ensures value { Runs (spec.step_behind model.now step.now (string_bytes so_far.old)) result (string_bytes so_far.new) }
+    ensures value { Runs (spec.step_behind model.now step.now (made_of so_far.old)) result (made_of so_far.new) }
 {
     match &step.step {
         Step::Action(done) => {
             performed(alloc, model, context, step, done, so_far)?;
             Ok(true)
         }
-        Step::Solve => Ok(true),
+        Step::TableInput(_) | Step::Solve => Ok(true),
     }
 }
 
@@ -113,11 +168,11 @@ fn step_after(
     context: &mut Context<'_>,
     step: &NumberedStep,
     solved: bool,
-    so_far: &mut String,
+    so_far: &mut Progress,
 ) -> Result<bool, Halt<EvalFault>>
     requires of { context.old ≡ model.now }
     ensures of { context.new ≡ model.now }
-    ensures value { Runs (spec.step_after model.now solved step.now (string_bytes so_far.old)) result (string_bytes so_far.new) }
+    ensures value { Runs (spec.step_after model.now solved step.now (made_of so_far.old)) result (made_of so_far.new) }
 {
     if solved {
         step_behind(alloc, model, context, step, so_far)
@@ -133,11 +188,11 @@ pub(crate) fn steps_after(
     context: &mut Context<'_>,
     steps: &[NumberedStep],
     solved: bool,
-    so_far: &mut String,
+    so_far: &mut Progress,
 ) -> Result<bool, Halt<EvalFault>>
     requires of { context.old ≡ model.now }
     ensures of { context.new ≡ model.now }
-    ensures value { Runs (spec.steps_after model.now solved steps.now (string_bytes so_far.old)) result (string_bytes so_far.new) }
+    ensures value { Runs (spec.steps_after model.now solved steps.now (made_of so_far.old)) result (made_of so_far.new) }
 {
     let mut solved = solved;
     for step in steps {

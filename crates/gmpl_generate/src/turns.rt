@@ -1,23 +1,57 @@
 // The statements in order.
-ghost use Rattle.std.specs.Prelude.{◌≡◌, string_bytes};
+ghost use Rattle.std.specs.Prelude.{◌≡◌, drop};
 ghost use Rattle.gmpl_generate.specs.Execution as spec;
-ghost use Rattle.gmpl_generate.specs.Running.{Runs, Makes};
+ghost use Rattle.gmpl_generate.specs.Running.{Made, Runs, Makes, made_of};
 
 use crate::execution::executed;
 use crate::fault::Halt;
-use crate::steps::steps_before;
+use crate::progress::Progress;
+use crate::steps::{Reached, steps_before};
 use gmpl_data::LoadedModel;
 use gmpl_expr::Context;
 use gmpl_fault::EvalFault;
 use gmpl_resolved::Numbered;
 use gmpl_rows::Draft;
+use gmpl_text::Text;
 use std::alloc::Global;
 
-/// The rows behind a statement with its steps, and whether `solve` was among these.
+/// Where an execution pauses: at a step that reads a table.
+#[derive(Drop)]
+pub struct Pause {
+    /// Of the statement behind the step among those that declare; behind the last of them their number.
+    pub place: usize,
+    /// Of the step among those before that statement.
+    pub step: usize,
+    /// Of the file that is to be read.
+    pub name: Text,
+    /// The rows so far.
+    pub draft: Draft,
+}
+
+/// Where an execution stops without a fault.
+#[derive(Drop)]
+pub enum Stopped {
+    /// At `solve`, or behind the last statement, with these rows.
+    AtEnd(Draft),
+    AtTable(Pause),
+}
+
+/// Where it stands behind a statement with its steps.
 #[derive(Drop)]
 pub enum Going {
     On(Draft),
-    Solved(Draft),
+    Stopped(Stopped),
+}
+
+fn paused(place: usize, draft: Draft, step: usize, name: Text) -> Pause
+    ensures { result ≡ spec.paused place draft step name }
+{
+    Pause {
+        place,
+        step,
+        name,
+        draft,
+    }
 }
 
 // The rows so far with those of the statement at a place. A place that is no 32-bit number, which no text reaches, counts as want
@@ -51,47 +85,129 @@ fn statement_executed(
     }
 }
 
-// The steps before the statement at a place, then the statement.
-fn turn(
+// The statement at a place, where the steps before it end so.
+fn turn_by(
     alloc: Global,
     model: &LoadedModel,
     context: &mut Context<'_>,
     place: usize,
     numbered: &Numbered,
     draft: Draft,
-    so_far: &mut String,
+    reached: Reached,
 ) -> Result<Going, Halt<EvalFault>>
     requires of { context.old ≡ model.now }
     ensures of { context.new ≡ model.now }
-    ensures value { Runs (spec.turn model.now place numbered.now draft (string_bytes so_far.old)) result (string_bytes so_far.new) }
+    ensures value { (made : Made) → Runs (spec.turn_by model.now place numbered.now draft reached made) result made }
 {
-    if steps_before(alloc, model, context, numbered.steps.as_slice(), so_far)? {
-        return Ok(Going::Solved(draft));
+    match reached {
+        Reached::End => {
+            let draft = statement_executed(alloc, model, context, place, numbered, draft)?;
+            Ok(Going::On(draft))
+        }
+        Reached::Solve => Ok(Going::Stopped(Stopped::AtEnd(draft))),
+        Reached::Table(step, name) => {
+            let pause = paused(place, draft, step, name);
+            Ok(Going::Stopped(Stopped::AtTable(pause)))
+        }
     }
-    let draft = statement_executed(alloc, model, context, place, numbered, draft)?;
-    Ok(Going::On(draft))
 }
 
-/// Statement by statement, then the last steps, up to `solve` or to the first fault.
-pub(crate) fn executed_all(
+// The steps before the statement at a place from one of them on, then the statement.
+fn turn(
     alloc: Global,
     model: &LoadedModel,
     context: &mut Context<'_>,
+    place: usize,
+    step: usize,
+    numbered: &Numbered,
     draft: Draft,
-    so_far: &mut String,
-) -> Result<Draft, Halt<EvalFault>>
+    so_far: &mut Progress,
+) -> Result<Going, Halt<EvalFault>>
     requires of { context.old ≡ model.now }
     ensures of { context.new ≡ model.now }
-    ensures value { Runs (spec.executed_from model.now 0 model.now.statements model.now.steps draft (string_bytes so_far.old)) result (string_bytes so_far.new) }
+    ensures value { Runs (spec.turn model.now place step numbered.now draft (made_of so_far.old)) result (made_of so_far.new) }
 {
-    let mut draft = draft;
+    let steps = numbered.steps.as_slice();
+    let reached = steps_before(alloc, model, context, steps, step, so_far)?;
+    turn_by(alloc, model, context, place, numbered, draft, reached)
+}
+
+fn ending(place: usize, draft: Draft, reached: Reached) -> Stopped
+    ensures { result ≡ spec.ending place draft reached }
+{
+    match reached {
+        Reached::End | Reached::Solve => Stopped::AtEnd(draft),
+        Reached::Table(step, name) => Stopped::AtTable(paused(place, draft, step, name)),
+    }
+}
+
+// The steps behind the last statement, from one of them on.
+fn last_steps(
+    alloc: Global,
+    model: &LoadedModel,
+    context: &mut Context<'_>,
+    place: usize,
+    step: usize,
+    draft: Draft,
+    so_far: &mut Progress,
+) -> Result<Stopped, Halt<EvalFault>>
+    requires of { context.old ≡ model.now }
+    ensures of { context.new ≡ model.now }
+    ensures value { Runs (spec.last_steps model.now place step model.now.steps draft (made_of so_far.old)) result (made_of so_far.new) }
+{
+    let steps = model.steps.as_slice();
+    let reached = steps_before(alloc, model, context, steps, step, so_far)?;
+    Ok(ending(place, draft, reached))
+}
+
+/// Statement by statement from a place on, then the last steps, up to where the execution stops, or to the first fault.
+pub(crate) fn executed_from(
+    alloc: Global,
+    model: &LoadedModel,
+    context: &mut Context<'_>,
+    from: usize,
+    draft: Draft,
+    so_far: &mut Progress,
+) -> Result<Stopped, Halt<EvalFault>>
+    requires of { context.old ≡ model.now }
+    ensures of { context.new ≡ model.now }
+    ensures value { Runs (spec.executed_from model.now from (drop from model.now.statements) model.now.steps draft (made_of so_far.old)) result (made_of so_far.new) }
+{
     let statements = model.statements.as_slice();
-    for (place, numbered) in statements.iter().enumerate() {
-        match turn(alloc, model, context, place, numbered, draft, so_far)? {
-            Going::Solved(all) => return Ok(all),
+    let mut draft = draft;
+    let mut place = from;
+    while place < statements.len() {
+        let numbered = &statements[place];
+        match turn(alloc, model, context, place, 0, numbered, draft, so_far)? {
+            Going::Stopped(stopped) => return Ok(stopped),
             Going::On(more) => draft = more,
         }
+        place += 1;
     }
-    steps_before(alloc, model, context, model.steps.as_slice(), so_far)?;
-    Ok(draft)
+    last_steps(alloc, model, context, place, 0, draft, so_far)
+}
+
+/// The same from a step before the statement at a place on.
+pub(crate) fn resumed_from(
+    alloc: Global,
+    model: &LoadedModel,
+    context: &mut Context<'_>,
+    place: usize,
+    step: usize,
+    draft: Draft,
+    so_far: &mut Progress,
+) -> Result<Stopped, Halt<EvalFault>>
+    requires of { context.old ≡ model.now }
+    ensures of { context.new ≡ model.now }
+    ensures value { Runs (spec.resumed_from model.now place step (drop place model.now.statements) model.now.steps draft (made_of so_far.old)) result (made_of so_far.new) }
+{
+    let statements = model.statements.as_slice();
+    if place >= statements.len() {
+        return last_steps(alloc, model, context, place, step, draft, so_far);
+    }
+    let numbered = &statements[place];
+    match turn(alloc, model, context, place, step, numbered, draft, so_far)? {
+        Going::Stopped(stopped) => Ok(stopped),
+        Going::On(draft) => executed_from(alloc, model, context, place + 1, draft, so_far),
+    }
 }

@@ -13,6 +13,7 @@ use Rattle.gmpl_syntax.specs.declared.statement.Constraint.{Constraint}
 use Rattle.gmpl_syntax.specs.declared.statement.Objective.{Objective}
 use Rattle.gmpl_syntax.specs.declared.statement.Direction.{Direction}
 use Rattle.gmpl_syntax.specs.declared.statement.Direction.TheVariants as direction
+use Rattle.gmpl_syntax.specs.declared.statement.TableInput.{TableInput}
 use Rattle.gmpl_syntax.specs.declared.statement.TableOutput.{TableOutput}
 use Rattle.gmpl_syntax.specs.declared.statement.Action.{Action}
 use Rattle.gmpl_syntax.specs.declared.statement.Action.TheVariants as a
@@ -43,7 +44,7 @@ use Rattle.gmpl_rows.specs.Premises.{IsName}
 use Rattle.gmpl_object_names.proofs.NamedTokens.{HasText, AreNamed}
 use Rattle.gmpl_object_names.proofs.KeptTokens.{Kept, Left, Keeps, then_left, made_left, next_kept, after_kept, either_rule, either_left, given_left, expect_keeps, optional_keeps}
 use Rattle.gmpl_object_names.proofs.ExpressionTokens.{number_keeps, expression_keeps, indexing_expression_keeps}
-use Rattle.gmpl_object_names.proofs.TableTokens.{titled_name_keeps, table_output_keeps}
+use Rattle.gmpl_object_names.proofs.TableTokens.{titled_name_keeps, table_input_keeps, input_word_keeps, table_output_keeps}
 use Rattle.gmpl_object_names.proofs.ActionTokens.{action_keeps}
 use Rattle.gmpl_object_names.proofs.Heads.{HeadThen, HeadsThen, heads_then, heads_more}
 
@@ -216,14 +217,14 @@ then_read : {A : Type 0} (outcome : Outcome A) (go : A → Rule Statement) → L
 then_read (Ok r) go h f = f r.0 r.1 h
 then_read (Err fault) go h f = tt
 
--- where nothing is said of it
-then_any : {A : Type 0} (outcome : Outcome A) (go : A → Rule Statement) → ((a : A) (j : Input) → IsRead (go a j)) → IsRead (and_then outcome go)
-then_any (Ok r) go f = f r.0 r.1
-then_any (Err fault) go f = tt
+read_told : (outcome : Outcome TableInput) → Left outcome → IsRead (and_then outcome (λ x. pure (s.TableInput x)))
+read_told (Ok r) h = h
+read_told (Err fault) h = tt
 
-read_table_is_read : (depth : ℕ) (solved : Bool) (said : List ℕ) (i : Input) → IsRead (read_table depth solved said i)
+read_table_is_read : (depth : ℕ) (solved : Bool) (said : List ℕ) (i : Input) → Kept i → IsRead (read_table depth solved said i)
 unfolding read_table
-read_table_is_read depth solved said i = then_any (input_word solved i) _ (λ _ j. then_any (table_input depth said j) _ (λ _ _. tt))
+read_table_is_read depth solved said i h =
+    then_read (input_word solved i) _ (input_word_keeps solved i h) (λ _ j kept. read_told (table_input depth said j) (table_input_keeps depth said j kept))
 
 written_told : (outcome : Outcome TableOutput) → Left outcome → IsRead (and_then outcome (λ x. pure (s.Action (a.TableOutput x))))
 written_told (Ok r) h = h
@@ -231,7 +232,7 @@ written_told (Err fault) h = tt
 
 table_by_is_read : (depth : ℕ) (solved : Bool) (said : List ℕ) (kind : Option TokenKind) (i : Input) → Kept i → IsRead (table_by depth solved said kind i)
 table_by_is_read depth solved said (Some k.OpenBrace) i h = written_told (table_output depth said i) (table_output_keeps depth said i h)
-table_by_is_read depth solved said _ i h = read_table_is_read depth solved said i
+table_by_is_read depth solved said _ i h = read_table_is_read depth solved said i h
 
 table_is_read : (depth : ℕ) (solved : Bool) (i : Input) → Kept i → IsRead (table depth solved i)
 unfolding table

@@ -5,17 +5,14 @@ use Rattle.gmpl_syntax.specs.declared.statement.Statement.TheVariants as s
 use Rattle.gmpl_syntax.specs.declared.statement.Numbered.{Numbered}
 
 module _ (P : List ℕ → Type 0) where
-  -- the name of its head where it declares an object, and what is said of what stands behind it; nothing, where it is refused
+  -- the name of its head where it declares an object, and what is said of what stands behind it
   abbrev pub HeadThen : Statement → Type 0 → Type 0
   HeadThen (s.Set declaration) behind = P declaration.head.name × behind
   HeadThen (s.Param declaration) behind = P declaration.head.name × behind
   HeadThen (s.Var declaration) behind = P declaration.head.name × behind
   HeadThen (s.Constraint constraint) behind = P constraint.head.name × behind
   HeadThen (s.Objective objective) behind = P objective.head.name × behind
-  HeadThen (s.Action action) behind = behind
-  HeadThen s.Solve behind = behind
-  HeadThen s.Data behind = behind
-  HeadThen _ behind = Unit {0}
+  HeadThen _ behind = behind
 
   abbrev pub HeadsThen : List Numbered → Type 0 → Type 0
   HeadsThen [] behind = behind
@@ -27,10 +24,7 @@ module _ (P : List ℕ → Type 0) where
   head_then (s.Var declaration) A B f h = (h.0, f h.1)
   head_then (s.Constraint constraint) A B f h = (h.0, f h.1)
   head_then (s.Objective objective) A B f h = (h.0, f h.1)
-  head_then (s.TableInput table) A B f h = tt
-  head_then s.Solve A B f h = f h
-  head_then (s.Action action) A B f h = f h
-  head_then s.Data A B f h = f h
+  head_then _ A B f h = f h
 
   pub heads_then : (xs : List Numbered) (A B : Type 0) → (A → B) → HeadsThen xs A → HeadsThen xs B
   heads_then [] A B f h = f h

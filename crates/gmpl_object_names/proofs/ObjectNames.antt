@@ -50,10 +50,7 @@ any_head (s.Param declaration) behind h = (tt, h)
 any_head (s.Var declaration) behind h = (tt, h)
 any_head (s.Constraint constraint) behind h = (tt, h)
 any_head (s.Objective objective) behind h = (tt, h)
-any_head (s.Action action) behind h = h
-any_head s.Solve behind h = h
-any_head s.Data behind h = h
-any_head _ behind h = tt
+any_head _ behind h = h
 
 any_heads : (xs : List Numbered) → HeadsThen IsAny xs (Unit {0})
 any_heads [] = tt

@@ -10,21 +10,21 @@ use Rattle.gmpl_syntax.specs.declared.statement.Head.{Head}
 use Rattle.gmpl_syntax.specs.declared.statement.Declaration.{Declaration}
 use Rattle.gmpl_syntax.specs.declared.statement.Constraint.{Constraint}
 use Rattle.gmpl_syntax.specs.declared.statement.Objective.{Objective}
-use Rattle.gmpl_syntax.specs.declared.statement.TableInput.{TableInput}
 use Rattle.gmpl_syntax.specs.declared.statement.Statement.{Statement}
 use Rattle.gmpl_syntax.specs.declared.statement.Statement.TheVariants as s
 use Rattle.gmpl_syntax.specs.declared.statement.Numbered.{Numbered}
 use Rattle.gmpl_resolved.specs.declared.statement.Statement.{Statement as ResolvedStatement}
 use Rattle.gmpl_resolved.specs.declared.statement.Statement.TheVariants as rs
-use Rattle.gmpl_resolved.specs.declared.statement.Action.{Action as ResolvedAction}
+use Rattle.gmpl_resolved.specs.declared.statement.Step.{Step}
 use Rattle.gmpl_resolved.specs.declared.statement.Step.TheVariants as step
 use Rattle.gmpl_resolved.specs.declared.statement.Numbered.{Numbered as ResolvedNumbered}
 use Rattle.gmpl_resolved.specs.declared.statement.Statements.{Statements as ResolvedStatements}
 use Rattle.gmpl_names.specs.Names.{Name, has}
+use Rattle.gmpl_names.specs.Meanings.{Or_fault}
 use Rattle.gmpl_names.specs.Expressions.{Outcome, Pass, pure, and_then, expr}
 use Rattle.gmpl_statement_names.specs.declared.resolved.Resolved.{Resolved}
 use Rattle.gmpl_statement_names.specs.declared.resolved.Resolved.TheVariants as made
-use Rattle.gmpl_statement_names.specs.Statements.{Judged, optional_indexing, optional_side, head, attributes, declaration, constraint, objective, driver, new_name, optional_name, parameters, table_input, action, alone, declaring, declaring_by, told_as, statement, none, with_statement, behind, statements_from}
+use Rattle.gmpl_statement_names.specs.Statements.{Judged, JudgedBoth, optional_indexing, optional_side, head, attributes, declaration, constraint, objective, table_input, action, alone, declaring, declaring_by, told_as, statement, then_names, tables_behind, with_tables, judged, none, with_statement, behind, statements_from}
 use Rattle.gmpl_rows.specs.Premises.{AreDifferent}
 use Rattle.gmpl_object_names.specs.Names.{head_of, object_name, names_of}
 use Rattle.gmpl_object_names.proofs.Heads.{HeadThen, HeadsThen}
@@ -67,7 +67,7 @@ pub record DeclaresNew (P : List ℕ → Type 0) (rest : Type 0) (objects : List
   pub named : P (head_of x).name
   pub left : rest
 
--- a statement that is executed declares none, and neither do `solve` and `data`
+-- a statement that is executed declares none, not even a table, and neither do `solve` and `data`
 pub record DeclaresNone (rest : Type 0) (objects : List Name) (after : List Name) : Type 0 where
   pub names : after ≡ objects
   pub left : rest
@@ -97,24 +97,11 @@ module _ (P : List ℕ → Type 0) (rest : Type 0) (objects : List Name) where
       → IfOk (told_as make (declaring name pass objects)) Declares
   told make name pass h same = told_where make name pass (has name objects) refl h same
 
-  -- ---- a table is refused, and what is executed declares none
+  -- ---- what is executed declares none
 
-  never_table : (t : TableInput) → IfOk (table_input objects t []) (λ r. ⊥)
-  unfolding table_input
-  never_table t =
-      then_any (new_name objects t.name []) _ _
-      (λ _ a. then_any (driver t.driver a) _ _
-      (λ _ b. then_any (expr objects t.file b) _ _
-      (λ _ c. then_any (optional_name objects t.set c) _ _
-      (λ _ d. then_any (parameters objects t.columns d) _ _ (λ _ _. tt)))))
-
-  never_alone : (outcome : Outcome Resolved) → IfOk outcome (λ r. ⊥) → IfOk (alone objects outcome) Declares
-  never_alone (Ok r) h = absurd h
-  never_alone (Err fault) h = tt
-
-  executed_alone : (outcome : Outcome ResolvedAction) → rest → IfOk (alone objects (and_then outcome (λ x. pure (made.Step (step.Action x))))) Declares
-  executed_alone (Ok r) h = record { names = refl; left = h }
-  executed_alone (Err fault) h = tt
+  executed_alone : {A : Type 0} (make : A → Step) (outcome : Outcome A) → rest → IfOk (alone objects (and_then outcome (λ x. pure (made.Step (make x))))) Declares
+  executed_alone make (Ok r) h = record { names = refl; left = h }
+  executed_alone make (Err fault) h = tt
 
   pub statement_declares : (x : Statement) → HeadThen P x rest → IfOk (statement x objects) Declares
   statement_declares (s.Set d) h = told rs.Set d.head.name (λ os. declaration os d) h (λ os. declaration_kept os d [])
@@ -122,10 +109,21 @@ module _ (P : List ℕ → Type 0) (rest : Type 0) (objects : List Name) where
   statement_declares (s.Var d) h = told rs.Var d.head.name (λ os. declaration os d) h (λ os. declaration_kept os d [])
   statement_declares (s.Constraint x) h = told rs.Constraint x.head.name (λ os. constraint os x) h (λ os. constraint_kept os x [])
   statement_declares (s.Objective x) h = told rs.Objective x.head.name (λ os. objective os x) h (λ os. objective_kept os x [])
-  statement_declares (s.TableInput t) h = never_alone (table_input objects t []) (never_table t)
+  statement_declares (s.TableInput t) h = executed_alone step.TableInput (table_input objects t []) h
   statement_declares s.Solve h = record { names = refl; left = h }
-  statement_declares (s.Action x) h = executed_alone (action objects x []) h
+  statement_declares (s.Action x) h = executed_alone step.Action (action objects x []) h
   statement_declares s.Data h = record { names = refl; left = h }
+
+-- ---- names of tables are no names of objects
+
+module _ (Q : Resolved × List Name → Type 0) where
+  judged_alone : (tables : List Name) (found : Judged Resolved) → IfOk found Q → IfOk (with_tables tables found) (λ r. Q (r.0, r.1.0))
+  judged_alone tables (Ok r) h = h
+  judged_alone tables (Err fault) h = tt
+
+  judged_behind : (found : Judged Resolved) (tables : Or_fault (List Name)) → IfOk found Q → IfOk (then_names tables (λ ts. with_tables ts found)) (λ r. Q (r.0, r.1.0))
+  judged_behind found (Ok tables) h = judged_alone tables found h
+  judged_behind found (Err fault) h = tt
 
 -- ---- one more name that is new
 
@@ -155,8 +153,8 @@ pub record HaveNames (P : List ℕ → Type 0) (made : List ResolvedNumbered) : 
 
 module _ (P : List ℕ → Type 0) where
   -- what is said of the statements, where it is said of those up to here
-  abbrev Goes : Type 0 → (ResolvedStatements → List Name → ResolvedStatements) → Type 0
-  Goes rest go = (more : ResolvedStatements) (os : List Name) → names_of more.items ≡ os → HaveNames P more.items → rest → HaveNames P (go more os).items
+  abbrev Goes : Type 0 → (ResolvedStatements → List Name → List Name → ResolvedStatements) → Type 0
+  Goes rest go = (more : ResolvedStatements) (os tables : List Name) → names_of more.items ≡ os → HaveNames P more.items → rest → HaveNames P (go more os tables).items
 
   one_declaration : (found : ResolvedStatements) (objects : List Name) (x : ResolvedNumbered) (after : List Name) (rest : Type 0)
       → names_of found.items ≡ objects → HaveNames P found.items → DeclaresNew P rest objects x.statement after
@@ -171,29 +169,29 @@ module _ (P : List ℕ → Type 0) where
         },
       )
 
-  one_statement : (found : ResolvedStatements) (objects : List Name) (number line : ℕ) (rest : Type 0) (x : Resolved) (after : List Name) (go : ResolvedStatements → List Name → ResolvedStatements)
+  one_statement : (found : ResolvedStatements) (objects : List Name) (number line : ℕ) (rest : Type 0) (x : Resolved) (after tables : List Name) (go : ResolvedStatements → List Name → List Name → ResolvedStatements)
       → names_of found.items ≡ objects → HaveNames P found.items → DeclaresBy P rest objects x after → Goes rest go
-      → HaveNames P (go (with_statement found number line x) after).items
-  one_statement found objects number line rest (made.Declaration x) after go same named declares then_all =
+      → HaveNames P (go (with_statement found number line x) after tables).items
+  one_statement found objects number line rest (made.Declaration x) after tables go same named declares then_all =
       let more = one_declaration found objects (record { steps = found.steps; number = number; line = line; statement = x }) after rest same named declares in
-      then_all (with_statement found number line (made.Declaration x)) after more.0 more.1 declares.left
-  one_statement found objects number line rest (made.Step x) after go same named declares then_all =
-      then_all (with_statement found number line (made.Step x)) after (same ∙ sym declares.names) named declares.left
-  one_statement found objects number line rest made.Nothing after go same named declares then_all = then_all found after (same ∙ sym declares.names) named declares.left
+      then_all (with_statement found number line (made.Declaration x)) after tables more.0 more.1 declares.left
+  one_statement found objects number line rest (made.Step x) after tables go same named declares then_all =
+      then_all (with_statement found number line (made.Step x)) after tables (same ∙ sym declares.names) named declares.left
+  one_statement found objects number line rest made.Nothing after tables go same named declares then_all = then_all found after tables (same ∙ sym declares.names) named declares.left
 
-  one_more : (found : ResolvedStatements) (objects : List Name) (number line : ℕ) (rest : Type 0) (judged : Judged Resolved) (go : ResolvedStatements → List Name → ResolvedStatements)
-      → names_of found.items ≡ objects → HaveNames P found.items → IfOk judged (Declares P rest objects) → Goes rest go
-      → HaveNames P (behind found number line judged go).items
-  one_more found objects number line rest (Ok r) go same named declares then_all = one_statement found objects number line rest r.0 r.1 go same named declares then_all
+  one_more : (found : ResolvedStatements) (objects : List Name) (number line : ℕ) (rest : Type 0) (of_one : JudgedBoth Resolved) (go : ResolvedStatements → List Name → List Name → ResolvedStatements)
+      → names_of found.items ≡ objects → HaveNames P found.items → IfOk of_one (λ r. Declares P rest objects (r.0, r.1.0)) → Goes rest go
+      → HaveNames P (behind found number line of_one go).items
+  one_more found objects number line rest (Ok r) go same named declares then_all = one_statement found objects number line rest r.0 r.1.0 r.1.1 go same named declares then_all
   one_more found objects number line rest (Err kind) go same named declares then_all = named
 
-  all_named : (found : ResolvedStatements) (count : ℕ) (objects : List Name) (xs : List Numbered) (fault : Option SyntaxFault) → names_of found.items ≡ objects → HaveNames P found.items → HeadsThen P xs (Unit {0})
-      → HaveNames P (statements_from found count objects xs fault).items
-  all_named found count objects [] fault same named heads = named
-  all_named found count objects (x ∷ xs) fault same named heads =
-      one_more found objects (count + 1) x.line (HeadsThen P xs (Unit {0})) (statement x.statement objects) (λ more os. statements_from more (count + 1) os xs fault) same named
-      (statement_declares P (HeadsThen P xs (Unit {0})) objects x.statement heads)
-      (λ more os same_names now left. all_named more (count + 1) os xs fault same_names now left)
+  all_named : (found : ResolvedStatements) (count : ℕ) (objects tables : List Name) (xs : List Numbered) (fault : Option SyntaxFault) → names_of found.items ≡ objects → HaveNames P found.items → HeadsThen P xs (Unit {0})
+      → HaveNames P (statements_from found count objects tables xs fault).items
+  all_named found count objects tables [] fault same named heads = named
+  all_named found count objects tables (x ∷ xs) fault same named heads =
+      one_more found objects (count + 1) x.line (HeadsThen P xs (Unit {0})) (judged x.statement objects tables) (λ more os ts. statements_from more (count + 1) os ts xs fault) same named
+      (judged_behind (Declares P (HeadsThen P xs (Unit {0})) objects) (statement x.statement objects) (tables_behind objects x.statement tables) (statement_declares P (HeadsThen P xs (Unit {0})) objects x.statement heads))
+      (λ more os ts same_names now left. all_named more (count + 1) os ts xs fault same_names now left)
 
-  pub resolved_named : (xs : List Numbered) (fault : Option SyntaxFault) → HeadsThen P xs (Unit {0}) → HaveNames P (statements_from none 0 [] xs fault).items
-  resolved_named xs fault heads = all_named none 0 [] xs fault refl (record { names = tt; differ = tt }) heads
+  pub resolved_named : (xs : List Numbered) (fault : Option SyntaxFault) → HeadsThen P xs (Unit {0}) → HaveNames P (statements_from none 0 [] [] xs fault).items
+  resolved_named xs fault heads = all_named none 0 [] [] xs fault refl (record { names = tt; differ = tt }) heads

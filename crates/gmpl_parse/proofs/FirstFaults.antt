@@ -9,7 +9,7 @@ use Rattle.gmpl_resolved.specs.declared.statement.Statements.{Statements as Reso
 use Rattle.gmpl_names.specs.Names.{Name}
 use Rattle.gmpl_kinds.specs.declared.shape.Object.{Object}
 use Rattle.gmpl_statement_names.specs.declared.resolved.Resolved.{Resolved}
-use Rattle.gmpl_statement_names.specs.Statements.{Judged, none, statement, statements, statements_from, behind}
+use Rattle.gmpl_statement_names.specs.Statements.{JudgedBoth, judged, none, statements, statements_from, behind}
 use Rattle.gmpl_statement_kinds.specs.declared.judgement.Judgement.{Judgement}
 use Rattle.gmpl_statement_kinds.specs.StatementKinds.{behind_all, declared, go_on, stopped, judged_from, judgement}
 use Rattle.gmpl_parse.specs.declared.model.Model.{Model}
@@ -25,15 +25,15 @@ kinds-first fault objects solved (x ∷ xs) steps =
     kinds-step fault objects (behind_all objects solved x.steps) _ _
     (λ now. kinds-step fault objects (declared objects now x) _ _ (λ object. kinds-first fault (objects ++ object ∷ []) now xs steps))
 
-names-step : (fault : Option SyntaxFault) (found : ResolvedStatements) (number line : ℕ) (of_one : Judged Resolved) (go alone : ResolvedStatements → List Name → ResolvedStatements) → ((more : ResolvedStatements) (objects : List Name) → (go more objects).fault ≡ or_else (alone more objects).fault fault) → (behind found number line of_one go).fault ≡ or_else (behind found number line of_one alone).fault fault
-names-step fault found number line (Ok r) go alone h = h _ _
+names-step : (fault : Option SyntaxFault) (found : ResolvedStatements) (number line : ℕ) (of_one : JudgedBoth Resolved) (go alone : ResolvedStatements → List Name → List Name → ResolvedStatements) → ((more : ResolvedStatements) (objects tables : List Name) → (go more objects tables).fault ≡ or_else (alone more objects tables).fault fault) → (behind found number line of_one go).fault ≡ or_else (behind found number line of_one alone).fault fault
+names-step fault found number line (Ok r) go alone h = h _ _ _
 names-step fault found number line (Err kind) go alone h = refl
 
-names-first : (fault : Option SyntaxFault) (found : ResolvedStatements) (count : ℕ) (objects : List Name) (xs : List Numbered) → (statements_from found count objects xs fault).fault ≡ or_else (statements_from found count objects xs None).fault fault
-names-first fault found count objects [] = refl
-names-first fault found count objects (x ∷ xs) =
-    names-step fault found (count + 1) x.line (statement x.statement objects) (λ more os. statements_from more (count + 1) os xs fault) (λ more os. statements_from more (count + 1) os xs None)
-    (λ more os. names-first fault more (count + 1) os xs)
+names-first : (fault : Option SyntaxFault) (found : ResolvedStatements) (count : ℕ) (objects tables : List Name) (xs : List Numbered) → (statements_from found count objects tables xs fault).fault ≡ or_else (statements_from found count objects tables xs None).fault fault
+names-first fault found count objects tables [] = refl
+names-first fault found count objects tables (x ∷ xs) =
+    names-step fault found (count + 1) x.line (judged x.statement objects tables) (λ more os ts. statements_from more (count + 1) os ts xs fault) (λ more os ts. statements_from more (count + 1) os ts xs None)
+    (λ more os ts. names-first fault more (count + 1) os ts xs)
 
 fault-of : (fault : Option SyntaxFault) (model : Model) → fault_of (unless_bad fault model) ≡ fault
 fault-of None model = refl
@@ -43,4 +43,4 @@ pub first_bad : (found : Statements) → fault_of (model_of found) ≡ or_else (
 first_bad found =
     fault-of (judgement (statements found)).fault (record { statements = (statements found).items; steps = (statements found).steps; objects = (judgement (statements found)).objects; data_at = found.data_at })
     ∙ kinds-first (statements found).fault [] false (statements found).items (statements found).steps
-    ∙ ap (or_else (own_of_kinds found)) (names-first found.fault none 0 [] found.items)
+    ∙ ap (or_else (own_of_kinds found)) (names-first found.fault none 0 [] [] found.items)

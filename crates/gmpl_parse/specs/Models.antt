@@ -35,7 +35,7 @@ fault_of (Err fault) = Some fault
 
 -- the fault that the second pass finds among the statements before the first bad one of the first pass
 abbrev pub own_of_names : Statements → Option SyntaxFault
-own_of_names found = (statements_from none 0 [] found.items None).fault
+own_of_names found = (statements_from none 0 [] [] found.items None).fault
 
 -- the fault that the third pass finds among the statements before the first bad one of the second pass
 abbrev pub own_of_kinds : Statements → Option SyntaxFault

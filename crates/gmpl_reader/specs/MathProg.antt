@@ -1,6 +1,6 @@
--- What a MathProg text with files of data comes to (GNU MathProg Language Reference): its tokens, its statements with their names and
--- kinds, what the data give, and their execution; or the first fault of these, in this order.
-use Rattle.std.specs.Prelude.{◌≡◌, ℕ, List, Option, Some, None, Result, Ok, Err}
+-- What a MathProg text with files of data and of tables comes to (GNU MathProg Language Reference): its tokens, its statements with
+-- their names and kinds, what the data give, and their execution; or the first fault of these, in this order.
+use Rattle.std.specs.Prelude.{◌≡◌, ℕ, List, ◌++◌, string_bytes, Option, Some, None, Result, Ok, Err}
 use Rattle.rational.specs.Rational.{Rational}
 use Rattle.milp.specs.Problem.{Problem}
 use Rattle.model_text.specs.declared.error.ReadError.{ReadError}
@@ -13,13 +13,20 @@ use Rattle.gmpl_data.specs.declared.tables.LoadedModel.{LoadedModel}
 use Rattle.gmpl_data_input.specs.declared.fault.DataFault.{DataFault}
 use Rattle.gmpl_load.specs.Tables.{Tables}
 use Rattle.gmpl_rows.specs.Draft.{Draft}
-use Rattle.gmpl_rows.specs.Problem.{column_members, row_members}
-use Rattle.gmpl_generate.specs.Problem.{drafted, generated, printed_by}
+use Rattle.gmpl_rows.specs.Problem.{column_members, problem_of, row_members}
+use Rattle.gmpl_generate.specs.declared.problem.End.{End}
+use Rattle.gmpl_generate.specs.declared.problem.End.TheVariants as end
+use Rattle.gmpl_generate.specs.declared.turns.Stopped.{Stopped}
+use Rattle.gmpl_generate.specs.declared.turns.Stopped.TheVariants as stopped
+use Rattle.gmpl_generate.specs.Problem.{Executing, IsEnd, execution, with_texts}
+use Rattle.gmpl_generate.specs.Running.{File, Made, files_of, result_of, state_of}
 use Rattle.gmpl_generate.specs.Solved.{after_by}
 use Rattle.gmpl_generate.specs.declared.fault.ModelFault.{ModelFault}
 use Rattle.gmpl_reader.specs.Data.{given}
 use Rattle.gmpl_reader.specs.declared.fault.MathProgFault.{MathProgFault}
 use Rattle.gmpl_reader.specs.declared.fault.MathProgFault.TheVariants.{Syntax, Model, Data}
+use Rattle.gmpl_reader.specs.declared.read.Reading.{Reading}
+use Rattle.gmpl_reader.specs.declared.read.Pending.{Pending}
 use Rattle.gmpl_reader.specs.declared.read.ReadingEnd.{ReadingEnd}
 use Rattle.gmpl_reader.specs.declared.read.ReadingEnd.TheVariants as ends
 use Rattle.gmpl_reader.specs.declared.read.Rest.{Rest}
@@ -46,67 +53,113 @@ of_model text data_files (Err fault) = Err (Syntax fault)
 unfoldable pub loaded_model : List ℕ → List (List ℕ) → Result LoadedModel MathProgFault
 loaded_model text data_files = of_model text data_files (model_in text)
 
--- ---- its execution
+-- ---- its execution, with the texts of the tables' files in the order in which they are read
 
-abbrev pub of_execution : Result Problem ModelFault → Result Problem MathProgFault
-of_execution (Ok problem) = Ok problem
-of_execution (Err fault) = Err (Model fault)
+abbrev pub executing_model : List (List ℕ) → Result LoadedModel MathProgFault → Result Executing MathProgFault
+executing_model tables (Ok model) = Ok (with_texts (execution model) tables)
+executing_model tables (Err fault) = Err fault
 
-abbrev pub problem_of_model : Result LoadedModel MathProgFault → Result Problem MathProgFault
-problem_of_model (Ok model) = of_execution (generated model)
-problem_of_model (Err fault) = Err fault
+-- of a text with its data, or the fault of the text or of its data
+unfoldable pub executing : List ℕ → List (List ℕ) → List (List ℕ) → Result Executing MathProgFault
+executing text data_files tables = executing_model tables (loaded_model text data_files)
 
--- the problem that a text declares with its data, or the first fault
-unfoldable pub declared : List ℕ → List (List ℕ) → Result Problem MathProgFault
-declared text data_files = problem_of_model (loaded_model text data_files)
+-- how it ends: the problem, the first fault, or the table whose file is to be read next
+pub data Ending : Type 0 where
+  Declares : Problem → Ending
+  Fails : MathProgFault → Ending
+  Wants : List ℕ → Ending
 
-abbrev pub printed_of_model : Result LoadedModel MathProgFault → Option (List ℕ)
-printed_of_model (Ok model) = Some (printed_by model)
-printed_of_model (Err fault) = None
+abbrev pub ending_at : Stopped → Ending
+ending_at (stopped.AtEnd d) = Declares (problem_of d)
+ending_at (stopped.AtTable p) = Wants p.name
 
--- what the execution prints up to `solve`, or up to the first fault; none, where the text or the data are bad
-unfoldable pub printed : List ℕ → List (List ℕ) → Option (List ℕ)
-printed text data_files = printed_of_model (loaded_model text data_files)
+abbrev pub ending_of : Executing → Ending
+ending_of (Ok r) = ending_at r.0.stopped
+ending_of (Err r) = Fails (Model r.0)
+
+abbrev pub ending_by : Result Executing MathProgFault → Ending
+ending_by (Ok run) = ending_of run
+ending_by (Err fault) = Fails fault
+
+abbrev pub ending : List ℕ → List (List ℕ) → List (List ℕ) → Ending
+ending text data_files tables = ending_by (executing text data_files tables)
+
+abbrev pub made_by : Result Executing MathProgFault → Option Made
+made_by (Ok run) = Some (state_of run)
+made_by (Err fault) = None
+
+-- what is made up to there: what is printed, and the files of tables; none, where the text or the data are bad
+abbrev pub making : List ℕ → List (List ℕ) → List (List ℕ) → Option Made
+making text data_files tables = made_by (executing text data_files tables)
 
 -- ---- behind `solve`
 
-abbrev pub after_draft : LoadedModel → List Rational → Result Draft ModelFault → Option (List ℕ × Option ModelFault)
-after_draft model x (Ok d) = Some (after_by model x)
-after_draft model x (Err fault) = None
+abbrev pub after_stop : List Rational → LoadedModel → Stopped → Option (Made × Option ModelFault)
+after_stop x model (stopped.AtEnd d) = Some (after_by model d x)
+after_stop x model (stopped.AtTable p) = None
 
-abbrev pub after_model : List Rational → Result LoadedModel MathProgFault → Option (List ℕ × Option ModelFault)
-after_model x (Ok model) = after_draft model x (drafted model)
-after_model x (Err fault) = None
+abbrev pub after_run : List Rational → Executing → Option (Made × Option ModelFault)
+after_run x (Ok r) = after_stop x r.0.model r.0.stopped
+after_run x (Err r) = None
 
--- what the statements behind `solve` print at a point of the problem, and their first fault; none, where no problem is declared
-unfoldable pub afterwards : List ℕ → List (List ℕ) → List Rational → Option (List ℕ × Option ModelFault)
-afterwards text data_files x = after_model x (loaded_model text data_files)
+abbrev pub after_execution : List Rational → Result Executing MathProgFault → Option (Made × Option ModelFault)
+after_execution x (Ok run) = after_run x run
+after_execution x (Err fault) = None
+
+-- what the statements behind `solve` make at a point of the problem, and their first fault; none, where no problem is declared
+abbrev pub afterwards : List ℕ → List (List ℕ) → List (List ℕ) → List Rational → Option (Made × Option ModelFault)
+afterwards text data_files tables x = after_execution x (executing text data_files tables)
 
 -- ---- what a call answers; want of memory is free
 
--- the members that the columns and rows of the execution's problem come from
-abbrev pub HasMembers : Result Draft ModelFault → Rest → Type 0
-HasMembers (Ok d) rest = (rest.columns.items ≡ column_members d) × (rest.rows.items ≡ row_members d)
-HasMembers (Err fault) rest = ⊥
+-- what the statements behind `solve` of this text need: its model with what tables gave, and the members that the columns and rows
+-- of its problem come from
+pub record IsRest (text : List ℕ) (data_files tables : List (List ℕ)) (rest : Rest) : Type 0 where
+  pub draft : Draft
+  pub made : Made
+  pub is : executing text data_files tables ≡ Ok (Ok (record { model = rest.model; stopped = stopped.AtEnd draft }, made))
+  pub columns : rest.columns.items ≡ column_members draft
+  pub rows : rest.rows.items ≡ row_members draft
 
--- what the statements behind `solve` of this text need
-pub record IsRest (text : List ℕ) (data_files : List (List ℕ)) (rest : Rest) : Type 0 where
-  pub model : loaded_model text data_files ≡ Ok rest.model
-  pub members : HasMembers (drafted rest.model) rest
+-- what is to go on behind the table whose file is to be read
+pub record IsPending (text : List ℕ) (data_files tables : List (List ℕ)) (pending : Pending) : Type 0 where
+  pub made : Made
+  pub is : executing text data_files tables ≡ Ok (Ok (record { model = pending.model; stopped = stopped.AtTable pending.pause }, made))
 
-abbrev pub IsReadingEnd : List ℕ → List (List ℕ) → ReadingEnd → Type 0
-IsReadingEnd text data_files (ends.Problem problem rest) = (declared text data_files ≡ Ok problem) × IsRest text data_files rest
-IsReadingEnd text data_files (ends.Fault fault) = declared text data_files ≡ Err (Model fault)
+abbrev pub IsReadingEnd : List ℕ → List (List ℕ) → List (List ℕ) → ReadingEnd → Type 0
+IsReadingEnd text data_files tables (ends.Problem problem rest) = (ending text data_files tables ≡ Declares problem) × IsRest text data_files tables rest
+IsReadingEnd text data_files tables (ends.Table pending) = (ending text data_files tables ≡ Wants pending.pause.name) × IsPending text data_files tables pending
+IsReadingEnd text data_files tables (ends.Fault fault) = ending text data_files tables ≡ Fails (Model fault)
 
--- a fault of syntax or of data, before anything is printed
+-- the end of a reading is that of an execution
+abbrev pub IsSameEnd : End → ReadingEnd → Type 0
+IsSameEnd (end.Problem model g) (ends.Problem problem rest) = (problem ≡ g.problem) × (rest ≡ record { model = model; columns = g.columns; rows = g.rows })
+IsSameEnd (end.Table model p) (ends.Table pending) = pending ≡ record { model = model; pause = p }
+IsSameEnd (end.Fault fault) (ends.Fault other) = other ≡ fault
+IsSameEnd (end.Problem model g) (ends.Table pending) = ⊥
+IsSameEnd (end.Problem model g) (ends.Fault other) = ⊥
+IsSameEnd (end.Table model p) (ends.Problem problem rest) = ⊥
+IsSameEnd (end.Table model p) (ends.Fault other) = ⊥
+IsSameEnd (end.Fault fault) (ends.Problem problem rest) = ⊥
+IsSameEnd (end.Fault fault) (ends.Table pending) = ⊥
+
+-- the reading of an execution
+pub record IsReadingOf (run : Executing) (r : Reading) : Type 0 where
+  pub printed : string_bytes r.printed ≡ (state_of run).printed
+  pub files : files_of r.files.items ≡ (state_of run).files
+  pub execution : End
+  pub is : IsEnd (result_of run) execution
+  pub end : IsSameEnd execution r.end
+
+-- what a text with these texts of tables comes to, where these files were told before
+pub record IsReading (before : List File) (text : List ℕ) (data_files tables : List (List ℕ)) (r : Reading) : Type 0 where
+  pub made : making text data_files tables ≡ Some (record { printed = string_bytes r.printed; files = before ++ files_of r.files.items })
+  pub end : IsReadingEnd text data_files tables r.end
+
+-- a fault of syntax or of data, before anything is made
 abbrev pub IsUnreadable : List ℕ → List (List ℕ) → ReadError MathProgFault → Type 0
-IsUnreadable text data_files (Fault fault) = (declared text data_files ≡ Err fault) × (printed text data_files ≡ None)
+IsUnreadable text data_files (Fault fault) = (tables : List (List ℕ)) → executing text data_files tables ≡ Err fault
 IsUnreadable text data_files NoMemory = Unit {0}
-
--- the end of an execution
-abbrev pub IsExecuted : LoadedModel → ReadingEnd → Type 0
-IsExecuted model (ends.Problem problem rest) = (generated model ≡ Ok problem) × ((rest.model ≡ model) × HasMembers (drafted model) rest)
-IsExecuted model (ends.Fault fault) = generated model ≡ Err fault
 
 abbrev pub IsNotLoaded : Result LoadedModel MathProgFault → ReadError MathProgFault → Type 0
 IsNotLoaded right (Fault fault) = right ≡ Err fault

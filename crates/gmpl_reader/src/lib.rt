@@ -1,4 +1,4 @@
-//! Reads MathProg texts with their data: the problems that they declare, and what they print.
+//! Reads MathProg texts with their data: the problems that they declare, and what they print and make.
 #![tactic(auto)]
 
 mod data;
@@ -6,5 +6,5 @@ mod fault;
 mod read;
 
 pub use fault::MathProgFault;
-pub use gmpl_generate::Afterwards;
-pub use read::{Reading, ReadingEnd, Rest, after_solve, read_math_prog};
+pub use gmpl_generate::{Afterwards, TableFile};
+pub use read::{Pending, Reading, ReadingEnd, Rest, after_solve, read_math_prog, read_on};

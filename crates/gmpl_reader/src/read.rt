@@ -1,18 +1,21 @@
-// From a text to a problem, and to what is printed.
-ghost use Rattle.std.specs.Prelude.{◌≡◌, List, length, map, string_bytes, ℕ, IfOk, IfErr, Ok, Err, Some};
+// From a text to a problem, and to what is printed and made.
+ghost use Rattle.std.specs.Prelude.{◌≡◌, ◌++◌, ◌∷◌, [], List, length, map, string_bytes, ℕ, IfOk, IfErr, Ok, Err, Some};
 ghost use Rattle.milp.specs.Problem.{Problem};
 ghost use Rattle.gmpl_load.specs.Tables.{Tables};
 ghost use Rattle.gmpl_reader.specs.Data as spec_data;
 ghost use Rattle.gmpl_reader.specs.MathProg as spec;
-ghost use Rattle.gmpl_reader.specs.MathProg.{IsExecuted, IsNoModel, IsNotLoaded, IsReadingEnd, IsRest, IsUnreadable, afterwards, declared, loaded, printed};
+ghost use Rattle.gmpl_reader.specs.MathProg.{Declares, IsNoModel, IsNotLoaded, IsPending, IsReading, IsRest, IsUnreadable, afterwards, ending, loaded, making};
 ghost use Rattle.gmpl_rows.specs.Premises.{AreObjects};
-ghost use Rattle.gmpl_generate.specs.Problem.{all_declared, drafted, printed_by, IsEnd};
-ghost use Rattle.gmpl_generate.specs.Solved.{RowsFit};
+ghost use Rattle.gmpl_generate.specs.Problem.{Executing, all_declared, execution, IsExecuted};
+ghost use Rattle.gmpl_generate.specs.Running.{File};
+ghost use Rattle.gmpl_generate.specs.Solved.{RowsFit, made_after};
 
 use crate::data::given;
 use crate::fault::MathProgFault;
 use gmpl_data::{DataTables, LoadedModel};
-use gmpl_generate::{Afterwards, End, Executed, Generated, ModelFault, generate};
+use gmpl_generate::{
+    Afterwards, End, Executed, Generated, ModelFault, Pause, TableFile, generate, resume,
+};
 use gmpl_lexer::read_tokens;
 use gmpl_object_names::objects_have_names;
 use gmpl_parse::{Model, ParseError, parse};
@@ -21,18 +24,22 @@ use instance::{Instance, Point};
 use model_text::ReadError;
 use std::alloc::{AllocError, Global};
 
-/// What the execution of a text comes to, up to `solve`.
+/// What the execution of a text comes to, up to where it stops.
 #[derive(Drop)]
 pub struct Reading {
-    /// What its statements print.
+    /// What its statements print, from the first on.
     pub printed: String,
+    /// The files that its statements make, in order; behind a table that was read those that are made from there on.
+    pub files: Vec<TableFile>,
     pub end: ReadingEnd,
 }
 
-/// The problem that a text declares, with what the statements behind `solve` need, or the first statement that cannot be executed.
+/// The problem that a text declares, with what the statements behind `solve` need; the table whose file is to be read; or the first
+/// statement that cannot be executed.
 #[derive(Drop)]
 pub enum ReadingEnd {
     Problem(Instance, Rest),
+    Table(Pending),
     Fault(ModelFault),
 }
 
@@ -45,9 +52,16 @@ pub struct Rest {
     pub rows: Vec<Member>,
 }
 
-/// What a MathProg text comes to with these texts of data files, in their order: what its execution prints up to `solve`, and the
-/// problem that it declares, or the first statement that cannot be executed. Where there are no files, the data section of the text
-/// counts, and else it is passed over.
+/// An execution that is to go on behind a table, whose file has the name of the pause.
+#[derive(Drop)]
+pub struct Pending {
+    pub model: LoadedModel,
+    pub pause: Pause,
+}
+
+/// What a MathProg text comes to with these texts of data files, in their order: what its execution prints and makes up to `solve`
+/// or to the first table that is to be read, and the problem that it declares, or the first statement that cannot be executed. Where
+/// there are no files, the data section of the text counts, and else it is passed over.
 /// `Fault` comes exactly where the definition of the language has that fault of the text's tokens and statements, or else of the
 /// data; `NoMemory` may come anywhere.
 pub fn read_math_prog(
@@ -55,14 +69,29 @@ pub fn read_math_prog(
     text: &[u8],
     data_texts: &[Vec<u8>],
 ) -> Result<Reading, ReadError<MathProgFault>>
-    ensures printed { IfOk result (λ r. printed text.now (map (λ file. file.items) data_texts.now) ≡ Some (string_bytes r.printed)) }
-    ensures end { IfOk result (λ r. IsReadingEnd text.now (map (λ file. file.items) data_texts.now) r.end) }
+    ensures reading { IfOk result (IsReading [] text.now (map (λ file. file.items) data_texts.now) []) }
     ensures fault { IfErr result (IsUnreadable text.now (map (λ file. file.items) data_texts.now)) }
 {
     match loaded_model(alloc, text, data_texts) {
         Ok(model) => Ok(executed(alloc, model)?),
         Err(error) => Err(error),
     }
+}
+
+/// What the text comes to with the text of one more table's file, at which its execution paused, having printed this.
+/// Errors: want of memory.
+pub fn read_on(
+    alloc: Global,
+    pending: Pending,
+    printed: String,
+    table_text: &[u8],
+) -> Result<Reading, AllocError>
+    ensures { IfOk result (λ r. (text : List ℕ) (data_texts tables : List (List ℕ)) (before : List File)
+        → making text data_texts tables ≡ Some (record { printed = string_bytes printed; files = before })
+        → IsPending text data_texts tables pending → IsReading before text data_texts (tables ++ table_text.now ∷ []) r) }
+{
+    let Pending { model, pause } = pending;
+    Ok(reading_of(resume(alloc, model, pause, printed, table_text)?))
 }
 
 // The model that a text is.
@@ -133,42 +162,50 @@ fn loaded_model(
 // What the execution of a model comes to.
 fn executed(alloc: Global, model: LoadedModel) -> Result<Reading, AllocError>
     requires { AreObjects (all_declared model) }
-    ensures printed { IfOk result (λ r. printed_by model ≡ string_bytes r.printed) }
-    ensures end { IfOk result (λ r. IsExecuted model r.end) }
+    ensures { IfOk result (spec.IsReadingOf (execution model)) }
 {
-    let Executed { printed, end } = generate(alloc, &model)?;
-    let end = ended(model, end);
-    Ok(Reading { printed, end })
+    Ok(reading_of(generate(alloc, model)?))
 }
 
-fn ended(model: LoadedModel, end: End) -> ReadingEnd
-    requires { IsEnd (drafted model) end }
-    ensures { IsExecuted model result }
+fn reading_of(executed: Executed) -> Reading
+    ensures { (run : Executing) → IsExecuted run executed → spec.IsReadingOf run result }
+{
+    let Executed {
+        printed,
+        files,
+        end,
+    } = executed;
+    Reading {
+        printed,
+        files,
+        end: reading_end(end),
+    }
+}
+
+fn reading_end(end: End) -> ReadingEnd
+    ensures { spec.IsSameEnd end result }
 {
     match end {
-        End::Problem(made) => {
+        End::Problem(model, made) => {
             let Generated {
                 problem,
                 columns,
                 rows,
             } = made;
-            ReadingEnd::Problem(
-                problem,
-                Rest {
-                    model,
-                    columns,
-                    rows,
-                },
-            )
+            let rest = Rest {
+                model,
+                columns,
+                rows,
+            };
+            ReadingEnd::Problem(problem, rest)
         }
-        End::Fault(fault) => {
-            std::mem::drop(model);
-            ReadingEnd::Fault(fault)
-        }
+        End::Table(model, pause) => ReadingEnd::Table(Pending { model, pause }),
+        End::Fault(fault) => ReadingEnd::Fault(fault),
     }
 }
 
-/// What the statements behind `solve` print at a point of the problem that a text declares, and the first that cannot be executed.
+/// What the statements behind `solve` print and make at a point of the problem that a text declares, and the first that cannot be
+/// executed.
 /// Errors: want of memory.
 pub fn after_solve(
     alloc: Global,
@@ -178,7 +215,7 @@ pub fn after_solve(
 ) -> Result<Afterwards, AllocError>
     requires size { length point.now ≡ length problem.now.columns }
     requires rows { RowsFit point.now problem.now.rows }
-    ensures { IfOk result (λ a. (text : List ℕ) (files : List (List ℕ)) (p : Problem) → declared text files ≡ Ok p → IsRest text files rest → p.rows ≡ problem.now.rows → afterwards text files point.now ≡ Some (string_bytes a.printed, a.fault)) }
+    ensures { IfOk result (λ a. (text : List ℕ) (files tables : List (List ℕ)) (p : Problem) → ending text files tables ≡ Declares p → IsRest text files tables rest → p.rows ≡ problem.now.rows → afterwards text files tables point.now ≡ Some (made_after a, a.fault)) }
 {
     let Rest {
         model,

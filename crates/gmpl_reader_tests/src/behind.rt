@@ -4,14 +4,14 @@ ghost use Rattle.gmpl_generate.specs.Solved.{RowsFit};
 
 use crate::words::{fault_word, read};
 use fraction::Frac;
-use gmpl_reader::{Afterwards, MathProgFault, Reading, ReadingEnd, Rest, after_solve};
+use gmpl_reader::{Afterwards, MathProgFault, Reading, ReadingEnd, Rest, TableFile, after_solve};
 use instance::{Instance, Point, activity};
 use std::alloc::{AllocError, Global};
 use std::process::Abort;
 use std::test::Fail;
 
-// A row has what is printed, where `$` ends a line, with the fault behind it where there is one; the point; and a model. By hand
-// after the language reference, and the worked rows of the scope.
+// A row has what is printed, where `$` ends a line, with the files behind it that are made, as `[name: text]`, and the fault where
+// there is one; the point; and a model. By hand after the language reference, and the worked rows of the scope.
 const BEHIND: &str = "\
 1=2 2=1 3=0 $ => 2 1 0 => set I := 1..3; param c{i in I} := i*i; var x{I} >= 0, <= 2; minimize z: sum{i in I} c[i]*x[i]; s.t. r: sum{i in I} x[i] >= 3; solve; printf{i in I}: \"%d=%g \", i, x[i].val; printf \"\\n\"; end;
 x[1] = 2$x[2] = 1$x[3] = 0$z = 6$r = 3$ => 2 1 0 => set I := 1..3; var x{I} >= 0, <= 2; minimize z: sum{i in I} i*i*x[i]; s.t. r: sum{i in I} x[i] >= 3; solve; display x, z, r; end;
@@ -24,6 +24,8 @@ r[1] = 3$r[2] = 7$3 7 2 => 3 7 => var x{1..2}; s.t. r{i in 1..2}: x[i] >= i; sol
 7 => 5 => param p := 7; var x; s.t. r: x >= 1; printf 'a'; solve; param q := p; printf '%d', q; end;
 1:2 2:3 => 2 3 => var x{1..2}; s.t. r{i in 1..2}: x[i] >= i; solve; for{i in 1..2} { check: x[i] > i; printf if i = 1 then '%d:%d ' else '%d:%d', i, x[i]; } end;
 display = 5$ => 2 3 => var x{1..2}; s.t. r: x[1] + x[2] >= 1; solve; display x[1] + x[2]; end;
+ab[o.csv: i,x$1,5$2,10$] => 5 => var x; s.t. r: x >= 1; solve; printf 'a'; table t{i in 1..2} OUT 'CSV' 'o.csv': i, i*x ~ x; printf 'b'; end;
+a[b.csv: x$5$]model fault: statement 6, line 1: DivZero => 5 => var x; s.t. r: x >= 1; solve; printf 'a'; table t{i in 1..1} OUT 'CSV' 'b.csv': x; table u{i in 1..1} OUT 'CSV' 'c.csv': 1/(x-5) ~ y; end;
  => 1 => var x; s.t. r: x >= 1; printf 'a'; end;
 ";
 
@@ -51,10 +53,28 @@ fn point_of(alloc: Global, text: &str) -> Result<Point, AllocError> {
     Ok(Point::from_vec(numbers))
 }
 
-// What is printed, and the fault behind it.
+// Files that are made, each as `[name: text]`.
+fn push_files(alloc: Global, told: &mut String, files: &[TableFile]) -> Result<(), AllocError> {
+    for file in files {
+        let name = file.name.as_str();
+        match String::from_utf8(file.text.to_vec(alloc)?) {
+            Ok(text) => told.push_str(format!(in alloc; "[{name}: {text}]")?.as_str())?,
+            Err(_) => told.push_str("[no text]")?,
+        }
+    }
+    Ok(())
+}
+
+// What is printed, the files that are made, and the fault behind them.
 fn after_word(alloc: Global, after: Afterwards) -> Result<String, AllocError> {
-    let Afterwards { printed, fault } = after;
-    let mut word = printed.as_str().replace(alloc, "\n", "$")?;
+    let Afterwards {
+        printed,
+        files,
+        fault,
+    } = after;
+    let mut told = printed;
+    push_files(alloc, &mut told, &files)?;
+    let mut word = told.as_str().replace(alloc, "\n", "$")?;
     if let Some(fault) = fault {
         let fault = fault_word(alloc, MathProgFault::Model(fault))?;
         word.push_str(fault.as_str())?;
@@ -82,10 +102,14 @@ fn behind(alloc: Global, text: &str, point: &Point) -> Result<String, AllocError
     let Ok(reading) = read(alloc, text, "@@")? else {
         return "no model".to_string(alloc);
     };
-    let Reading { printed: _, end } = reading;
+    let Reading {
+        printed: _,
+        files: _,
+        end,
+    } = reading;
     match end {
         ReadingEnd::Problem(problem, rest) => at_point(alloc, &problem, rest, point),
-        ReadingEnd::Fault(_) => "no problem".to_string(alloc),
+        ReadingEnd::Table(_) | ReadingEnd::Fault(_) => "no problem".to_string(alloc),
     }
 }
 

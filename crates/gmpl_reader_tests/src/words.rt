@@ -125,6 +125,7 @@ pub(crate) fn fault_word(alloc: Global, fault: MathProgFault) -> Result<String, 
 fn end_word(alloc: Global, end: ReadingEnd) -> Result<String, AllocError> {
     match end {
         ReadingEnd::Problem(problem, _rest) => problem_word(alloc, &problem),
+        ReadingEnd::Table(_) => "?".to_string(alloc),
         ReadingEnd::Fault(fault) => fault_word(alloc, MathProgFault::Model(fault)),
     }
 }

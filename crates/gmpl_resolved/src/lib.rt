@@ -11,6 +11,6 @@ mod statement;
 
 pub use expression::{Component, Entry, Expr, Indexing, Link, Meaning};
 pub use statement::{
-    Action, Attribute, Constraint, Declaration, Head, Numbered, NumberedStep, Objective, Statement,
-    Statements, Step,
+    Action, Attribute, Constraint, Declaration, Head, InputColumn, Numbered, NumberedStep,
+    Objective, OutputColumn, Statement, Statements, Step, TableInput, TableOutput,
 };

@@ -68,6 +68,39 @@ pub enum Statement {
     Objective(Objective),
 }
 
+/// A field that a table writes: an expression, and the field's name.
+#[derive(Drop)]
+pub struct OutputColumn {
+    pub value: Expr,
+    pub field: Text,
+}
+
+/// `table OUT`: a record for each element of the domain, written to a file. The indices of the domain are in scope in the columns,
+/// and not in the name of the file.
+#[derive(Drop)]
+pub struct TableOutput {
+    pub file: Expr,
+    pub domain: Indexing,
+    pub columns: Items<OutputColumn>,
+}
+
+/// A parameter to which a table gives values, by its place among the objects, with the field that they stand in.
+#[derive(Drop)]
+pub struct InputColumn {
+    pub parameter: usize,
+    pub field: Text,
+}
+
+/// `table IN`: the file that is read, the place of the set that the keys join, where there is one, the fields that make the key,
+/// and the columns.
+#[derive(Drop)]
+pub struct TableInput {
+    pub file: Expr,
+    pub set: Option<usize>,
+    pub keys: Items<Text>,
+    pub columns: Items<InputColumn>,
+}
+
 /// A statement that is executed and declares nothing. It may stand in a `for`.
 #[cycle(actions)]
 #[derive(Drop)]
@@ -78,6 +111,7 @@ pub enum Action {
     Display(Option<Indexing>, Items<Expr>),
     /// A domain, and what is printed at each of its elements: a format, and behind it its arguments.
     Printf(Option<Indexing>, Items<Expr>),
+    TableOutput(TableOutput),
     /// The domains of one or more heads, the outer first, then what they govern.
     For(Items<Indexing>, Items<Action>),
 }
@@ -86,6 +120,8 @@ pub enum Action {
 #[derive(Drop)]
 pub enum Step {
     Action(Action),
+    /// What a table gives is added to the data. It stands before `solve`.
+    TableInput(TableInput),
     /// The problem is solved.
     Solve,
 }

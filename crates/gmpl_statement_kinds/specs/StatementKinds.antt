@@ -1,14 +1,14 @@
 -- The kinds and dimensions of statements (GNU MathProg Language Reference, chapter on statements): the object that a statement
 -- declares, or its first fault. Statements are judged in order, and it counts whether `solve` stands before: behind it, values of
 -- variables, constraints and objectives are known.
-use Rattle.std.specs.Prelude.{ℕ, Bool, true, false, ◌&&◌, nat_le, unsigned_abs, if◌then◌else◌, List, [], ◌∷◌, ◌++◌, map, Option, Some, None, Result, Ok, Err}
+use Rattle.std.specs.Prelude.{ℕ, ◌==◌, Bool, true, false, ◌&&◌, nat_le, unsigned_abs, if◌then◌else◌, List, [], ◌∷◌, ◌++◌, length, map, slice_get, Option, Some, None, Result, Ok, Err}
 use Rattle.rational.specs.Rational.{Rational}
 use Rattle.rational.specs.Compare.{is_whole}
 use Rattle.gmpl_syntax.specs.declared.expression.Relation.{Relation}
 use Rattle.gmpl_syntax.specs.declared.expression.Relation.TheVariants as r
 use Rattle.gmpl_syntax.specs.declared.fault.SyntaxFault.{SyntaxFault}
 use Rattle.gmpl_syntax.specs.declared.fault.SyntaxFaultKind.{SyntaxFaultKind}
-use Rattle.gmpl_syntax.specs.declared.fault.SyntaxFaultKind.TheVariants.{WrongDimension}
+use Rattle.gmpl_syntax.specs.declared.fault.SyntaxFaultKind.TheVariants.{WrongKind, WrongDimension}
 use Rattle.gmpl_resolved.specs.declared.expression.Meaning.TheVariants as m
 use Rattle.gmpl_resolved.specs.declared.expression.Expr.{Expr, out-Expr}
 use Rattle.gmpl_resolved.specs.declared.expression.Component.{Component}
@@ -23,6 +23,10 @@ use Rattle.gmpl_resolved.specs.declared.statement.Constraint.{Constraint}
 use Rattle.gmpl_resolved.specs.declared.statement.Objective.{Objective}
 use Rattle.gmpl_resolved.specs.declared.statement.Statement.{Statement}
 use Rattle.gmpl_resolved.specs.declared.statement.Statement.TheVariants as s
+use Rattle.gmpl_resolved.specs.declared.statement.OutputColumn.{OutputColumn}
+use Rattle.gmpl_resolved.specs.declared.statement.TableOutput.{TableOutput}
+use Rattle.gmpl_resolved.specs.declared.statement.InputColumn.{InputColumn}
+use Rattle.gmpl_resolved.specs.declared.statement.TableInput.{TableInput}
 use Rattle.gmpl_resolved.specs.declared.statement.Action.{Action}
 use Rattle.gmpl_resolved.specs.declared.statement.Action.TheOpen.{Action-F}
 use Rattle.gmpl_resolved.specs.declared.statement.Action.TheFolds.{fold-Action}
@@ -100,6 +104,32 @@ object_alone_by _ = None
 
 abbrev pub object_alone : Expr → Option ℕ
 object_alone x = object_alone_by (out-Expr x)
+
+-- ---- the objects to which a table gives data
+
+abbrev pub is_set : Sort → Bool
+is_set sort.Set = true
+is_set _ = false
+
+abbrev pub is_param : Sort → Bool
+is_param sort.Param = true
+is_param _ = false
+
+abbrev pub takes : ℕ → ℕ → Or_fault (Unit {0})
+takes count subscripts = if subscripts == count then Ok tt else Err WrongDimension
+
+abbrev pub has_components : ℕ → Option ℕ → Or_fault (Unit {0})
+has_components count elements = and_then (same_dimension (Some count) elements) (λ _. Ok tt)
+
+-- a set without subscripts, whose elements have a component for each key
+abbrev pub joined : ℕ → Option Object → Or_fault (Unit {0})
+joined count None = Err WrongKind
+joined count (Some object) = if is_set object.sort then and_then (takes 0 object.subscripts) (λ _. has_components count object.elements) else Err WrongKind
+
+-- a parameter with a subscript for each key
+abbrev pub parameter : ℕ → Option Object → Or_fault (Unit {0})
+parameter count None = Err WrongKind
+parameter count (Some object) = if is_param object.sort then takes count object.subscripts else Err WrongKind
 
 module _ (objects : List Object) where
   -- how many subscripts the object takes
@@ -211,6 +241,13 @@ module _ (objects : List Object) where
   unfoldable pub printf : Site → Option Indexing → List Expr → Or_fault (Unit {0})
   printf site domain xs = and_then (subscripts site domain) (λ _. and_then (all_scalars (shapes_of objects site xs)) (λ _. Ok tt))
 
+  -- what a table writes: the file's name, and a scalar for each field
+  abbrev pub values : Site → List OutputColumn → Or_fault (Unit {0})
+  values site xs = each (map (λ column. scalar_at site column.value) xs)
+
+  unfoldable pub table_output : Site → TableOutput → Or_fault (Unit {0})
+  table_output site t = and_then (scalar_at site t.file) (λ _. and_then (indexing_dimension (indexing_parts objects site t.domain)) (λ _. values site t.columns))
+
   abbrev pub heads : Site → List Indexing → Or_fault (Unit {0})
   heads site xs = each (map (λ x. indexing_dimension (indexing_parts objects site x)) xs)
 
@@ -218,6 +255,7 @@ module _ (objects : List Object) where
   action_step site (Action-F.Check domain x) = check site domain x
   action_step site (Action-F.Display domain xs) = display site domain xs
   action_step site (Action-F.Printf domain xs) = printf site domain xs
+  action_step site (Action-F.TableOutput t) = table_output site t
   action_step site (Action-F.For over body) = and_then (heads site over) (λ _. each body)
 
   abbrev pub action : Site → Action → Or_fault (Unit {0})
@@ -230,9 +268,22 @@ module _ (objects : List Object) where
   unfoldable pub executed : Bool → Action → Or_fault (Unit {0})
   executed solved x = action (plain solved) x
 
+  -- the set that so many keys join
+  abbrev pub optional_joined : ℕ → Option ℕ → Or_fault (Unit {0})
+  optional_joined count None = Ok tt
+  optional_joined count (Some place) = joined count (slice_get objects place)
+
+  -- parameters to which records of so many keys give values
+  abbrev pub parameters : ℕ → List InputColumn → Or_fault (Unit {0})
+  parameters count xs = each (map (λ column. parameter count (slice_get objects column.parameter)) xs)
+
+  unfoldable pub table_input : Bool → TableInput → Or_fault (Unit {0})
+  table_input solved t = and_then (scalar_at (plain solved) t.file) (λ _. and_then (optional_joined (length t.keys) t.set) (λ _. parameters (length t.keys) t.columns))
+
   -- whether `solve` stands before what follows
   abbrev pub behind : Bool → Step → Or_fault Bool
   behind solved (step.Action x) = and_then (executed solved x) (λ _. Ok solved)
+  behind solved (step.TableInput t) = and_then (table_input solved t) (λ _. Ok solved)
   behind solved step.Solve = Ok true
 
   abbrev pub behind_all : Bool → List NumberedStep → Result Bool SyntaxFault

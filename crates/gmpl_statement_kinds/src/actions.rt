@@ -3,6 +3,7 @@ ghost use Rattle.std.specs.Prelude.{◌≡◌};
 ghost use Rattle.gmpl_statement_kinds.specs.StatementKinds as spec;
 
 use crate::attributes::{logic_at, subscripts};
+use crate::tables::table_output;
 use gmpl_kinds::{
     Object, Shape, Site, all_scalars, as_branch, indexing_dimension, shape_of, whole_object,
 };
@@ -103,6 +104,7 @@ pub(crate) fn action(objects: &[Object], site: Site, whole: &Action) -> Result<(
         Action::Check(domain, condition) => check(objects, site, domain, condition),
         Action::Display(domain, items) => display(objects, site, domain, items.as_slice()),
         Action::Printf(domain, arguments) => printf(objects, site, domain, arguments.as_slice()),
+        Action::TableOutput(table) => table_output(objects, site, table),
         Action::For(over, body) => {
             heads(objects, site, over.as_slice())?;
             actions(objects, site, body.as_slice())

@@ -8,6 +8,7 @@ mod attributes;
 mod judgement;
 mod sites;
 mod statements;
+mod tables;
 
 pub use judgement::Judgement;
 pub use statements::judge_statements;

@@ -6,6 +6,7 @@ use crate::actions::action;
 use crate::attributes::{scalar_at, set_dimension, subscripts, value_attributes};
 use crate::judgement::Judgement;
 use crate::sites::{beside, linear, plain, set_of, value_of};
+use crate::tables::table_input;
 use gmpl_kinds::{Object, Shape, Sort};
 use gmpl_resolved::{
     Action, Constraint, Declaration, Numbered, NumberedStep, Objective, Statement, Statements, Step,
@@ -104,6 +105,10 @@ fn behind(objects: &[Object], solved: bool, whole: &Step) -> Result<bool, Syntax
     match whole {
         Step::Action(whole) => {
             executed(objects, solved, whole)?;
+            Ok(solved)
+        }
+        Step::TableInput(whole) => {
+            table_input(objects, solved, whole)?;
             Ok(solved)
         }
         Step::Solve => Ok(true),

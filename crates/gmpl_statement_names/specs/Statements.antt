@@ -4,7 +4,7 @@ use Rattle.std.specs.Prelude.{◌≡◌, ℕ, ◌+◌, codes, if◌then◌else�
 use Rattle.std.specs.Str.{bytes_eq}
 use Rattle.gmpl_syntax.specs.Index.{Root}
 use Rattle.gmpl_syntax.specs.declared.fault.SyntaxFault.{SyntaxFault}
-use Rattle.gmpl_syntax.specs.declared.fault.SyntaxFaultKind.TheVariants.{Declared, Unsupported}
+use Rattle.gmpl_syntax.specs.declared.fault.SyntaxFaultKind.TheVariants.{Undeclared, Declared, Unsupported}
 use Rattle.gmpl_syntax.specs.declared.expression.Expr.{Expr, out-Expr}
 use Rattle.gmpl_syntax.specs.declared.expression.Component.TheOpen.{Expr-F}
 use Rattle.gmpl_syntax.specs.declared.expression.Indexing.{Indexing}
@@ -35,32 +35,26 @@ use Rattle.gmpl_resolved.specs.declared.statement.Constraint.{Constraint as Reso
 use Rattle.gmpl_resolved.specs.declared.statement.Objective.{Objective as ResolvedObjective}
 use Rattle.gmpl_resolved.specs.declared.statement.Statement.{Statement as ResolvedStatement}
 use Rattle.gmpl_resolved.specs.declared.statement.Statement.TheVariants as rs
+use Rattle.gmpl_resolved.specs.declared.statement.OutputColumn.{OutputColumn as ResolvedOutputColumn}
+use Rattle.gmpl_resolved.specs.declared.statement.InputColumn.{InputColumn as ResolvedInputColumn}
+use Rattle.gmpl_resolved.specs.declared.statement.TableInput.{TableInput as ResolvedTableInput}
 use Rattle.gmpl_resolved.specs.declared.statement.Action.{Action as ResolvedAction}
 use Rattle.gmpl_resolved.specs.declared.statement.Action.TheVariants as ract
 use Rattle.gmpl_resolved.specs.declared.statement.Step.TheVariants as step
 use Rattle.gmpl_resolved.specs.declared.statement.Statements.{Statements as ResolvedStatements}
 use Rattle.gmpl_names.specs.declared.error.NamesError.{NamesError}
 use Rattle.gmpl_names.specs.declared.error.NamesError.TheVariants.{Fault, NoMemory}
-use Rattle.gmpl_names.specs.Names.{Name, has, with_name}
-use Rattle.gmpl_names.specs.Meanings.{Or_fault, used}
+use Rattle.gmpl_names.specs.Names.{Name, place_of, has, with_name}
+use Rattle.gmpl_names.specs.Meanings.{Or_fault}
 use Rattle.gmpl_names.specs.Expressions.{Outcome, Pass, ◌>>=◌, pure, ◌<$>◌, beside, all, within, expr, exprs, indexing}
 use Rattle.gmpl_statement_names.specs.declared.resolved.Resolved.{Resolved}
 use Rattle.gmpl_statement_names.specs.declared.resolved.Resolved.TheVariants as made
 
 -- ---- passes over parts
 
-abbrev pub known : {A : Type 0} → Or_fault A → Or_fault (Unit {0})
-known (Ok a) = Ok tt
-known (Err fault) = Err fault
-
 infixl 10 ◌>>◌
 abbrev pub ◌>>◌ : {A B : Type 0} → Pass A → Pass B → Pass B
 p >> q = p >>= (λ _. q)
-
--- parts from the left, of which nothing is kept
-abbrev pub each : {A : Type 0} → List (Pass A) → Pass (Unit {0})
-each [] = pure tt
-each (p ∷ ps) = p >>= (λ _. each ps)
 
 -- ---- parts of statements
 
@@ -68,8 +62,27 @@ each (p ∷ ps) = p >>= (λ _. each ps)
 abbrev pub driver : Name → Pass (Unit {0})
 driver name = beside (if bytes_eq name (codes "CSV") then Ok tt else Err Unsupported)
 
-abbrev pub unsupported : {A : Type 0} → Pass A
-unsupported = λ scope. Err Unsupported
+-- a name alone; what else stands without a field is no tree of the grammar
+abbrev pub name_alone_by : Root → Or_fault Name
+name_alone_by (Expr-F.Named name [] None) = Ok name
+name_alone_by _ = Err Unsupported
+
+abbrev pub name_alone : Expr → Or_fault Name
+name_alone x = name_alone_by (out-Expr x)
+
+-- the field that a column is written to: the one behind `~`, or the name alone that the column is
+abbrev pub written_field : Expr → Option Name → Or_fault Name
+written_field value None = name_alone value
+written_field value (Some field) = Ok field
+
+-- the field that a parameter is read from: the one behind `~`, or that of the parameter's name
+abbrev pub read_field : Name → Option Name → Name
+read_field parameter None = parameter
+read_field parameter (Some field) = field
+
+abbrev pub placed : Option ℕ → Or_fault ℕ
+placed None = Err Undeclared
+placed (Some place) = Ok place
 
 -- what a `printf` prints: its list may stand in one pair of parentheses
 abbrev pub listed_by : Root → List Expr → List Expr
@@ -129,41 +142,51 @@ module _ (objects : List Name) where
     f ← expr objects x.form
     pure (record { direction = x.direction; head = h; form = f })
 
-  -- ---- tables, which are not supported so far: what is wrong inside comes first
+  -- ---- tables
 
-  abbrev pub new_name : Name → Pass (Unit {0})
-  new_name name = beside (if has name objects then Err Declared else Ok tt)
+  -- the place of an object: where a table is read, no index is in scope
+  abbrev pub object : Name → Pass ℕ
+  object name = beside (placed (place_of name objects))
 
-  unfoldable pub known_name : Name → Pass (Unit {0})
-  known_name name scope = beside (known (used objects scope name)) scope
+  abbrev pub optional_object : Option Name → Pass (Option ℕ)
+  optional_object None = pure None
+  optional_object (Some name) = Some <$> object name
 
-  abbrev pub optional_name : Option Name → Pass (Unit {0})
-  optional_name None = pure tt
-  optional_name (Some name) = known_name name
+  unfoldable pub input_column : InputColumn → Pass ResolvedInputColumn
+  input_column column = (λ place. record { parameter = place; field = read_field column.parameter column.field }) <$> object column.parameter
 
-  abbrev pub values : List OutputColumn → Pass (Unit {0})
-  values xs = each (map (λ x. expr objects x.value) xs)
+  abbrev pub input_columns : List InputColumn → Pass (List ResolvedInputColumn)
+  input_columns xs = all (map input_column xs)
 
-  abbrev pub parameters : List InputColumn → Pass (Unit {0})
-  parameters xs = each (map (λ x. known_name x.parameter) xs)
+  abbrev pub output_column : OutputColumn → Pass ResolvedOutputColumn
+  output_column column = do
+    x ← expr objects column.value
+    name ← beside (written_field column.value column.field)
+    pure (record { value = x; field = name })
+
+  abbrev pub output_columns : List OutputColumn → Pass (List ResolvedOutputColumn)
+  output_columns xs = all (map output_column xs)
+
+  -- the domain, whose indices are in scope in the columns, and not in the file
+  unfoldable pub records : ResolvedExpr → TableOutput → Pass ResolvedAction
+  records target t = within do
+    over ← indexing objects t.domain
+    fields ← output_columns t.columns
+    pure (ract.TableOutput (record { file = target; domain = over; columns = fields }))
 
   unfoldable pub table_output : TableOutput → Pass ResolvedAction
   table_output t = do
-    new_name t.name
-    indexing objects t.domain
     driver t.driver
-    expr objects t.file
-    values t.columns
-    unsupported
+    target ← expr objects t.file
+    records target t
 
-  unfoldable pub table_input : TableInput → Pass Resolved
+  unfoldable pub table_input : TableInput → Pass ResolvedTableInput
   table_input t = do
-    new_name t.name
     driver t.driver
-    expr objects t.file
-    optional_name t.set
-    parameters t.columns
-    unsupported
+    source ← expr objects t.file
+    joined ← optional_object t.set
+    fields ← input_columns t.columns
+    pure (record { file = source; set = joined; keys = t.keys; columns = fields })
 
   -- ---- statements that may stand in a `for`: the indices of a domain are in scope in what it governs, and nowhere else
 
@@ -239,8 +262,8 @@ declared_constraint x = declaring x.head.name (λ os. constraint os x)
 abbrev pub declared_objective : Objective → List Name → Judged ResolvedObjective
 declared_objective x = declaring x.head.name (λ os. objective os x)
 
-abbrev pub refused_table : TableInput → List Name → Judged Resolved
-refused_table t objects = alone objects (table_input objects t [])
+abbrev pub read : TableInput → List Name → Judged Resolved
+read t objects = alone objects (((λ x. made.Step (step.TableInput x)) <$> table_input objects t) [])
 
 abbrev pub executed : Action → List Name → Judged Resolved
 executed x objects = alone objects (((λ a. made.Step (step.Action a)) <$> action objects x) [])
@@ -255,10 +278,65 @@ statement (s.Param d) objects = told_as rs.Param (declared d objects)
 statement (s.Var d) objects = told_as rs.Var (declared d objects)
 statement (s.Constraint x) objects = told_as rs.Constraint (declared_constraint x objects)
 statement (s.Objective x) objects = told_as rs.Objective (declared_objective x objects)
-statement (s.TableInput t) objects = refused_table t objects
+statement (s.TableInput t) objects = read t objects
 statement s.Solve objects = Ok (made.Step step.Solve, objects)
 statement (s.Action x) objects = executed x objects
 statement s.Data objects = Ok (made.Nothing, objects)
+
+-- ---- the names of tables, which have no place among the objects
+
+-- a name of a table is none of an object
+abbrev pub declare_table : List Name → Name → List Name → Or_fault (List Name)
+declare_table objects name tables = if has name objects then Err Declared else declare name tables
+
+-- and a name of an object none of a table
+abbrev pub apart : Name → List Name → Or_fault (List Name)
+apart name tables = if has name tables then Err Declared else Ok tables
+
+abbrev pub then_names : {A : Type 0} → Or_fault (List Name) → (List Name → Or_fault A) → Or_fault A
+then_names (Ok names) go = go names
+then_names (Err fault) go = Err fault
+
+abbrev pub in_turn : List (List Name → Or_fault (List Name)) → List Name → Or_fault (List Name)
+in_turn [] tables = Ok tables
+in_turn (p ∷ ps) tables = then_names (p tables) (in_turn ps)
+
+module _ (objects : List Name) where
+  abbrev pub written_step : Action-F (List Name → Or_fault (List Name)) → List Name → Or_fault (List Name)
+  written_step (Action-F.TableOutput t) = declare_table objects t.name
+  written_step (Action-F.For heads body) = in_turn body
+  written_step _ = Ok
+
+  -- of the tables that an action writes, those in a `for` in order
+  abbrev pub written : Action → List Name → Or_fault (List Name)
+  written = fold-Action (List Name → Or_fault (List Name)) written_step
+
+  abbrev pub written_all : List Action → List Name → Or_fault (List Name)
+  written_all xs = in_turn (map written xs)
+
+  -- the names of tables behind a statement
+  abbrev pub tables_behind : Statement → List Name → Or_fault (List Name)
+  tables_behind (s.Set d) = apart d.head.name
+  tables_behind (s.Param d) = apart d.head.name
+  tables_behind (s.Var d) = apart d.head.name
+  tables_behind (s.Constraint x) = apart x.head.name
+  tables_behind (s.Objective x) = apart x.head.name
+  tables_behind (s.TableInput t) = declare_table objects t.name
+  tables_behind s.Solve = Ok
+  tables_behind (s.Action x) = written x
+  tables_behind s.Data = Ok
+
+-- what becomes of a statement, with the names of objects and of tables behind it
+abbrev pub JudgedBoth : Type 0 → Type 0
+JudgedBoth A = Or_fault (A × (List Name × List Name))
+
+abbrev pub with_tables : {A : Type 0} → List Name → Judged A → JudgedBoth A
+with_tables tables (Ok r) = Ok (r.0, (r.1, tables))
+with_tables tables (Err fault) = Err fault
+
+-- the names of its tables come first
+abbrev pub judged : Statement → List Name → List Name → JudgedBoth Resolved
+judged x objects tables = then_names (tables_behind objects x tables) (λ ts. with_tables ts (statement x objects))
 
 -- ---- the statements before the first bad one, and its fault
 
@@ -276,17 +354,18 @@ with_statement all number line made.Nothing = all
 abbrev pub stopped : ResolvedStatements → Option SyntaxFault → ResolvedStatements
 stopped all fault = record { items = all.items; steps = all.steps; fault = fault }
 
-abbrev pub behind : ResolvedStatements → ℕ → ℕ → Judged Resolved → (ResolvedStatements → List Name → ResolvedStatements) → ResolvedStatements
-behind all number line (Ok r) go = go (with_statement all number line r.0) r.1
+abbrev pub behind : ResolvedStatements → ℕ → ℕ → JudgedBoth Resolved → (ResolvedStatements → List Name → List Name → ResolvedStatements) → ResolvedStatements
+behind all number line (Ok r) go = go (with_statement all number line r.0) r.1.0 r.1.1
 behind all number line (Err kind) go = stopped all (Some (record { statement = number; line = line; kind = kind }))
 
 -- behind those that were gone over, so many; behind all of them stands what the first pass found
-abbrev pub statements_from : ResolvedStatements → ℕ → List Name → List Numbered → Option SyntaxFault → ResolvedStatements
-statements_from all count objects [] fault = stopped all fault
-statements_from all count objects (x ∷ xs) fault = behind all (count + 1) x.line (statement x.statement objects) (λ more os. statements_from more (count + 1) os xs fault)
+abbrev pub statements_from : ResolvedStatements → ℕ → List Name → List Name → List Numbered → Option SyntaxFault → ResolvedStatements
+statements_from all count objects tables [] fault = stopped all fault
+statements_from all count objects tables (x ∷ xs) fault =
+    behind all (count + 1) x.line (judged x.statement objects tables) (λ more os ts. statements_from more (count + 1) os ts xs fault)
 
 abbrev pub statements : Statements → ResolvedStatements
-statements whole = statements_from none 0 [] whole.items whole.fault
+statements whole = statements_from none 0 [] [] whole.items whole.fault
 
 -- ---- the code and the definition go the same way; want of memory is free
 
@@ -299,3 +378,8 @@ abbrev pub Declares : Or_fault (List Name) → Result (Unit {0}) NamesError → 
 Declares outcome (Ok _) objects = outcome ≡ Ok objects
 Declares outcome (Err (Fault kind)) objects = outcome ≡ Err kind
 Declares outcome (Err NoMemory) objects = Unit {0}
+
+abbrev pub JudgesBoth : {A : Type 0} → JudgedBoth A → Result A NamesError → List Name → List Name → Type 0
+JudgesBoth outcome (Ok found) objects tables = outcome ≡ Ok (found, (objects, tables))
+JudgesBoth outcome (Err (Fault kind)) objects tables = outcome ≡ Err kind
+JudgesBoth outcome (Err NoMemory) objects tables = Unit {0}

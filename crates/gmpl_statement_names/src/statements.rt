@@ -1,11 +1,12 @@
 // The names of statements, resolved.
 ghost use Rattle.std.specs.Prelude.{◌≡◌, IfOk};
 ghost use Rattle.gmpl_statement_names.specs.Statements as spec;
-ghost use Rattle.gmpl_statement_names.specs.Statements.{Declares, Judges};
+ghost use Rattle.gmpl_statement_names.specs.Statements.{Judges, JudgesBoth};
 
 use crate::actions::action;
 use crate::parts::{constraint, declaration, objective};
 use crate::resolved::{Resolved, none, stopped, with_statement};
+use crate::table_names::{declare, tables_behind};
 use crate::tables::table_input;
 use gmpl_names::{Names, NamesError};
 use gmpl_resolved as resolved;
@@ -13,18 +14,7 @@ use gmpl_syntax::{
     Action, Constraint, Declaration, Objective, Statement, Statements, SyntaxFault,
     SyntaxFaultKind, TableInput,
 };
-use gmpl_text::Text;
 use std::alloc::{AllocError, Global};
-
-fn declare(alloc: Global, objects: &mut Names, name: &Text) -> Result<(), NamesError>
-    ensures { Declares (spec.declare name.now objects.old) result objects.new }
-{
-    if objects.insert(name.as_str().to_string(alloc)?)? {
-        Ok(())
-    } else {
-        Err(NamesError::Fault(SyntaxFaultKind::Declared))
-    }
-}
 
 fn declared(
     alloc: Global,
@@ -62,11 +52,12 @@ fn declared_objective(
     objective(alloc, objects, &mut scope, whole)
 }
 
-fn refused_table(alloc: Global, objects: &Names, whole: &TableInput) -> Result<Resolved, NamesError>
-    ensures { Judges (spec.refused_table whole.now objects.now) result objects.now }
+fn read(alloc: Global, objects: &Names, whole: &TableInput) -> Result<Resolved, NamesError>
+    ensures { Judges (spec.read whole.now objects.now) result objects.now }
 {
     let mut scope = Names::new(alloc);
-    table_input(alloc, objects, &mut scope, whole)
+    let made = table_input(alloc, objects, &mut scope, whole)?;
+    Ok(Resolved::Step(resolved::Step::TableInput(made)))
 }
 
 fn executed(alloc: Global, objects: &Names, whole: &Action) -> Result<Resolved, NamesError>
@@ -96,11 +87,23 @@ fn statement(alloc: Global, objects: &mut Names, whole: &Statement) -> Result<Re
         Statement::Objective(whole) => Ok(Resolved::Declaration(resolved::Statement::Objective(
             declared_objective(alloc, objects, whole)?,
         ))),
-        Statement::TableInput(whole) => refused_table(alloc, objects, whole),
+        Statement::TableInput(whole) => read(alloc, objects, whole),
         Statement::Solve => Ok(Resolved::Step(resolved::Step::Solve)),
         Statement::Action(whole) => executed(alloc, objects, whole),
         Statement::Data => Ok(Resolved::Nothing),
     }
+}
+
+fn judged(
+    alloc: Global,
+    objects: &mut Names,
+    tables: &mut Names,
+    whole: &Statement,
+) -> Result<Resolved, NamesError>
+    ensures { JudgesBoth (spec.judged whole.now objects.old tables.old) result objects.new tables.new }
+{
+    tables_behind(alloc, objects, tables, whole)?;
+    statement(alloc, objects, whole)
 }
 
 /// The statements with their names resolved before the first bad one, with its fault: one of its names, or what the first
@@ -112,9 +115,10 @@ pub fn resolve_statements(
     ensures { IfOk result (λ made. made ≡ spec.statements whole.now) }
 {
     let mut objects = Names::new(alloc);
+    let mut tables = Names::new(alloc);
     let mut made = none(alloc);
     for (place, one) in whole.items.as_slice().iter().enumerate() {
-        match statement(alloc, &mut objects, &one.statement) {
+        match judged(alloc, &mut objects, &mut tables, &one.statement) {
             Ok(statement) => made = with_statement(alloc, made, place + 1, one.line, statement)?,
             Err(NamesError::NoMemory) => return Err(AllocError),
             Err(NamesError::Fault(kind)) => {

@@ -1,13 +1,14 @@
-// Tables are not supported so far: their names are judged, and then they are refused.
-ghost use Rattle.gmpl_names.specs.Expressions.{Follows};
+// The names of tables' parts, resolved.
+ghost use Rattle.std.specs.Prelude.{◌≡◌, IfOk};
+ghost use Rattle.gmpl_names.specs.Expressions.{Follows, Gives};
 ghost use Rattle.gmpl_statement_names.specs.Statements as spec;
 
-use crate::resolved::Resolved;
-use gmpl_names::{Names, NamesError, resolve_expr, resolve_indexing, resolve_name};
-use gmpl_resolved::Action;
-use gmpl_syntax::{InputColumn, OutputColumn, SyntaxFaultKind, TableInput, TableOutput};
+use gmpl_names::{Names, NamesError, resolve_expr, resolve_indexing};
+use gmpl_resolved as resolved;
+use gmpl_syntax::{Expr, InputColumn, OutputColumn, SyntaxFaultKind, TableInput, TableOutput};
 use gmpl_text::Text;
-use std::alloc::Global;
+use sqlite_items::Items;
+use std::alloc::{AllocError, Global};
 
 fn driver(scope: &Names, name: &Text) -> Result<(), NamesError>
     ensures { Follows (spec.driver name.now scope.now) result scope.now }
@@ -19,86 +20,188 @@ fn driver(scope: &Names, name: &Text) -> Result<(), NamesError>
     }
 }
 
-fn new_name(objects: &Names, scope: &Names, name: &Text) -> Result<(), NamesError>
-    ensures { Follows (spec.new_name objects.now name.now scope.now) result scope.now }
+// ---- a table that is read
+
+fn object(objects: &Names, scope: &Names, name: &Text) -> Result<usize, NamesError>
+    ensures { Follows (spec.object objects.now name.now scope.now) result scope.now }
 {
-    if objects.has(name.as_str()) {
-        Err(NamesError::Fault(SyntaxFaultKind::Declared))
-    } else {
-        Ok(())
+    match objects.place(name.as_str()) {
+        None => Err(NamesError::Fault(SyntaxFaultKind::Undeclared)),
+        Some(place) => Ok(place),
     }
 }
 
-#[tactic(auto, unfolding(crate::specs::Statements::known_name))]
-fn known_name(objects: &Names, scope: &Names, name: &Text) -> Result<(), NamesError>
-    ensures { Follows (spec.known_name objects.now name.now scope.now) result scope.now }
-{
-    resolve_name(objects, scope, name.as_str())?;
-    Ok(())
-}
-
-fn optional_name(objects: &Names, scope: &Names, name: &Option<Text>) -> Result<(), NamesError>
-    ensures { Follows (spec.optional_name objects.now name.now scope.now) result scope.now }
+fn optional_object(
+    objects: &Names,
+    scope: &Names,
+    name: &Option<Text>,
+) -> Result<Option<usize>, NamesError>
+    ensures { Follows (spec.optional_object objects.now name.now scope.now) result scope.now }
 {
     match name {
-        None => Ok(()),
-        Some(name) => known_name(objects, scope, name),
+        None => Ok(None),
+        Some(name) => Ok(Some(object(objects, scope, name)?)),
     }
 }
 
-fn values(
+fn read_field(alloc: Global, parameter: &Text, field: &Option<Text>) -> Result<Text, AllocError>
+    ensures { IfOk result (λ made. made ≡ spec.read_field parameter.now field.now) }
+{
+    match field {
+        None => parameter.copied(alloc),
+        Some(field) => field.copied(alloc),
+    }
+}
+
+#[tactic(auto, unfolding(crate::specs::Statements::input_column))]
+fn input_column(
     alloc: Global,
     objects: &Names,
-    scope: &mut Names,
-    all: &[OutputColumn],
-) -> Result<(), NamesError>
-    ensures { Follows (spec.values objects.now all.now scope.old) result scope.new }
+    scope: &Names,
+    whole: &InputColumn,
+) -> Result<resolved::InputColumn, NamesError>
+    ensures { Follows (spec.input_column objects.now whole.now scope.now) result scope.now }
 {
-    for one in all {
-        resolve_expr(alloc, objects, scope, &one.value)?;
-    }
-    Ok(())
+    let parameter = object(objects, scope, &whole.parameter)?;
+    let field = read_field(alloc, &whole.parameter, &whole.field)?;
+    Ok(resolved::InputColumn { parameter, field })
 }
 
-fn parameters(objects: &Names, scope: &Names, all: &[InputColumn]) -> Result<(), NamesError>
-    ensures { Follows (spec.parameters objects.now all.now scope.now) result scope.now }
-{
-    for one in all {
-        known_name(objects, scope, &one.parameter)?;
-    }
-    Ok(())
-}
-
-#[tactic(auto, unfolding(crate::specs::Statements::table_output))]
-pub(crate) fn table_output(
+fn input_columns(
     alloc: Global,
     objects: &Names,
-    scope: &mut Names,
-    whole: &TableOutput,
-) -> Result<Action, NamesError>
-    ensures { Follows (spec.table_output objects.now whole.now scope.old) result scope.new }
+    scope: &Names,
+    all: &[InputColumn],
+) -> Result<Items<resolved::InputColumn>, NamesError>
+    ensures { Follows (spec.input_columns objects.now all.now scope.now) result scope.now }
 {
-    new_name(objects, scope, &whole.name)?;
-    resolve_indexing(alloc, objects, scope, &whole.domain)?;
-    driver(scope, &whole.driver)?;
-    resolve_expr(alloc, objects, scope, &whole.file)?;
-    values(alloc, objects, scope, whole.columns.as_slice())?;
-    Err(NamesError::Fault(SyntaxFaultKind::Unsupported))
+    let mut made = Items::new(alloc);
+    for one in all {
+        made.push(input_column(alloc, objects, scope, one)?)?;
+    }
+    Ok(made)
 }
 
+fn copied(alloc: Global, all: &[Text]) -> Result<Items<Text>, AllocError>
+    ensures { IfOk result (λ made. made ≡ all.now) }
+{
+    let mut made = Items::new(alloc);
+    for one in all {
+        made.push(one.copied(alloc)?)?;
+    }
+    Ok(made)
+}
+
+/// A table that is read. No index is in scope there.
 #[tactic(auto, unfolding(crate::specs::Statements::table_input))]
 pub(crate) fn table_input(
     alloc: Global,
     objects: &Names,
     scope: &mut Names,
     whole: &TableInput,
-) -> Result<Resolved, NamesError>
+) -> Result<resolved::TableInput, NamesError>
     ensures { Follows (spec.table_input objects.now whole.now scope.old) result scope.new }
 {
-    new_name(objects, scope, &whole.name)?;
     driver(scope, &whole.driver)?;
-    resolve_expr(alloc, objects, scope, &whole.file)?;
-    optional_name(objects, scope, &whole.set)?;
-    parameters(objects, scope, whole.columns.as_slice())?;
-    Err(NamesError::Fault(SyntaxFaultKind::Unsupported))
+    let file = resolve_expr(alloc, objects, scope, &whole.file)?;
+    let set = optional_object(objects, scope, &whole.set)?;
+    let columns = input_columns(alloc, objects, scope, whole.columns.as_slice())?;
+    let keys = copied(alloc, whole.keys.as_slice())?;
+    Ok(resolved::TableInput {
+        file,
+        set,
+        keys,
+        columns,
+    })
+}
+
+// ---- a table that is written
+
+fn name_alone(alloc: Global, whole: &Expr) -> Result<Text, NamesError>
+    ensures { Gives (spec.name_alone whole.now) result }
+{
+    match whole {
+        Expr::Named(name, subscripts, None) => {
+            if subscripts.len() == 0 {
+                Ok(name.copied(alloc)?)
+            } else {
+                Err(NamesError::Fault(SyntaxFaultKind::Unsupported))
+            }
+        }
+        _ => Err(NamesError::Fault(SyntaxFaultKind::Unsupported)),
+    }
+}
+
+fn written_field(alloc: Global, value: &Expr, field: &Option<Text>) -> Result<Text, NamesError>
+    ensures { Gives (spec.written_field value.now field.now) result }
+{
+    match field {
+        None => name_alone(alloc, value),
+        Some(field) => Ok(field.copied(alloc)?),
+    }
+}
+
+fn output_column(
+    alloc: Global,
+    objects: &Names,
+    scope: &mut Names,
+    whole: &OutputColumn,
+) -> Result<resolved::OutputColumn, NamesError>
+    ensures { Follows (spec.output_column objects.now whole.now scope.old) result scope.new }
+{
+    let value = resolve_expr(alloc, objects, scope, &whole.value)?;
+    let field = written_field(alloc, &whole.value, &whole.field)?;
+    Ok(resolved::OutputColumn { value, field })
+}
+
+fn output_columns(
+    alloc: Global,
+    objects: &Names,
+    scope: &mut Names,
+    all: &[OutputColumn],
+) -> Result<Items<resolved::OutputColumn>, NamesError>
+    ensures { Follows (spec.output_columns objects.now all.now scope.old) result scope.new }
+{
+    let mut made = Items::new(alloc);
+    for one in all {
+        made.push(output_column(alloc, objects, scope, one)?)?;
+    }
+    Ok(made)
+}
+
+// The domain and the columns, behind the file.
+#[tactic(auto, unfolding(crate::specs::Statements::records))]
+fn records(
+    alloc: Global,
+    objects: &Names,
+    scope: &mut Names,
+    file: resolved::Expr,
+    whole: &TableOutput,
+) -> Result<resolved::Action, NamesError>
+    ensures { Follows (spec.records objects.now file whole.now scope.old) result scope.new }
+{
+    let before = scope.len();
+    let domain = resolve_indexing(alloc, objects, scope, &whole.domain)?;
+    let columns = output_columns(alloc, objects, scope, whole.columns.as_slice())?;
+    scope.truncate(before);
+    Ok(resolved::Action::TableOutput(resolved::TableOutput {
+        file,
+        domain,
+        columns,
+    }))
+}
+
+/// A table that is written.
+#[tactic(auto, unfolding(crate::specs::Statements::table_output))]
+pub(crate) fn table_output(
+    alloc: Global,
+    objects: &Names,
+    scope: &mut Names,
+    whole: &TableOutput,
+) -> Result<resolved::Action, NamesError>
+    ensures { Follows (spec.table_output objects.now whole.now scope.old) result scope.new }
+{
+    driver(scope, &whole.driver)?;
+    let file = resolve_expr(alloc, objects, scope, &whole.file)?;
+    records(alloc, objects, scope, file, whole)
 }

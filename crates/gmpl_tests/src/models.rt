@@ -131,7 +131,7 @@ P0 => solve; param p := 1;
 !WrongDimension 1 1 => for {i in 1..2} printf {(i, j) in 1..2}: 'x', j;
 - => for {i in 1..2} { for {j in 1..2} { display i, j; } for {j in 1..2} { display j; } }
 !Undeclared 1 1 => for {i in 1..2} { for {j in 1..2} { display i, j; } display j; }
-!Unsupported 1 1 => for {i in 1..2} table t {j in 1..2} OUT 'CSV' 'f': j ~ k;
+- => for {i in 1..2} table t {j in 1..2} OUT 'CSV' 'f': j ~ k;
 !Unsupported 1 1 => for {i in 1..2} { printf 'a' > 'f'; printf 'a', q; }
 ";
 
@@ -178,15 +178,98 @@ V0 S1/1 => var x; solve; set S{i in 0..3} := if i = 0 then {x} else S[i-1];
 !WrongKind 4 3 => var x; solve;$display x;$param p := 1..2; display x;
 ";
 
-// Tables are not supported so far: what is wrong inside comes first.
-const UNSUPPORTED: &str = "\
-!Unsupported 1 1 => table t {i in 1..2} OUT 'CSV' 'f': i ~ k;
-!Undeclared 1 1 => table t {i in 1..2} OUT 'CSV' f: i ~ k;
-!Unsupported 1 1 => table t {i in 1..2} OUT 'ODBC' f: i ~ k;
+// The names of tables, which are none of objects.
+const TABLE_NAMES: &str = "\
 !Declared 2 1 => var t; table t {i in 1..2} OUT 'CSV' 'f': i ~ k;
+!Declared 2 1 => param t; table t IN 'CSV' 'f': [k];
+!Declared 2 1 => param t; table t IN 'ODBC' q: [k], r;
+!Declared 2 1 => table t {i in 1..2} OUT 'CSV' 'f': i; set t := {1};
+!Declared 2 1 => table t IN 'CSV' 'f': [k]; param t := q;
+!Declared 2 1 => table t IN 'CSV' 'f': [k]; var t;
+!Declared 3 1 => var x; table t IN 'CSV' 'f': [k]; t: x >= 1;
+!Declared 3 1 => var x; table t IN 'CSV' 'f': [k]; minimize t: x;
+!Declared 2 2 => table t IN 'CSV' 'f': [k];$table t IN 'CSV' 'g': [k];
+!Declared 2 1 => table t IN 'CSV' 'f': [k]; table t {i in 1..2} OUT 'CSV' 'g': i;
+!Declared 2 1 => table t {i in 1..2} OUT 'CSV' 'f': i; table t IN 'CSV' 'g': [k];
+!Declared 1 1 => for {i in 1..2} { table t {j in 1..2} OUT 'CSV' 'f': j; table t {j in 1..2} OUT 'CSV' 'g': j; }
+!Declared 1 1 => for {i in 1..2} { for {j in 1..2} table t {k in 1..2} OUT 'CSV' 'f': k; table t {k in 1..2} OUT 'CSV' 'g': k; }
+!Declared 2 1 => for {i in 1..2} table t {j in 1..2} OUT 'CSV' 'f': j; param t := 1;
+!Declared 2 1 => param t := 1; for {i in 1..2} { display i; table t {j in 1..2} OUT 'CSV' 'f': j; }
+!Declared 2 1 => table t IN 'CSV' 'f': [k]; for {i in 1..2} for {j in 1..2} table t {k in 1..2} OUT 'CSV' 'g': k;
+- => for {i in 1..2} { table t {j in 1..2} OUT 'CSV' 'f': j; table u {j in 1..2} OUT 'CSV' 'g': j; }
+- => table t IN 'CSV' 'f': [k]; table u IN 'CSV' 'f': [k];
+!Undeclared 2 1 => table t IN 'CSV' 'f': [k]; param p := t;
+S0/2 P0 P2 => table t IN 'CSV' 'f': [k]; set S dimen 2; param p := card(S); table u {i in 1..2} OUT 'CSV' 'g': i; param q{S} := p;
+";
+
+// Tables that are read.
+const TABLES_READ: &str = "\
+- => table t IN 'CSV' 'f': [k];
+!Unsupported 1 1 => table t IN 'ODBC' f: [k];
+!Unsupported 1 1 => table t IN 'csv' 'f': [k];
+!Undeclared 1 1 => table t IN 'CSV' f: [k];
+!Undeclared 1 1 => table t IN 'CSV' k: [k];
 !Undeclared 1 1 => table t IN 'CSV' 'f': [k], p;
+!Undeclared 1 1 => table t IN 'CSV' 'f': [k], p; param p{1..2};
+!Undeclared 1 1 => table t IN 'CSV' 'f': [k], k;
 !Undeclared 1 1 => table t IN 'CSV' 'f': S <- [k];
-!Unsupported 1 1 => table t IN 'CSV' 'f': [k];
+P0 => param f symbolic := 'f'; table t IN 'CSV' f & '.csv': [k];
+P1 => param p{1..2}; table t IN 'CSV' 'f': [k], p;
+P1 P1 => param p{1..2}; param q{1..2}; table t IN 'CSV' 'f': [k], p, q ~ value;
+!Undeclared 2 1 => param p{1..2}; table t IN 'CSV' 'f': [k], q ~ p;
+S0/2 P2 => set S dimen 2; param p{S}; table t IN 'CSV' 'f': S <- [a, b], p;
+S0/1 => set S; table t IN 'CSV' 'f': S <- [k];
+!WrongKind 1 1 => table t IN 'CSV' 1..2: [k];
+!WrongKind 2 1 => var f; table t IN 'CSV' f: [k];
+!WrongDimension 2 1 => set S dimen 2; table t IN 'CSV' 'f': S <- [k];
+!WrongDimension 2 1 => set S; table t IN 'CSV' 'f': S <- [a, b];
+!WrongDimension 2 1 => set S{1..2}; table t IN 'CSV' 'f': S <- [k];
+!WrongDimension 2 1 => set S{1..2} dimen 2; table t IN 'CSV' 'f': S <- [k];
+!WrongKind 2 1 => param p; table t IN 'CSV' 'f': p <- [k];
+!WrongKind 2 1 => var x; table t IN 'CSV' 'f': x <- [k];
+!WrongKind 2 1 => var x{1..2}; table t IN 'CSV' 'f': [k], x;
+!WrongKind 2 1 => set S; table t IN 'CSV' 'f': [k], S;
+!WrongKind 2 1 => set S{1..2}; table t IN 'CSV' 'f': [k], S;
+!WrongDimension 2 1 => param p; table t IN 'CSV' 'f': [k], p;
+!WrongDimension 2 1 => param p{1..2}; table t IN 'CSV' 'f': [a, b], p;
+!WrongDimension 2 1 => param p{1..2, 1..2}; table t IN 'CSV' 'f': [k], p;
+!WrongDimension 3 1 => set S dimen 2; var x; table t IN 'CSV' 'f': S <- [k], x;
+!WrongKind 3 1 => param p{1..2}; var x{1..2}; table t IN 'CSV' 'f': [k], p, x;
+!Undeclared 2 1 => set S dimen 2; table t IN 'CSV' 'f': S <- [k], q;
+V0 => var x; table t IN 'CSV' 'f': [k]; solve; display x;
+!WrongKind 3 1 => var x; table t IN 'CSV' 'f': [k]; display x;
+!NotAStatement 2 1 => solve; table t IN 'CSV' 'f': [k];
+";
+
+// Tables that are written.
+const TABLES_WRITTEN: &str = "\
+- => table t {i in 1..2} OUT 'CSV' 'f': i ~ k;
+- => table t {i in 1..2} OUT 'CSV' 'f': i, i + 1 ~ n, 'a' ~ n;
+!Undeclared 1 1 => table t {i in 1..2} OUT 'CSV' f: i ~ k;
+!Undeclared 1 1 => table t {i in 1..2} OUT 'CSV' i: i ~ k;
+!Undeclared 1 1 => table t {i in j..2} OUT 'CSV' 'f': i ~ k;
+!Undeclared 1 1 => table t {i in 1..2} OUT 'CSV' 'f': i, j;
+!Undeclared 1 1 => table t {i in 1..2} OUT 'CSV' 'f': i ~ k, k ~ l;
+!Undeclared 2 1 => table t {i in 1..2} OUT 'CSV' 'f': i; display i;
+!Undeclared 1 1 => for {i in 1..2} { table t {j in 1..2} OUT 'CSV' 'f': j; display j; }
+!Unsupported 1 1 => table t {i in 1..2} OUT 'ODBC' f: i ~ k;
+!Unsupported 1 1 => table t {i in j..2} OUT 'csv' 'f': i ~ k;
+!Undeclared 1 1 => for {i in j..2} table t {k in 1..2} OUT 'ODBC' 'f': k;
+P0 => param f symbolic := 'f'; table t {i in 1..2} OUT 'CSV' f & '.csv': i;
+- => for {i in 1..2} table t {j in i..2} OUT 'CSV' 'f' & i: i, j;
+!WrongKind 1 1 => table t {i in 1..2} OUT 'CSV' 1..2: i;
+!WrongKind 1 1 => table t {i in 3} OUT 'CSV' 'f': i;
+!WrongDimension 1 1 => table t {(i, j) in 1..2} OUT 'CSV' 'f': i;
+!WrongKind 1 1 => table t {i in 1..2} OUT 'CSV' 'f': i, 1..i ~ k;
+!WrongKind 1 1 => table t {i in 1..2} OUT 'CSV' 'f': (i, i) ~ k;
+!WrongKind 2 1 => set S; table t {i in S} OUT 'CSV' 'f': S;
+!WrongDimension 2 1 => param p{1..2} := 1; table t {i in 1..2} OUT 'CSV' 'f': p;
+P1 => param p{1..2} := 1; table t {i in 1..2} OUT 'CSV' 'f': i, p[i] ~ p;
+!WrongKind 2 1 => var x; table t {i in 1..2} OUT 'CSV' 'f': x;
+!WrongKind 2 1 => var x; for {i in 1..2} table t {j in 1..2} OUT 'CSV' 'f': x;
+V0 => var x; solve; table t {i in 1..2} OUT 'CSV' 'f': i, x, x.lb ~ low;
+V0 => var x; solve; table t {i in 1..x} OUT 'CSV' 'f' & x: i;
+!Unsupported 3 1 => var x; solve; table t {i in 1..2} OUT 'CSV' 'f': x.dual ~ d;
 ";
 
 // Kinds and dimensions.
@@ -385,8 +468,18 @@ fn statements_behind_solve(rt: HostRuntime) -> Result<(), Fail> {
 }
 
 #[test]
-fn unsupported_statements(rt: HostRuntime) -> Result<(), Fail> {
-    check_table(&rt, rt.alloc(), UNSUPPORTED)
+fn names_of_tables(rt: HostRuntime) -> Result<(), Fail> {
+    check_table(&rt, rt.alloc(), TABLE_NAMES)
+}
+
+#[test]
+fn tables_that_are_read(rt: HostRuntime) -> Result<(), Fail> {
+    check_table(&rt, rt.alloc(), TABLES_READ)
+}
+
+#[test]
+fn tables_that_are_written(rt: HostRuntime) -> Result<(), Fail> {
+    check_table(&rt, rt.alloc(), TABLES_WRITTEN)
 }
 
 #[test]

@@ -11,7 +11,9 @@ use Rattle.gmpl_data_input.specs.declared.fault.DataFaultKind.TheVariants as giv
 use Rattle.gmpl_fault.specs.declared.fault.EvalFault.{EvalFault}
 use Rattle.gmpl_fault.specs.declared.fault.EvalFault.TheVariants as eval
 use Rattle.gmpl_generate.specs.declared.fault.ModelFaultKind.{ModelFaultKind}
-use Rattle.gmpl_generate.specs.declared.fault.ModelFaultKind.TheVariants.{Evaluation, CheckFailed}
+use Rattle.gmpl_generate.specs.declared.fault.ModelFaultKind.TheVariants.{Evaluation, CheckFailed, Table}
+use Rattle.csv_tables.specs.declared.fault.TableFault.{TableFault}
+use Rattle.csv_tables.specs.declared.fault.TableFault.TheVariants.{NoField, BadRecord, TwiceKey}
 
 abbrev pub operator_text : Op → List ℕ
 operator_text Add = codes "+"
@@ -66,7 +68,14 @@ evaluation_text eval.TooMany = codes "TooMany"
 evaluation_text (eval.NoFit f) = codes "NoFit " ++ operation_text f
 evaluation_text eval.NoMemory = codes "NoMemory"
 
+-- of a table that is read
+abbrev pub table_text : TableFault → List ℕ
+table_text NoField = codes "NoField"
+table_text BadRecord = codes "BadRecord"
+table_text TwiceKey = codes "TwiceKey"
+
 -- of the execution of a model
 abbrev pub model_kind_text : ModelFaultKind → List ℕ
 model_kind_text (Evaluation fault) = evaluation_text fault
 model_kind_text CheckFailed = codes "CheckFailed"
+model_kind_text (Table fault) = table_text fault

@@ -1,7 +1,8 @@
 // The words of the kinds of faults that a MathProg model may have.
 ghost use Rattle.std.specs.Prelude.{◌≡◌, IfOk, string_bytes};
-ghost use Rattle.solution_writer.specs.KindTexts.{operator_text, operation_text, syntax_kind_text, data_kind_text, evaluation_text, model_kind_text};
+ghost use Rattle.solution_writer.specs.KindTexts.{operator_text, operation_text, syntax_kind_text, data_kind_text, evaluation_text, table_text, model_kind_text};
 
+use csv_tables::TableFault;
 use fraction::{NoFit, Op};
 use gmpl_data_input::DataFaultKind;
 use gmpl_fault::EvalFault;
@@ -54,6 +55,18 @@ pub(crate) fn model_kind_text(alloc: Global, kind: ModelFaultKind) -> Result<Str
     match kind {
         ModelFaultKind::Evaluation(fault) => evaluation_text(alloc, fault),
         ModelFaultKind::CheckFailed => "CheckFailed".to_string(alloc),
+        ModelFaultKind::Table(fault) => table_text(fault).to_string(alloc),
+    }
+}
+
+// What is wrong with a table that is read.
+fn table_text(fault: TableFault) -> &'static str
+    ensures { result.now ≡ table_text fault }
+{
+    match fault {
+        TableFault::NoField => "NoField",
+        TableFault::BadRecord => "BadRecord",
+        TableFault::TwiceKey => "TwiceKey",
     }
 }
 

@@ -1,10 +1,8 @@
-use Rattle.std.proofs.Common.{◌<◌, length, map, string_bytes, subst}
-use Rattle.std.proofs.lemmas.List.{length-map}
+use Rattle.std.proofs.Common.{map, string_bytes}
 use Rattle.outside.specs.Causes.{Rose}
 use Rattle.glpsol_cli.specs.Pieces.{Outside}
-use Rattle.glpsol_cli.specs.Stages.{texts_in}
-use Rattle.glpsol_cli.proofs.FilesRead.{enough}
-use Rattle.glpsol_cli.proofs.Carried.{stopped_written, read_written}
+use Rattle.glpsol_cli.proofs.Carried.{stopped_written}
+use Rattle.glpsol_cli.proofs.Ended.{written_from_start}
 use Rattle.glpsol_cli.proofs.work.carried_out.Goals as goal
 
 pub returns-in-Err-clause-written : goal.returns-in-Err-clause-written
@@ -13,12 +11,23 @@ returns-in-Err-clause-written g c =
     c.in-Err.stop c.in-Err.ensures.stop c.stop_answer.result c.tell.result c.stop_answer.ensures c.tell.ensures.same (g.O.Sink.taken c.args.out.now) (g.O.Sink.taken c.tell.new.out) c.tell.ensures.prefix
 
 pub from_inputs-requires : goal.from_inputs-requires
-from_inputs-requires g c =
-    let inputs = c.in-Ok.inputs in
-    subst (λ n. length inputs.settings.data_files < n) (length-map inputs.texts.items (λ text. text.items))
-    (enough (g.S.Store.told c.args.files.now) inputs.settings (texts_in inputs) c.in-Ok.ensures.inputs.read)
+from_inputs-requires g c = record {
+  words = map string_bytes c.args.words.now;
+  told = g.S.Store.told c.args.files.now;
+  same = c.read_inputs.ensures.told;
+  are = c.in-Ok.ensures.inputs;
+}
+
+pub returns-clause-cause : goal.returns-clause-cause
+returns-clause-cause g c =
+    let words = map string_bytes c.args.words.now in
+    let told = g.S.Store.told c.args.files.now in
+    c.from_inputs.ensures.cause words told (g.S.Store.faults c.args.files.now) c.in-Ok.ensures.inputs c.read_inputs.ensures.told c.read_inputs.ensures.later
 
 pub returns-clause-written : goal.returns-clause-written
 returns-clause-written g c =
+    let words = map string_bytes c.args.words.now in
+    let told = g.S.Store.told c.args.files.now in
     let new : Outside = record { taken = g.O.Sink.taken c.from_inputs.new.out; told = g.S.Store.told c.from_inputs.new.files } in
-    read_written (map string_bytes c.args.words.now) (g.S.Store.told c.args.files.now) c.in-Ok.inputs c.in-Ok.ensures.inputs c.from_inputs.result (g.O.Sink.taken c.args.out.now) (g.S.Store.told c.read_inputs.new.files) new c.read_inputs.ensures.told c.from_inputs.ensures.written
+    written_from_start words (g.O.Sink.taken c.args.out.now) told (g.S.Store.told c.read_inputs.new.files) new c.from_inputs.result c.read_inputs.ensures.told
+    (c.from_inputs.ensures.written words told c.in-Ok.ensures.inputs c.read_inputs.ensures.told)

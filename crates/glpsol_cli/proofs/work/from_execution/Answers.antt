@@ -1,28 +1,27 @@
-use Rattle.std.proofs.Common.{arith}
-use Rattle.outside.specs.Causes.{Rose}
-use Rattle.glpsol_cli.specs.Pieces.{Outside}
-use Rattle.glpsol_cli.specs.Stages.{texts_in}
-use Rattle.glpsol_cli.proofs.Writing.{failed_within}
-use Rattle.glpsol_cli.proofs.Carried.{executed_written, unprinted_cause, unprinted_written}
+use Rattle.glpsol_cli.specs.Stages.{Moment}
+use Rattle.glpsol_cli.proofs.Ended.{unwritten_cause, unwritten_written}
 use Rattle.glpsol_cli.proofs.work.from_execution.Goals as goal
 
+pub from_run-requires : goal.from_run-requires
+from_run-requires g c = record {
+  words = c.requires.words;
+  told = c.requires.told;
+  start = c.requires.start;
+  run = c.in-Ok.ensures.run c.requires.words c.requires.told c.requires.start c.requires.run;
+}
+
+pub returns-in-Ok-clause-cause : goal.returns-in-Ok-clause-cause
+returns-in-Ok-clause-cause g c = λ words told start run. c.from_run.ensures.cause words told start (c.in-Ok.ensures.run words told start run)
+
 pub returns-in-Ok-clause-written : goal.returns-in-Ok-clause-written
-returns-in-Ok-clause-written g c =
-    let old : Outside = record { taken = g.O.Sink.taken c.args.out.now; told = g.S.Store.told c.args.files.now } in
-    let middle : Outside = record { taken = g.O.Sink.taken c.write_pieces.new.out; told = g.S.Store.told c.write_pieces.new.files } in
-    let new : Outside = record { taken = g.O.Sink.taken c.from_end.new.out; told = g.S.Store.told c.from_end.new.files } in
-    executed_written c.args.inputs.now.settings (texts_in c.args.inputs.now) c.args.executed c.requires old middle new c.from_end.result c.in-Ok.ensures.ends c.from_end.ensures.written
+returns-in-Ok-clause-written g c = λ words told start run. c.from_run.ensures.written words told start (c.in-Ok.ensures.run words told start run)
 
 pub returns-in-Err-clause-cause : goal.returns-in-Err-clause-cause
 returns-in-Err-clause-cause g c =
-    unprinted_cause c.args.inputs.now.settings (texts_in c.args.inputs.now) c.args.executed c.requires c.in-Err.fault c.unwritten_answer.result c.tell.result c.unwritten_answer.ensures c.tell.ensures.same
-    (Rose (g.S.Store.faults c.args.files.now) (g.S.Store.faults c.write_pieces.new.files)) (Rose (g.O.Sink.faults c.args.out.now) (g.O.Sink.faults c.tell.new.out))
-    (failed_within (g.S.Store.faults c.args.files.now) (g.S.Store.faults c.args.files.now) (g.S.Store.faults c.write_pieces.new.files) (g.S.Store.faults c.write_pieces.new.files) (omega arith) (omega arith)
-    (g.O.Sink.faults c.args.out.now) (g.O.Sink.faults c.args.out.now) (g.O.Sink.faults c.write_pieces.new.out) (g.O.Sink.faults c.tell.new.out) (omega arith) c.tell.ensures.later c.in-Err.fault c.in-Err.ensures.failed)
+    let middle : Moment = record { outside = record { taken = g.O.Sink.taken c.with_tables.new.out; told = g.S.Store.told c.with_tables.new.files }; files = g.S.Store.faults c.with_tables.new.files; out = g.O.Sink.faults c.with_tables.new.out } in
+    λ words told start run. unwritten_cause words told start middle c.in-Err.fault (c.in-Err.ensures.unwritten words told start run) c.unwritten_answer.result c.tell.result c.unwritten_answer.ensures c.tell.ensures.same (g.O.Sink.faults c.tell.new.out) c.tell.ensures.later
 
 pub returns-in-Err-clause-written : goal.returns-in-Err-clause-written
 returns-in-Err-clause-written g c =
-    let old : Outside = record { taken = g.O.Sink.taken c.args.out.now; told = g.S.Store.told c.args.files.now } in
-    let middle : Outside = record { taken = g.O.Sink.taken c.write_pieces.new.out; told = g.S.Store.told c.write_pieces.new.files } in
-    unprinted_written c.args.inputs.now.settings (texts_in c.args.inputs.now) c.args.executed c.requires c.in-Err.fault c.unwritten_answer.result c.tell.result c.unwritten_answer.ensures c.tell.ensures.same old middle
-    (g.O.Sink.taken c.tell.new.out) c.in-Err.ensures.ends c.tell.ensures.prefix
+    let middle : Moment = record { outside = record { taken = g.O.Sink.taken c.with_tables.new.out; told = g.S.Store.told c.with_tables.new.files }; files = g.S.Store.faults c.with_tables.new.files; out = g.O.Sink.faults c.with_tables.new.out } in
+    λ words told start run. unwritten_written words told start middle c.in-Err.fault (c.in-Err.ensures.unwritten words told start run) c.unwritten_answer.result c.tell.result c.unwritten_answer.ensures c.tell.ensures.same (g.O.Sink.taken c.tell.new.out) c.tell.ensures.prefix

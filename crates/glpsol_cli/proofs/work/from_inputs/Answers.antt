@@ -1,7 +1,40 @@
-use Rattle.glpsol_cli.specs.Stages.{texts_in}
-use Rattle.glpsol_cli.proofs.Carried.{unexecuted_written}
+use Rattle.std.proofs.Common.{◌<◌, length, map, sym, subst, arith}
+use Rattle.std.proofs.lemmas.List.{length-map}
+use Rattle.outside.specs.Causes.{Rose}
+use Rattle.glpsol_cli.specs.Stages.{IsExecution, Moment, texts_in}
+use Rattle.glpsol_cli.proofs.Ended.{run_first, unexecuted_cause, unexecuted_written}
+use Rattle.glpsol_cli.proofs.FilesRead.{enough}
 use Rattle.glpsol_cli.proofs.work.from_inputs.Goals as goal
 
+pub execute-requires : goal.execute-requires
+execute-requires g c =
+    let inputs = c.args.inputs in
+    subst (λ xs. length inputs.settings.data_files < length xs) (sym c.deref.ensures.value)
+    (subst (λ n. length inputs.settings.data_files < n) (length-map inputs.texts.items (λ text. text.items))
+    (enough c.requires.told inputs.settings (texts_in inputs) c.requires.are.read))
+
+pub from_execution-requires : goal.from_execution-requires
+from_execution-requires g c =
+    let now : Moment = record { outside = record { taken = g.O.Sink.taken c.args.out.now; told = g.S.Store.told c.args.files.now }; files = g.S.Store.faults c.args.files.now; out = g.O.Sink.faults c.args.out.now } in
+    record {
+      words = c.requires.words;
+      told = c.requires.told;
+      start = now;
+      run = run_first c.requires.words c.requires.told c.args.inputs c.requires.are now c.requires.same now.files (omega arith) c.in-Ok.executed (subst (λ xs. IsExecution c.args.inputs.settings (map (λ text. text.items) xs) c.in-Ok.executed) c.deref.ensures.value c.in-Ok.ensures);
+    }
+
+pub returns-in-Ok-clause-cause : goal.returns-in-Ok-clause-cause
+returns-in-Ok-clause-cause g c =
+    let now : Moment = record { outside = record { taken = g.O.Sink.taken c.args.out.now; told = g.S.Store.told c.args.files.now }; files = g.S.Store.faults c.args.files.now; out = g.O.Sink.faults c.args.out.now } in
+    λ words told count are same before. c.from_execution.ensures.cause words told (record { outside = now.outside; files = count; out = now.out }) (run_first words told c.args.inputs are now same count before c.in-Ok.executed (subst (λ xs. IsExecution c.args.inputs.settings (map (λ text. text.items) xs) c.in-Ok.executed) c.deref.ensures.value c.in-Ok.ensures))
+
+pub returns-in-Ok-clause-written : goal.returns-in-Ok-clause-written
+returns-in-Ok-clause-written g c =
+    let now : Moment = record { outside = record { taken = g.O.Sink.taken c.args.out.now; told = g.S.Store.told c.args.files.now }; files = g.S.Store.faults c.args.files.now; out = g.O.Sink.faults c.args.out.now } in
+    λ words told are same. c.from_execution.ensures.written words told now (run_first words told c.args.inputs are now same now.files (omega arith) c.in-Ok.executed (subst (λ xs. IsExecution c.args.inputs.settings (map (λ text. text.items) xs) c.in-Ok.executed) c.deref.ensures.value c.in-Ok.ensures))
+
+pub returns-in-Err-clause-cause : goal.returns-in-Err-clause-cause
+returns-in-Err-clause-cause g c = λ words told count are same before. unexecuted_cause (Rose count (g.S.Store.faults c.args.files.now)) (Rose (g.O.Sink.faults c.args.out.now) (g.O.Sink.faults c.tell.new.out)) words told c.tell.result c.tell.ensures.same
+
 pub returns-in-Err-clause-written : goal.returns-in-Err-clause-written
-returns-in-Err-clause-written g c =
-    unexecuted_written c.args.inputs.now.settings (texts_in c.args.inputs.now) (g.O.Sink.taken c.args.out.now) (g.O.Sink.taken c.tell.new.out) (g.S.Store.told c.args.files.now) c.tell.result c.tell.ensures.same c.tell.ensures.prefix
+returns-in-Err-clause-written g c = λ words told are same. unexecuted_written words told (g.O.Sink.taken c.args.out.now) (g.O.Sink.taken c.tell.new.out) (g.S.Store.told c.args.files.now) c.tell.result c.tell.ensures.same c.tell.ensures.prefix
