@@ -2,9 +2,10 @@
 ghost use Rattle.std.specs.Prelude.{◌≡◌, IsTrue, length};
 ghost use Rattle.gmpl_generate.specs.Solved.{RowsFit};
 
+use crate::tables::push_files;
 use crate::words::{fault_word, read};
 use fraction::Frac;
-use gmpl_reader::{Afterwards, MathProgFault, Reading, ReadingEnd, Rest, TableFile, after_solve};
+use gmpl_reader::{Afterwards, MathProgFault, Reading, ReadingEnd, Rest, after_solve};
 use instance::{Instance, Point, activity};
 use std::alloc::{AllocError, Global};
 use std::process::Abort;
@@ -51,18 +52,6 @@ fn point_of(alloc: Global, text: &str) -> Result<Point, AllocError> {
         }
     }
     Ok(Point::from_vec(numbers))
-}
-
-// Files that are made, each as `[name: text]`.
-fn push_files(alloc: Global, told: &mut String, files: &[TableFile]) -> Result<(), AllocError> {
-    for file in files {
-        let name = file.name.as_str();
-        match String::from_utf8(file.text.to_vec(alloc)?) {
-            Ok(text) => told.push_str(format!(in alloc; "[{name}: {text}]")?.as_str())?,
-            Err(_) => told.push_str("[no text]")?,
-        }
-    }
-    Ok(())
 }
 
 // What is printed, the files that are made, and the fault behind them.

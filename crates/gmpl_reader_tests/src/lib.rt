@@ -12,4 +12,6 @@ mod models;
 #[cfg(test)]
 mod printed;
 #[cfg(test)]
+mod tables;
+#[cfg(test)]
 mod words;

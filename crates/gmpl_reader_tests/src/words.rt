@@ -122,7 +122,7 @@ pub(crate) fn fault_word(alloc: Global, fault: MathProgFault) -> Result<String, 
     line.as_str().trim().to_string(alloc)
 }
 
-fn end_word(alloc: Global, end: ReadingEnd) -> Result<String, AllocError> {
+pub(crate) fn end_word(alloc: Global, end: ReadingEnd) -> Result<String, AllocError> {
     match end {
         ReadingEnd::Problem(problem, _rest) => problem_word(alloc, &problem),
         ReadingEnd::Table(_) => "?".to_string(alloc),
@@ -156,8 +156,8 @@ fn answer_of(
 
 // ---- rows
 
-// A text of a row, with a line end for each mark.
-fn with_lines(alloc: Global, text: &str, mark: &str) -> Result<Vec<u8>, AllocError> {
+/// A text of a row, with a line end for each mark.
+pub(crate) fn with_lines(alloc: Global, text: &str, mark: &str) -> Result<Vec<u8>, AllocError> {
     Ok(text.replace(alloc, mark, "\n")?.into_bytes())
 }
 
