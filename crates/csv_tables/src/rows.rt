@@ -48,7 +48,7 @@ fn symbols(
 ) -> Result<Tuple, AllocError>
     ensures { IfOk result (λ made. made ≡ map (value_of before (map (λ t. t.now) texts.now)) sources.now) }
 {
-    let mut made = Tuple::new(alloc);
+    let mut made = Tuple::with_capacity(alloc, sources.len())?;
     for source in sources {
         made.push(value(alloc, before, texts, *source)?)?;
     }

@@ -59,7 +59,7 @@ pub fn tuple(
 ) -> Result<Tuple, DataError>
     ensures { Reads (spec.tuple slots.now tokens.old) result tokens.new }
 {
-    let mut found = Tuple::new(alloc);
+    let mut found = Tuple::with_capacity(alloc, slots.len())?;
     for slot in slots {
         found.push(slot_symbol(alloc, slot, tokens)?)?;
     }
@@ -114,7 +114,7 @@ fn filled(
 ) -> Result<Tuple, AllocError>
     ensures { IfOk result (λ made. made ≡ spec.filled slots.now first.now second.now) }
 {
-    let mut made = Tuple::new(alloc);
+    let mut made = Tuple::with_capacity(alloc, slots.len())?;
     let mut next = first;
     for slot in slots {
         match slot {

@@ -106,7 +106,7 @@ fn width(value: &Entered) -> usize
 fn tuple_of(alloc: Global, symbols: &[Symbol]) -> Result<Tuple, AllocError>
     ensures { IfOk result (λ made. made ≡ symbols.now) }
 {
-    let mut made = Tuple::new(alloc);
+    let mut made = Tuple::with_capacity(alloc, symbols.len())?;
     for symbol in symbols {
         made.push(symbol.copied(alloc)?)?;
     }

@@ -45,7 +45,7 @@ pub(crate) fn symbols(
     ensures right { AreRight model.now kept.new }
     ensures value { Gives result (spec.symbols [] (at.exprs model.now height all.now) bindings.now) }
 {
-    let mut found = Tuple::new(alloc);
+    let mut found = Tuple::with_capacity(alloc, all.len())?;
     for one in all {
         let value = eval(alloc, model, kept, height, room, one, bindings)?;
         found.push(value.into_symbol()?)?;

@@ -58,7 +58,7 @@ fn fields_at(
     ensures of { context.new ≡ model.now }
     ensures value { Gives result (spec.fields_at model.now bindings.now [] columns.now) }
 {
-    let mut found = Tuple::new(alloc);
+    let mut found = Tuple::with_capacity(alloc, columns.len())?;
     for column in columns {
         found.push(symbol_of(alloc, model, context, bindings, &column.value)?)?;
     }

@@ -31,11 +31,19 @@ impl Tuple {
         }
     }
 
+    /// The tuple without a symbol, with room for so many.
+    pub fn with_capacity(alloc: Global, count: usize) -> Result<Tuple, AllocError>
+        ensures { IfOk result (λ made. made ≡ []) }
+    {
+        let items = Vec::with_capacity(alloc, count)?;
+        Ok(Tuple { items })
+    }
+
     /// The tuple of one symbol.
     pub fn single(alloc: Global, symbol: Symbol) -> Result<Tuple, AllocError>
         ensures { IfOk result (λ made. made ≡ symbol ∷ []) }
     {
-        let mut tuple = Tuple::new(alloc);
+        let mut tuple = Tuple::with_capacity(alloc, 1)?;
         tuple.push(symbol)?;
         Ok(tuple)
     }
@@ -75,7 +83,7 @@ impl Tuple {
     pub fn joined(&self, alloc: Global, other: &Tuple) -> Result<Tuple, AllocError>
         ensures { IfOk result (λ made. made ≡ self.now ++ other.now) }
     {
-        let mut items = Vec::new(alloc);
+        let mut items = Vec::with_capacity(alloc, self.items.len() + other.items.len())?;
         push_all(alloc, &mut items, &self.items)?;
         push_all(alloc, &mut items, &other.items)?;
         Ok(Tuple { items })
