@@ -1,5 +1,5 @@
 // The rows of a table.
-ghost use Rattle.std.specs.Prelude.{◌≡◌, [], length, map, slice_get};
+ghost use Rattle.std.specs.Prelude.{◌≡◌, ◌++◌, ◌∷◌, [], length, map, reverse, slice_get, MatchOption};
 ghost use Rattle.std.specs.List.{IsDistinct};
 ghost use Rattle.std.specs.Option.{option_map};
 ghost use Rattle.gmpl_value.specs.SymbolEquality.{tuple_eq};
@@ -50,6 +50,20 @@ impl Table {
         ensures { option_map (λ row. (row.0.now, row.1.now)) result ≡ slice_get self.now place }
     {
         self.rows.get_index(place)
+    }
+
+    /// The last row first.
+    pub fn reverse(&mut self)
+        ensures { self.new ≡ reverse self.old }
+    {
+        self.rows.reverse();
+    }
+
+    /// Takes the last row off, if there is one.
+    pub fn pop(&mut self) -> Option<(Tuple, Tuple)>
+        ensures { MatchOption result ((self.old ≡ []) × (self.new ≡ [])) (λ row. self.old ≡ self.new ++ row ∷ []) }
+    {
+        self.rows.pop()
     }
 
     // The table with one more row. `TwiceKey` where the key is there.

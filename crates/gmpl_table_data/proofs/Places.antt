@@ -3,14 +3,14 @@ use Rattle.std.proofs.Common.{◌≡◌, ◌+◌, ℕ, zero, suc, List, [], ◌�
 use Rattle.std.specs.Prelude.{set, slice_get}
 use native.Mathlib.Numerals.{unary_clauses}
 use Rattle.std.proofs.lemmas.List.{set-set}
-use Rattle.gmpl_members.specs.Table.{Table as Members}
+use Rattle.gmpl_value.specs.declared.symbol.Symbol.{Symbol}
 use Rattle.gmpl_resolved.specs.declared.statement.InputColumn.{InputColumn}
 use Rattle.gmpl_data.specs.declared.tables.Given.{Given}
 use Rattle.csv_tables.specs.Outcome.{then_do}
 use Rattle.csv_tables.specs.Reading.{Rows}
 use Rattle.gmpl_table_data.specs.declared.sets.Joined.{Joined}
-use Rattle.gmpl_table_data.specs.TableData.{Tables, with_keys, values_given, columns_given}
-use Rattle.gmpl_table_data.specs.Places.{with_key_of, value_of_row, column_given}
+use Rattle.gmpl_table_data.specs.TableData.{Tables, with_keys, row_given}
+use Rattle.gmpl_table_data.specs.Places.{with_key_of, column_given}
 
 pub put_back : (tables : Tables) (place : ℕ) (left more : Given) → set (set tables place left) place more ≡ set tables place more
 put_back tables place left more = set-set tables place left more
@@ -25,20 +25,11 @@ next_key (row ∷ rows) (suc place) before =
     let later = next_key rows place before in
     simp unary_clauses (simp unary_clauses at later)
 
-pub next_value : (column : ℕ) (rows : Rows) (place : ℕ) (members : Members)
-    → values_given column (drop place rows) members ≡ then_do (values_given column (drop (place + 1) rows)) (value_of_row column (slice_get rows place) members)
-next_value column [] zero members = refl
-next_value column [] (suc place) members = simp unary_clauses refl
-next_value column (row ∷ rows) zero members = refl
-next_value column (row ∷ rows) (suc place) members =
-    let later = next_value column rows place members in
-    simp unary_clauses (simp unary_clauses at later)
-
-pub next_column : (before : ℕ) (columns : List InputColumn) (place : ℕ) (rows : Rows) (tables : Tables)
-    → columns_given before (drop place columns) rows tables ≡ then_do (columns_given (before + 1) (drop (place + 1) columns) rows) (column_given before (slice_get columns place) rows tables)
-next_column before [] zero rows tables = refl
-next_column before [] (suc place) rows tables = simp unary_clauses refl
-next_column before (column ∷ columns) zero rows tables = refl
-next_column before (column ∷ columns) (suc place) rows tables =
-    let later = next_column before columns place rows tables in
+pub next_column : (before : ℕ) (columns : List InputColumn) (place : ℕ) (row : List Symbol × List Symbol) (tables : Tables)
+    → row_given before (drop place columns) row tables ≡ then_do (row_given (before + 1) (drop (place + 1) columns) row) (column_given before (slice_get columns place) row tables)
+next_column before [] zero row tables = refl
+next_column before [] (suc place) row tables = simp unary_clauses refl
+next_column before (column ∷ columns) zero row tables = refl
+next_column before (column ∷ columns) (suc place) row tables =
+    let later = next_column before columns place row tables in
     simp unary_clauses (simp unary_clauses at later)

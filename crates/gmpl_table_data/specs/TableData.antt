@@ -76,32 +76,31 @@ keys_given (Some place) rows tables = change_at place (set_given rows) tables
 abbrev pub with_new : List Symbol → Symbol → Members → Outcome Members
 with_new key value members = if is_some (value_of members key) then Err TwiceKey else Ok (with_value members key (Scalar value))
 
--- a row has a value for each column
-abbrev pub value_given : List Symbol → Option Symbol → Members → Outcome Members
-value_given key None members = Ok members
-value_given key (Some value) members = with_new key value members
-
--- the values in the column behind so many others, each to the member at its row's key
-abbrev pub values_given : ℕ → Rows → Members → Outcome Members
-values_given column [] members = Ok members
-values_given column (row ∷ rows) members = then_do (values_given column rows) (value_given row.0 (slice_get row.1 column) members)
-
 abbrev pub with_values : Given → Members → Given
 with_values given members = record { values = members; overfull = given.overfull; default = given.default }
 
-unfoldable pub parameter_given : ℕ → Rows → Given → Outcome Given
-parameter_given column rows given = then_do (λ members. Ok (with_values given members)) (values_given column rows given.values)
+unfoldable pub parameter_given : List Symbol → Symbol → Given → Outcome Given
+parameter_given key value given = then_do (λ members. Ok (with_values given members)) (with_new key value given.values)
 
--- those of these columns from the left, behind so many others
-abbrev pub columns_given : ℕ → List InputColumn → Rows → Tables → Outcome Tables
-columns_given before [] rows tables = Ok tables
-columns_given before (column ∷ columns) rows tables =
-    then_do (columns_given (before + 1) columns rows) (change_at column.parameter (parameter_given before rows) tables)
+-- a row has a value for each column
+abbrev pub value_given : ℕ → List Symbol → Option Symbol → Tables → Outcome Tables
+value_given parameter key None tables = Ok tables
+value_given parameter key (Some value) tables = change_at parameter (parameter_given key value) tables
+
+-- the values of a row in these columns from the left, behind so many others, each to its parameter's member at the row's key
+abbrev pub row_given : ℕ → List InputColumn → List Symbol × List Symbol → Tables → Outcome Tables
+row_given before [] row tables = Ok tables
+row_given before (column ∷ columns) row tables =
+    then_do (row_given (before + 1) columns row) (value_given column.parameter row.0 (slice_get row.1 before) tables)
+
+abbrev pub rows_given : List InputColumn → Rows → Tables → Outcome Tables
+rows_given columns [] tables = Ok tables
+rows_given columns (row ∷ rows) tables = then_do (rows_given columns rows) (row_given 0 columns row tables)
 
 -- ---- the table
 
 unfoldable pub with_rows : TableInput → Tables → Rows → Outcome Tables
-with_rows input tables rows = then_do (columns_given 0 input.columns rows) (keys_given input.set rows tables)
+with_rows input tables rows = then_do (rows_given input.columns rows) (keys_given input.set rows tables)
 
 -- the data with the keys as the elements of the set and the values of the columns, or the first fault
 unfoldable pub with_table : TableInput → List ℕ → Tables → Outcome Tables

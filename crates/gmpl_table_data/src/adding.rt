@@ -3,7 +3,7 @@ ghost use Rattle.std.specs.Prelude.{◌≡◌, map, IfOk};
 ghost use Rattle.csv_tables.specs.Outcome.{Gives, GivesAs};
 ghost use Rattle.gmpl_table_data.specs.TableData as spec;
 
-use crate::columns::columns_given;
+use crate::columns::rows_given;
 use crate::objects::Objects;
 use crate::sets::keys_given;
 use csv_tables::{Table, TableError, read_table};
@@ -27,12 +27,12 @@ fn with_rows(
     alloc: Global,
     input: &TableInput,
     objects: Objects,
-    table: &Table,
+    table: Table,
 ) -> Result<Objects, TableError>
-    ensures { Gives result (spec.with_rows input.now objects table.now) }
+    ensures { Gives result (spec.with_rows input.now objects table) }
 {
-    let objects = keys_given(alloc, input.set, table, objects)?;
-    columns_given(alloc, input.columns.as_slice(), table, objects)
+    let objects = keys_given(alloc, input.set, &table, objects)?;
+    rows_given(alloc, input.columns.as_slice(), table, objects)
 }
 
 /// The data with what a table gives to its set and its parameters. `NoField`, `BadRecord` and `TwiceKey` as the text has them;
@@ -49,6 +49,6 @@ pub fn with_table(
     let fields = fields_of(alloc, input.columns.as_slice())?;
     let table = read_table(alloc, text, input.keys.as_slice(), &fields)?;
     let objects = Objects::of(alloc, tables.objects)?;
-    let objects = with_rows(alloc, input, objects, &table)?;
+    let objects = with_rows(alloc, input, objects, table)?;
     Ok(objects.into_data())
 }

@@ -1,9 +1,9 @@
-// What the columns of a table give to parameters.
+// What the rows of a table give to parameters.
 ghost use Rattle.std.specs.Prelude.{◌≡◌, slice_get};
 ghost use Rattle.std.specs.Option.{option_copied};
 ghost use Rattle.csv_tables.specs.Outcome.{Gives};
 ghost use Rattle.gmpl_table_data.specs.TableData as spec;
-ghost use Rattle.gmpl_table_data.specs.Places.{value_of_row, column_given};
+ghost use Rattle.gmpl_table_data.specs.Places.{column_given};
 
 use crate::objects::Objects;
 use csv_tables::{Table, TableError, TableFault};
@@ -13,7 +13,7 @@ use gmpl_resolved::InputColumn;
 use gmpl_value::{Symbol, Tuple};
 use std::alloc::Global;
 
-// ---- the values of one column
+// ---- one value
 
 fn with_value(
     alloc: Global,
@@ -34,62 +34,16 @@ fn with_value(
     }
 }
 
-fn value_given(
-    alloc: Global,
-    key: &Tuple,
-    value: Option<&Symbol>,
-    members: Members,
-) -> Result<Members, TableError>
-    ensures { Gives result (spec.value_given key.now (option_copied value.entry) members) }
-{
-    match value {
-        None => Ok(members),
-        Some(value) => with_value(alloc, key, value, members),
-    }
-}
-
-// With the value in the row at a place.
-fn value_given_at(
-    alloc: Global,
-    column: usize,
-    table: &Table,
-    place: usize,
-    members: Members,
-) -> Result<Members, TableError>
-    ensures { Gives result (value_of_row column (slice_get table.now place) members) }
-{
-    match table.row(place) {
-        None => Ok(members),
-        Some(row) => value_given(alloc, row.0, row.1.symbols().get(column), members),
-    }
-}
-
-fn values_given(
-    alloc: Global,
-    column: usize,
-    table: &Table,
-    mut members: Members,
-) -> Result<Members, TableError>
-    ensures { Gives result (spec.values_given column table.now members) }
-{
-    for place in 0..table.len() {
-        members = value_given_at(alloc, column, table, place, members)?;
-    }
-    Ok(members)
-}
-
-// ---- parameters
-
 #[tactic(auto, unfolding(crate::specs::TableData::parameter_given))]
 fn parameter_given(
     alloc: Global,
-    column: usize,
-    table: &Table,
+    key: &Tuple,
+    value: &Symbol,
     given: Given,
 ) -> Result<Given, TableError>
-    ensures { Gives result (spec.parameter_given column table.now given) }
+    ensures { Gives result (spec.parameter_given key.now value.now given) }
 {
-    let values = values_given(alloc, column, table, given.values)?;
+    let values = with_value(alloc, key, value, given.values)?;
     Ok(Given {
         values,
         overfull: given.overfull,
@@ -101,49 +55,86 @@ fn parameter_given(
 fn give_to_parameter(
     alloc: Global,
     place: usize,
-    column: usize,
-    table: &Table,
+    key: &Tuple,
+    value: &Symbol,
     mut objects: Objects,
 ) -> Result<Objects, TableError>
-    ensures { Gives result (spec.change_at place (spec.parameter_given column table.now) objects) }
+    ensures { Gives result (spec.change_at place (spec.parameter_given key.now value.now) objects) }
 {
     match objects.take(alloc, place) {
         None => Ok(objects),
         Some(given) => {
-            let more = parameter_given(alloc, column, table, given)?;
+            let more = parameter_given(alloc, key, value, given)?;
             objects.put(place, more);
             Ok(objects)
         }
     }
 }
 
-// With the values of the column at a place.
-fn column_given_at(
+fn value_given(
     alloc: Global,
-    columns: &[InputColumn],
-    column: usize,
-    table: &Table,
+    parameter: usize,
+    key: &Tuple,
+    value: Option<&Symbol>,
     objects: Objects,
 ) -> Result<Objects, TableError>
-    ensures { Gives result (column_given column (slice_get columns.now column) table.now objects) }
+    ensures { Gives result (spec.value_given parameter key.now (option_copied value.entry) objects) }
 {
-    match columns.get(column) {
+    match value {
         None => Ok(objects),
-        Some(found) => give_to_parameter(alloc, found.parameter, column, table, objects),
+        Some(value) => give_to_parameter(alloc, parameter, key, value, objects),
     }
 }
 
-/// With the values of the columns from the left, each at its row's key. `TwiceKey` where a member has a value already.
-pub(crate) fn columns_given(
+// ---- rows
+
+// With the row's value in the column at a place.
+fn column_given_at(
     alloc: Global,
     columns: &[InputColumn],
-    table: &Table,
+    place: usize,
+    row: &(Tuple, Tuple),
+    objects: Objects,
+) -> Result<Objects, TableError>
+    ensures { Gives result (column_given place (slice_get columns.now place) row.now objects) }
+{
+    match columns.get(place) {
+        None => Ok(objects),
+        Some(column) => {
+            let value = row.1.symbols().get(place);
+            value_given(alloc, column.parameter, &row.0, value, objects)
+        }
+    }
+}
+
+fn row_given(
+    alloc: Global,
+    columns: &[InputColumn],
+    row: &(Tuple, Tuple),
     mut objects: Objects,
 ) -> Result<Objects, TableError>
-    ensures { Gives result (spec.columns_given 0 columns.now table.now objects) }
+    ensures { Gives result (spec.row_given 0 columns.now row.now objects) }
 {
-    for column in 0..columns.len() {
-        objects = column_given_at(alloc, columns, column, table, objects)?;
+    for place in 0..columns.len() {
+        objects = column_given_at(alloc, columns, place, row, objects)?;
+    }
+    Ok(objects)
+}
+
+/// With the values of the rows in their order, each at its row's key. `TwiceKey` where a member has a value already. Each row is
+/// given up as soon as its values are taken, so that a table and what it gives are not both there whole.
+pub(crate) fn rows_given(
+    alloc: Global,
+    columns: &[InputColumn],
+    table: Table,
+    mut objects: Objects,
+) -> Result<Objects, TableError>
+    ensures { Gives result (spec.rows_given columns.now table objects) }
+{
+    let mut left = table;
+    left.reverse();
+    while let Some(row) = left.pop() {
+        objects = row_given(alloc, columns, &row, objects)?;
     }
     Ok(objects)
 }

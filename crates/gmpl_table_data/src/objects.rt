@@ -1,5 +1,5 @@
 // What data give to the objects, while a table adds to it.
-ghost use Rattle.std.specs.Prelude.{◌≡◌, set, slice_get, IfOk, MatchOption, Some, None};
+ghost use Rattle.std.specs.Prelude.{◌≡◌, set, slice_get, IfOk, MatchOption};
 ghost use Rattle.gmpl_table_data.specs.Places.{nothing};
 
 use gmpl_data::{DataTables, Given};
