@@ -63,7 +63,7 @@ pub(crate) fn attributes(
     ensures { Reads (spec.attributes reader.depth declared tokens.old) result tokens.new }
 {
     let mut words = Items::new(reader.alloc);
-    let mut found = Items::new(reader.alloc);
+    let mut found = Items::from_vec(Vec::with_capacity(reader.alloc, 1)?);
     for _turn in 0..tokens.left() {
         let has_comma = tokens.eat(TokenKind::Comma);
         match attribute_word(declared, tokens.peek(), tokens.spelling()) {

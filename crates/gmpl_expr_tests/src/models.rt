@@ -34,7 +34,7 @@ pub(crate) fn statements_of(
     text: &str,
 ) -> Result<Option<Items<Numbered>>, AllocError> {
     let tokens = read_tokens(alloc, text.as_bytes())?;
-    match parse(alloc, &tokens) {
+    match parse(alloc, tokens) {
         Ok(model) => Ok(Some(model.statements)),
         Err(_) => Ok(None),
     }

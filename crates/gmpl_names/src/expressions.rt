@@ -4,6 +4,7 @@ ghost use Rattle.gmpl_names.specs.Expressions as spec;
 ghost use Rattle.gmpl_names.specs.Expressions.{Follows, FollowsIndex};
 
 use crate::error::NamesError;
+use crate::list::room_for;
 use crate::meanings::{lone, named, supports_function};
 use crate::names::Names;
 use gmpl_resolved as resolved;
@@ -134,7 +135,7 @@ pub fn resolve_exprs(
 ) -> Result<Items<resolved::Expr>, NamesError>
     ensures { Follows (spec.exprs objects.now all.now scope.old) result scope.new }
 {
-    let mut made = Items::new(alloc);
+    let mut made = room_for(alloc, all.len())?;
     for one in all {
         made.push(resolve_expr(alloc, objects, scope, one)?)?;
     }
@@ -150,7 +151,7 @@ fn resolve_links(
 ) -> Result<Items<resolved::Link>, NamesError>
     ensures { Follows (spec.links objects.now all.now scope.old) result scope.new }
 {
-    let mut made = Items::new(alloc);
+    let mut made = room_for(alloc, all.len())?;
     for one in all {
         let operand = resolve_expr(alloc, objects, scope, &one.operand)?;
         made.push(resolved::Link {
@@ -187,7 +188,7 @@ fn resolve_entries(
 ) -> Result<Items<resolved::Entry>, NamesError>
     ensures { Follows (spec.entries objects.now all.now scope.old) result scope.new }
 {
-    let mut made = Items::new(alloc);
+    let mut made = room_for(alloc, all.len())?;
     for one in all {
         made.push(resolve_entry(alloc, objects, scope, one)?)?;
     }
@@ -231,7 +232,7 @@ fn resolve_components(
 ) -> Result<Items<resolved::Component>, NamesError>
     ensures { FollowsIndex (spec.components objects.now all.now found.old scope.old) result found.new scope.new }
 {
-    let mut made = Items::new(alloc);
+    let mut made = room_for(alloc, all.len())?;
     for one in all {
         made.push(resolve_component(alloc, objects, scope, found, one)?)?;
     }

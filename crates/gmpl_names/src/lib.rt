@@ -3,10 +3,12 @@
 
 mod error;
 mod expressions;
+mod list;
 mod meanings;
 mod names;
 
 pub use error::NamesError;
 pub use expressions::{resolve_expr, resolve_exprs, resolve_indexing};
+pub use list::room_for;
 pub use meanings::resolve_name;
 pub use names::Names;

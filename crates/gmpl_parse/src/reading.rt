@@ -8,11 +8,13 @@ use gmpl_statements::read_statements;
 use gmpl_token::Tokens;
 use std::alloc::Global;
 
-/// The model that these tokens of a text make, or its first fault.
+/// The model that these tokens of a text make, or its first fault. The tokens are given up as soon as the statements are there.
 /// Errors: `Fault` with the number, the line and the kind of the first bad statement; `NoMemory`.
-pub fn parse<'s, 'a>(alloc: Global, tokens: &'s Tokens<'a>) -> Result<Model, ParseError>
-    ensures { IsOutcome (spec.parsed tokens.now) result }
+pub fn parse(alloc: Global, tokens: Tokens<'_>) -> Result<Model, ParseError>
+    ensures { IsOutcome (spec.parsed tokens) result }
 {
-    let statements = read_statements(alloc, tokens)?;
+    let statements = read_statements(alloc, &tokens)?;
+    // the statements hold nothing of the tokens, which take as much memory
+    std::mem::drop(tokens);
     model_of(alloc, &statements)
 }

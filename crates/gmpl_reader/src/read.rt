@@ -102,7 +102,7 @@ fn model_in(alloc: Global, text: &[u8]) -> Result<Model, ReadError<MathProgFault
 {
     objects_have_names();
     let tokens = read_tokens(alloc, text)?;
-    match parse(alloc, &tokens) {
+    match parse(alloc, tokens) {
         Ok(model) => Ok(model),
         Err(ParseError::Fault(fault)) => Err(ReadError::Fault(MathProgFault::Syntax(fault))),
         Err(ParseError::NoMemory) => Err(ReadError::NoMemory),

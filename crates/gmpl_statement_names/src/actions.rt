@@ -5,7 +5,7 @@ ghost use Rattle.gmpl_statement_names.specs.Statements as spec;
 
 use crate::parts::{optional_indexing, optional_side};
 use crate::tables::table_output;
-use gmpl_names::{Names, NamesError, resolve_expr, resolve_exprs, resolve_indexing};
+use gmpl_names::{Names, NamesError, resolve_expr, resolve_exprs, resolve_indexing, room_for};
 use gmpl_resolved as resolved;
 use gmpl_syntax::{Action, Expr, Indexing, SyntaxFaultKind};
 use sqlite_items::Items;
@@ -96,7 +96,7 @@ fn indexings(
 ) -> Result<Items<resolved::Indexing>, NamesError>
     ensures { Follows (spec.indexings objects.now all.now scope.old) result scope.new }
 {
-    let mut made = Items::new(alloc);
+    let mut made = room_for(alloc, all.len())?;
     for one in all {
         made.push(resolve_indexing(alloc, objects, scope, one)?)?;
     }
@@ -139,7 +139,7 @@ fn actions(
 ) -> Result<Items<resolved::Action>, NamesError>
     ensures { Follows (spec.actions objects.now all.now scope.old) result scope.new }
 {
-    let mut made = Items::new(alloc);
+    let mut made = room_for(alloc, all.len())?;
     for one in all {
         made.push(action(alloc, objects, scope, one)?)?;
     }

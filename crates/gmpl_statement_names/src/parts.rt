@@ -2,7 +2,7 @@
 ghost use Rattle.gmpl_names.specs.Expressions.{Follows};
 ghost use Rattle.gmpl_statement_names.specs.Statements as spec;
 
-use gmpl_names::{Names, NamesError, resolve_expr, resolve_indexing};
+use gmpl_names::{Names, NamesError, resolve_expr, resolve_indexing, room_for};
 use gmpl_resolved as resolved;
 use gmpl_syntax::{Attribute, Constraint, Declaration, Expr, Head, Indexing, Objective};
 use sqlite_items::Items;
@@ -85,7 +85,7 @@ fn attributes(
 ) -> Result<Items<resolved::Attribute>, NamesError>
     ensures { Follows (spec.attributes objects.now all.now scope.old) result scope.new }
 {
-    let mut made = Items::new(alloc);
+    let mut made = room_for(alloc, all.len())?;
     for one in all {
         made.push(attribute(alloc, objects, scope, one)?)?;
     }

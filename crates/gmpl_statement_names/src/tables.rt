@@ -3,7 +3,7 @@ ghost use Rattle.std.specs.Prelude.{◌≡◌, IfOk};
 ghost use Rattle.gmpl_names.specs.Expressions.{Follows, Gives};
 ghost use Rattle.gmpl_statement_names.specs.Statements as spec;
 
-use gmpl_names::{Names, NamesError, resolve_expr, resolve_indexing};
+use gmpl_names::{Names, NamesError, resolve_expr, resolve_indexing, room_for};
 use gmpl_resolved as resolved;
 use gmpl_syntax::{Expr, InputColumn, OutputColumn, SyntaxFaultKind, TableInput, TableOutput};
 use gmpl_text::Text;
@@ -75,7 +75,7 @@ fn input_columns(
 ) -> Result<Items<resolved::InputColumn>, NamesError>
     ensures { Follows (spec.input_columns objects.now all.now scope.now) result scope.now }
 {
-    let mut made = Items::new(alloc);
+    let mut made = room_for(alloc, all.len())?;
     for one in all {
         made.push(input_column(alloc, objects, scope, one)?)?;
     }
@@ -85,7 +85,7 @@ fn input_columns(
 fn copied(alloc: Global, all: &[Text]) -> Result<Items<Text>, AllocError>
     ensures { IfOk result (λ made. made ≡ all.now) }
 {
-    let mut made = Items::new(alloc);
+    let mut made = room_for(alloc, all.len())?;
     for one in all {
         made.push(one.copied(alloc)?)?;
     }
@@ -162,7 +162,7 @@ fn output_columns(
 ) -> Result<Items<resolved::OutputColumn>, NamesError>
     ensures { Follows (spec.output_columns objects.now all.now scope.old) result scope.new }
 {
-    let mut made = Items::new(alloc);
+    let mut made = room_for(alloc, all.len())?;
     for one in all {
         made.push(output_column(alloc, objects, scope, one)?)?;
     }

@@ -428,7 +428,7 @@ fn objects_text(alloc: Global, objects: &[Object]) -> Result<String, AllocError>
 
 fn answer_text(alloc: Global, text: &str) -> Result<String, AllocError> {
     let tokens = read_tokens(alloc, text.as_bytes())?;
-    match parse(alloc, &tokens) {
+    match parse(alloc, tokens) {
         Ok(model) => objects_text(alloc, model.objects.as_slice()),
         Err(ParseError::Fault(fault)) => fault_text(alloc, fault),
         Err(ParseError::NoMemory) => Err(AllocError),

@@ -38,7 +38,7 @@ fn report_text<R: Clock + Print>(rt: &R, alloc: Global, name: &str, text: &[u8])
 
 fn parse_text(alloc: Global, text: &[u8]) -> Result<Model, ParseError> {
     let tokens = read_tokens(alloc, text)?;
-    parse(alloc, &tokens)
+    parse(alloc, tokens)
 }
 
 fn report_fault<R: Print>(rt: &R, alloc: Global, name: &str, fault: SyntaxFault) -> io::Result<()> {
