@@ -1,13 +1,15 @@
--- Lists of entries by column: one more row, and back again.
-use Rattle.std.proofs.Common.{◌≡◌, ◌∙◌, ◌<◌, ◌≤◌, ◌≢◌, ℕ, zero, suc, ◌+◌, ◌-◌, ◌==◌, Bool, true, false, List, [], ◌∷◌, ◌++◌, length, take, map, get_or, set, refl, sym, ap, subst, zero-add, arith, if◌then◌else◌}
-use Rattle.std.specs.List.{All}
+-- Lists of entries by column: one more entry, one more row, and the lists of all rows.
+use Rattle.std.proofs.Common.{◌≡◌, ◌∙◌, ◌<◌, ◌≢◌, ℕ, zero, suc, ◌+◌, ◌==◌, Bool, true, false, List, [], ◌∷◌, ◌++◌, length, take, map, get_or, set, refl, sym, ap, subst, zero-add, arith, if◌then◌else◌}
+use Rattle.std.specs.List.{All, list_all}
 use Rattle.std.proofs.lemmas.Bool.Decides.{nat_tests}
-use Rattle.std.proofs.lemmas.List.{map-set, get_or-map, length-map, get_or-set_same, get_or-set_other, set-get_or, get_or_append_left, get_or-take, append-nil, append_assoc, length-append, length-take-le, take_more}
-use Rattle.std.proofs.Math.Seq.{take-append_seam}
+use Rattle.std.proofs.lemmas.List.{map-set, get_or-map, length-map, get_or-set_same, get_or-set_other, append-nil, append_assoc, length-append, length-take-le, take_more}
+use Rattle.std.proofs.lemmas.List.Sums.{AllPass-from_list_all}
 use Rattle.std.proofs.Math.ListN.{length-set}
 use Rattle.milp.specs.Form.{Entry}
 use Rattle.milp.specs.Problem.{Column, Row}
-use Rattle.instance.specs.ByColumn.{ColumnEntry, entries_in_form, entries_in_rows, entries_in_column, AreByColumn, with_entry, with_form, without_last, without_form}
+use Rattle.instance.specs.WellFormed.{are_entries}
+use Rattle.instance.specs.ByColumn.{ColumnEntry, entries_in_form, entries_in_rows, entries_in_column, AreByColumn, with_entry, with_form}
+use Rattle.instance.proofs.Sums.{form_in_range}
 
 -- ---- a list that is changed in its place
 
@@ -19,39 +21,15 @@ changed {X} f g xs all i x y view lt is e =
     let P : List (List ColumnEntry) → Type 0 = λ l. map f (set xs i y) ≡ set l i (g (get_or l i [])) in
     subst P view (map-set f xs i y ∙ ap (set (map f xs) i) (e ∙ ap g old))
 
-pub unchanged : {X : Type 0} (f : X → List ColumnEntry) (xs : List X) (all : List (List ColumnEntry)) (i : ℕ) (x y : X) → map f xs ≡ all → i < length all → x ≡ get_or xs i x → f y ≡ f x → map f (set xs i y) ≡ all
-unchanged f xs all i x y view lt is e = changed f (λ (es : List ColumnEntry). es) xs all i x y view lt is e ∙ set-get_or all i []
-
 -- ---- one more row
 
-pub length-with_form : (i : ℕ) (es : List Entry) (lists : List (List ColumnEntry)) → length (with_form i es lists) ≡ length lists
+length-with_form : (i : ℕ) (es : List Entry) (lists : List (List ColumnEntry)) → length (with_form i es lists) ≡ length lists
 length-with_form i [] lists = refl
 length-with_form i (e ∷ es) lists = length-with_form i es (with_entry i e lists) ∙ length-set lists e.column _
 
-pub with_form-snoc : (i : ℕ) (es : List Entry) (e : Entry) (lists : List (List ColumnEntry)) → with_form i (es ++ e ∷ []) lists ≡ with_entry i e (with_form i es lists)
+with_form-snoc : (i : ℕ) (es : List Entry) (e : Entry) (lists : List (List ColumnEntry)) → with_form i (es ++ e ∷ []) lists ≡ with_entry i e (with_form i es lists)
 with_form-snoc i [] e lists = refl
 with_form-snoc i (d ∷ es) e lists = with_form-snoc i es e (with_entry i d lists)
-
-pub without_form-snoc : (es : List Entry) (e : Entry) (lists : List (List ColumnEntry)) → without_form (es ++ e ∷ []) lists ≡ without_form es (without_last e.column lists)
-without_form-snoc [] e lists = refl
-without_form-snoc (d ∷ es) e lists = ap (without_last d.column) (without_form-snoc es e lists)
-
-set-set : {A : Type 0} (xs : List A) (i : ℕ) (a b : A) → set (set xs i a) i b ≡ set xs i b
-set-set [] i a b = refl
-set-set (x ∷ xs) zero a b = refl
-set-set (x ∷ xs) (suc i) a b = ap (λ ys. x ∷ ys) (set-set xs i a b)
-
-front-snoc : {A : Type 0} (xs : List A) (x : A) → take (length (xs ++ x ∷ []) - 1) (xs ++ x ∷ []) ≡ xs
-front-snoc xs x =
-    let size : length (xs ++ x ∷ []) - 1 ≡ length xs = omega (arith, length-append xs (x ∷ [])) in
-    rw size (take-append_seam xs (x ∷ []))
-
-back : (i : ℕ) (e : Entry) (lists : List (List ColumnEntry)) → e.column < length lists → without_last e.column (with_entry i e lists) ≡ lists
-back i e lists lt =
-    let old = get_or lists e.column [] in
-    let x : ColumnEntry = record { row = i; coefficient = e.coefficient } in
-    let now : get_or (set lists e.column (old ++ x ∷ [])) e.column [] ≡ old ++ x ∷ [] = get_or-set_same lists e.column (old ++ x ∷ []) [] lt in
-    rw now (rw (front-snoc old x) (set-set lists e.column (old ++ x ∷ []) old ∙ set-get_or lists e.column []))
 
 first : (n : ℕ) (e : Entry) (es : List Entry) → All (λ (d : Entry). d.column < n) (e ∷ es) → e.column < n
 first n e es h = h 0 e (omega arith)
@@ -59,23 +37,7 @@ first n e es h = h 0 e (omega arith)
 rest : (n m : ℕ) (e : Entry) (es : List Entry) → m ≡ n → All (λ (d : Entry). d.column < n) (e ∷ es) → All (λ (d : Entry). d.column < m) es
 rest n m e es is h = λ k d lt. let there : (get_or es k d).column < n = h (suc k) d (omega arith) in omega (arith, there, is)
 
-pub without-with : (i : ℕ) (es : List Entry) (lists : List (List ColumnEntry)) → All (λ (e : Entry). e.column < length lists) es → without_form es (with_form i es lists) ≡ lists
-without-with i [] lists h = refl
-without-with i (e ∷ es) lists h =
-    let more = with_entry i e lists in
-    ap (without_last e.column) (without-with i es more (rest (length lists) (length more) e es (length-set lists e.column _) h)) ∙ back i e lists (first (length lists) e es h)
-
--- ---- the loops
-
-pub taken_back : (left before : List Entry) (e : Entry) (lists more all : List (List ColumnEntry)) → left ≡ before ++ e ∷ [] → All (λ (d : Entry). d.column < length lists) left → without_form left lists ≡ all → more ≡ without_last e.column lists → All (λ (d : Entry). d.column < length more) before × (without_form before more ≡ all)
-taken_back left before e lists more all split range old is =
-    let size : length more ≡ length lists = ap length is ∙ length-set lists e.column _ in
-    let inside : All (λ (d : Entry). d.column < length lists) (before ++ e ∷ []) = subst (λ (es : List Entry). All (λ (d : Entry). d.column < length lists) es) split range in
-    let in_front : All (λ (d : Entry). d.column < length more) before = λ k d lt.
-    let P : Entry → Type 0 = λ x. x.column < length lists in
-    let there : (get_or before k d).column < length lists = subst P (get_or_append_left before (e ∷ []) d k lt) (inside k d (omega (arith, length-append before (e ∷ []), lt))) in
-    omega (arith, there, size) in
-    (in_front, ap (without_form before) is ∙ sym (without_form-snoc before e lists) ∙ sym (ap (λ (es : List Entry). without_form es lists) split) ∙ old)
+-- ---- the loop over a row's entries
 
 pub next_in_range : (i k : ℕ) (es : List Entry) (e : Entry) (old lists : List (List ColumnEntry)) → All (λ (d : Entry). d.column < length old) es → k < length es → e ≡ get_or es k e → lists ≡ with_form i (take k es) old → e.column < length lists
 next_in_range i k es e old lists range lt is now =
@@ -83,20 +45,6 @@ next_in_range i k es e old lists range lt is now =
     let P : Entry → Type 0 = λ x. x.column < length old in
     let there : e.column < length old = subst P (sym is) (range k e lt) in
     omega (arith, there, size)
-
-taken_in_range : (n k : ℕ) (es : List Entry) → All (λ (d : Entry). d.column < n) es → k ≤ length es → All (λ (d : Entry). d.column < n) (take k es)
-taken_in_range n k es range small = λ j d lt.
-    let below : j < k = omega (arith, length-take-le k es small, lt) in
-    let P : Entry → Type 0 = λ x. x.column < n in
-    subst P (sym (get_or-take k es j d below)) (range j d (omega (arith, below, small)))
-
-pub done_in_range : (i k : ℕ) (es : List Entry) (old lists now : List (List ColumnEntry)) → All (λ (d : Entry). d.column < length old) es → k ≤ length es → lists ≡ with_form i (take k es) old → now ≡ lists → All (λ (d : Entry). d.column < length now) (take k es)
-done_in_range i k es old lists now range small is same =
-    let size : length old ≡ length now = sym (ap length same ∙ ap length is ∙ length-with_form i (take k es) old) in
-    subst (λ (n : ℕ). All (λ (d : Entry). d.column < n) (take k es)) size (taken_in_range (length old) k es range small)
-
-pub all_back : (i k : ℕ) (es : List Entry) (old lists now : List (List ColumnEntry)) → All (λ (d : Entry). d.column < length old) es → k ≤ length es → lists ≡ with_form i (take k es) old → now ≡ lists → without_form (take k es) now ≡ old
-all_back i k es old lists now range small is same = ap (without_form (take k es)) (same ∙ is) ∙ without-with i (take k es) old (taken_in_range (length old) k es range small)
 
 pub one_more : (i k : ℕ) (es : List Entry) (e : Entry) (old lists now : List (List ColumnEntry)) → k < length es → e ≡ get_or es k e → lists ≡ with_form i (take k es) old → now ≡ with_entry i e lists → now ≡ with_form i (take (k + 1) es) old
 one_more i k es e old lists now lt is so more =
@@ -121,7 +69,7 @@ first_then : (t : Bool) (old more : List ColumnEntry) (x : ColumnEntry) → (old
 first_then true old more x = append_assoc old (x ∷ []) more
 first_then false old more x = ap (λ (l : List ColumnEntry). l ++ more) (append-nil old)
 
-pub get_or-with_form : (i : ℕ) (es : List Entry) (lists : List (List ColumnEntry)) (j : ℕ) → All (λ (e : Entry). e.column < length lists) es → get_or (with_form i es lists) j [] ≡ get_or lists j [] ++ entries_in_form i es j
+get_or-with_form : (i : ℕ) (es : List Entry) (lists : List (List ColumnEntry)) (j : ℕ) → All (λ (e : Entry). e.column < length lists) es → get_or (with_form i es lists) j [] ≡ get_or lists j [] ++ entries_in_form i es j
 get_or-with_form i [] lists j h = sym (append-nil (get_or lists j []))
 get_or-with_form i (e ∷ es) lists j h =
     let more = with_entry i e lists in
@@ -155,17 +103,39 @@ get_or-with_empty (l ∷ lists) (suc j) = get_or-with_empty lists j
 length-snoc : {A : Type 0} (xs : List A) (x : A) → length (xs ++ x ∷ []) ≡ length xs + 1
 length-snoc xs x = length-append xs (x ∷ [])
 
-pub by_column_with_column : (lists more : List (List ColumnEntry)) (columns columns' : List Column) (rows : List Row) (c : Column) → AreByColumn lists columns rows → more ≡ lists ++ [] ∷ [] → columns' ≡ columns ++ c ∷ [] → AreByColumn more columns' rows
-by_column_with_column lists more columns columns' rows c old is new = record {
-  size = ap length is ∙ length-snoc lists [] ∙ ap (λ (n : ℕ). n + 1) old.size ∙ sym (ap length new ∙ length-snoc columns c);
-  entries = λ j. ap (λ (l : List (List ColumnEntry)). get_or l j []) is ∙ get_or-with_empty lists j ∙ old.entries j;
+by_column_with_column : (lists : List (List ColumnEntry)) (columns : List Column) (c : Column) → AreByColumn lists columns [] → AreByColumn (lists ++ [] ∷ []) (columns ++ c ∷ []) []
+by_column_with_column lists columns c old = record {
+  size = length-snoc lists [] ∙ ap (λ (n : ℕ). n + 1) old.size ∙ sym (length-snoc columns c);
+  entries = λ j. get_or-with_empty lists j ∙ old.entries j;
 }
 
-pub by_column_with_row : (lists more : List (List ColumnEntry)) (columns : List Column) (rows rows' : List Row) (r : Row) → AreByColumn lists columns rows → All (λ (e : Entry). e.column < length lists) r.entries → more ≡ with_form (length rows) r.entries lists → rows' ≡ rows ++ r ∷ [] → AreByColumn more columns rows'
-by_column_with_row lists more columns rows rows' r old range is new = record {
-  size = ap length is ∙ length-with_form (length rows) r.entries lists ∙ old.size;
+by_column_with_row : (lists : List (List ColumnEntry)) (columns : List Column) (rows : List Row) (r : Row) → AreByColumn lists columns rows → All (λ (e : Entry). e.column < length lists) r.entries → AreByColumn (with_form (length rows) r.entries lists) columns (rows ++ r ∷ [])
+by_column_with_row lists columns rows r old range = record {
+  size = length-with_form (length rows) r.entries lists ∙ old.size;
   entries = λ j.
-      ap (λ (l : List (List ColumnEntry)). get_or l j []) is ∙ get_or-with_form (length rows) r.entries lists j range
+      get_or-with_form (length rows) r.entries lists j range
       ∙ ap (λ (l : List ColumnEntry). l ++ entries_in_form (length rows) r.entries j) (old.entries j)
-      ∙ sym (ap (λ (l : List Row). entries_in_column l j) new ∙ entries_in_column-snoc rows r j);
+      ∙ sym (entries_in_column-snoc rows r j);
 }
+
+-- ---- the loops over the columns and the rows
+
+pub column_added : (i : ℕ) (columns : List Column) (lists more : List (List ColumnEntry)) → i < length columns → AreByColumn lists (take i columns) [] → more ≡ lists ++ [] ∷ [] → AreByColumn more (take (i + 1) columns) []
+column_added i [] lists more lt old is = absurd (omega arith)
+column_added i (d ∷ ds) lists more lt old is =
+    let columns = d ∷ ds in
+    let P : List (List ColumnEntry) → List Column → Type 0 = λ ls cs. AreByColumn ls cs [] in
+    subst (λ ls. P ls (take (i + 1) columns)) (sym is) (subst (P (lists ++ [] ∷ [])) (sym (take_more columns i d lt)) (by_column_with_column lists (take i columns) (get_or columns i d) old))
+
+pub row_in_range : (i : ℕ) (columns : List Column) (rows done : List Row) (r : Row) (lists : List (List ColumnEntry)) → i < length rows → r ≡ get_or rows i r → list_all (λ (r : Row). are_entries (length columns) r.entries) rows ≡ true → AreByColumn lists columns done → All (λ (e : Entry). e.column < length lists) r.entries
+row_in_range i columns rows done r lists lt is formed old =
+    let form : are_entries (length columns) r.entries ≡ true = subst (λ (s : Row). are_entries (length columns) s.entries ≡ true) (sym is) (AllPass-from_list_all _ rows formed i r lt) in
+    form_in_range (length columns) (length lists) r.entries old.size form
+
+pub row_added : (i : ℕ) (columns : List Column) (rows : List Row) (r : Row) (lists more : List (List ColumnEntry)) → i < length rows → r ≡ get_or rows i r → list_all (λ (r : Row). are_entries (length columns) r.entries) rows ≡ true → AreByColumn lists columns (take i rows) → more ≡ with_form i r.entries lists → AreByColumn more columns (take (i + 1) rows)
+row_added i columns rows r lists more lt is formed old added =
+    let place : length (take i rows) ≡ i = length-take-le i rows (omega arith) in
+    let longer : more ≡ with_form (length (take i rows)) r.entries lists = added ∙ ap (λ (n : ℕ). with_form n r.entries lists) (sym place) in
+    let taken : take (i + 1) rows ≡ take i rows ++ r ∷ [] = take_more rows i r lt ∙ ap (λ (s : Row). take i rows ++ s ∷ []) (sym is) in
+    let range = row_in_range i columns rows (take i rows) r lists lt is formed old in
+    subst (λ ls. AreByColumn ls columns (take (i + 1) rows)) (sym longer) (subst (λ rs. AreByColumn (with_form (length (take i rows)) r.entries lists) columns rs) (sym taken) (by_column_with_row lists columns (take i rows) r old range))

@@ -6,7 +6,6 @@ use Rattle.std.specs.List.{list_all}
 use Rattle.milp.specs.Form.{Entry}
 use Rattle.milp.specs.Problem.{Column, Row}
 use Rattle.instance.specs.Continuous.{continuous}
-use Rattle.instance.specs.ByColumn.{ColumnEntry, AreByColumn}
 use Rattle.instance.specs.WellFormed.{are_entries, has_column, are_distinct_columns, IsWellFormed, IsWithinLimits}
 
 same_length : (cs : List Column) → length (map continuous cs) ≡ length cs
@@ -42,6 +41,3 @@ module _ (cs made : List Column) (rs : List Row) (is : made ≡ map continuous c
 
   pub within_limits : IsWithinLimits cs rs → IsWithinLimits made rs
   within_limits h = record { columns = subst (λ n. n ≤ 100000) as_many h.columns; rows = h.rows }
-
-  pub by_column : (lists : List (List ColumnEntry)) → AreByColumn lists cs rs → AreByColumn lists made rs
-  by_column lists h = record { size = h.size ∙ as_many; entries = h.entries }

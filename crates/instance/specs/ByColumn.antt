@@ -1,5 +1,5 @@
 -- The entries of rows, told column by column.
-use Rattle.std.specs.Prelude.{ℕ, ◌+◌, ◌-◌, ◌==◌, ◌≡◌, List, [], ◌∷◌, ◌++◌, length, take, slice_index_or, slice_set, if◌then◌else◌}
+use Rattle.std.specs.Prelude.{ℕ, ◌+◌, ◌==◌, ◌≡◌, List, [], ◌∷◌, ◌++◌, length, slice_index_or, slice_set, if◌then◌else◌}
 use Rattle.milp.specs.Form.{Entry}
 use Rattle.milp.specs.Problem.{Column, Row}
 pub use Rattle.instance.specs.declared.by_column.ColumnEntry.{ColumnEntry}
@@ -23,7 +23,7 @@ pub record AreByColumn (lists : List (List ColumnEntry)) (columns : List Column)
   pub size : length lists ≡ length columns
   pub entries : (j : ℕ) → slice_index_or lists j [] ≡ entries_in_column rows j
 
--- ---- one more row, and back again
+-- ---- one more row
 
 -- one more entry at the end of its column's list
 abbrev pub with_entry : ℕ → Entry → List (List ColumnEntry) → List (List ColumnEntry)
@@ -33,12 +33,3 @@ with_entry i e lists = slice_set lists e.column (slice_index_or lists e.column [
 abbrev pub with_form : ℕ → List Entry → List (List ColumnEntry) → List (List ColumnEntry)
 with_form i [] lists = lists
 with_form i (e ∷ es) lists = with_form i es (with_entry i e lists)
-
--- the last entry of column j taken off
-abbrev pub without_last : ℕ → List (List ColumnEntry) → List (List ColumnEntry)
-without_last j lists = slice_set lists j (take (length (slice_index_or lists j []) - 1) (slice_index_or lists j []))
-
--- for each entry of a form, from the last one on, the last entry of its column taken off
-abbrev pub without_form : List Entry → List (List ColumnEntry) → List (List ColumnEntry)
-without_form [] lists = lists
-without_form (e ∷ es) lists = without_last e.column (without_form es lists)

@@ -4,7 +4,6 @@ ghost use Rattle.rational.specs.Rational.{zero_ℚ};
 ghost use Rattle.milp.specs.declared.Direction.TheVariants.{Min};
 ghost use Rattle.instance.specs.WellFormed.{has_column, has_row, are_entries, entry_count, IsWellFormed};
 
-use crate::by_column::EntriesByColumn;
 use crate::{Column, Entries, Instance, Name, Row};
 use fraction::Frac;
 use milp::Direction;
@@ -34,7 +33,6 @@ pub enum BuildFault {
 pub struct Builder {
     columns: Vec<Column>,
     rows: Vec<Row>,
-    by_column: EntriesByColumn,
     entry_count: usize,
     direction: Direction,
     objective_name: Name,
@@ -46,13 +44,12 @@ impl Model for Builder {
     ghost use Rattle.std.specs.Prelude.{◌≡◌};
     ghost use Rattle.milp.specs.Problem.{Problem};
     ghost use Rattle.instance.specs.WellFormed.{IsWellFormed, IsWithinLimits, entry_count as entries_in};
-    ghost use Rattle.instance.specs.ByColumn.{AreByColumn};
 
     ghost Value = { Problem };
 
     ghost view = { λ b. record { columns = b.columns.items; rows = b.rows.items; direction = b.direction; objective_name = b.objective_name; objective = b.objective; constant = b.constant } };
 
-    ghost invariant = { λ b. record { limits : IsWithinLimits b.columns.items b.rows.items; well_formed : IsWellFormed b.columns.items b.rows.items b.objective; by_column : AreByColumn b.by_column b.columns.items b.rows.items; count : b.entry_count ≡ entries_in b.rows.items } };
+    ghost invariant = { λ b. record { limits : IsWithinLimits b.columns.items b.rows.items; well_formed : IsWellFormed b.columns.items b.rows.items b.objective; count : b.entry_count ≡ entries_in b.rows.items } };
 }
 
 impl Builder {
@@ -63,7 +60,6 @@ impl Builder {
         Ok(Builder {
             columns: Vec::new(alloc),
             rows: Vec::new(alloc),
-            by_column: EntriesByColumn::new(alloc),
             entry_count: 0,
             direction: Direction::Min,
             objective_name: Name::new(alloc, "obj")?,
@@ -102,8 +98,7 @@ impl Builder {
         if place >= MAX_COLUMNS {
             return Err((column, BuildFault::TooMany));
         }
-        let alloc = *self.columns.allocator();
-        if self.columns.reserve(1).is_err() || self.by_column.add_column(alloc).is_err() {
+        if self.columns.reserve(1).is_err() {
             return Err((column, BuildFault::NoMemory));
         }
         self.columns.push_reserved(column);
@@ -127,12 +122,11 @@ impl Builder {
         ensures entries_full { IfErr result (λ e. MAX_ENTRIES < entry_count self.old.rows + length row.entries → e.1 ≡ BuildFault.TooMany) }
     {
         let place = self.rows.len();
-        let entries = row.entries().as_slice();
-        let more = entries.len();
+        let more = row.entries().as_slice().len();
         if place >= MAX_ROWS || more > MAX_ENTRIES || self.entry_count > MAX_ENTRIES - more {
             return Err((row, BuildFault::TooMany));
         }
-        if self.rows.reserve(1).is_err() || self.by_column.add_row(place as u32, entries).is_err() {
+        if self.rows.reserve(1).is_err() {
             return Err((row, BuildFault::NoMemory));
         }
         self.rows.push_reserved(row);
@@ -158,7 +152,6 @@ impl Builder {
         let Builder {
             columns,
             rows,
-            by_column,
             entry_count: _,
             direction,
             objective_name,
@@ -168,7 +161,6 @@ impl Builder {
         Instance::with_parts(
             columns,
             rows,
-            by_column,
             direction,
             objective_name,
             objective,

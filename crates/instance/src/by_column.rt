@@ -1,10 +1,10 @@
-// The entries of rows, kept column by column.
-ghost use Rattle.std.specs.Prelude.{◌≡◌, ◌<◌, [], ◌∷◌, ◌++◌, length, map, slice_index_or, IfOk, OnOk, OnErr};
+// The entries of rows, told column by column.
+ghost use Rattle.std.specs.Prelude.{◌≡◌, ◌<◌, [], ◌∷◌, ◌++◌, length, slice_index_or, IfOk, OnOk};
 ghost use Rattle.std.specs.List.{All};
 ghost use Rattle.milp.specs.Form.{Entry as FormEntry};
-ghost use Rattle.instance.specs.ByColumn.{with_entry, with_form, without_last, without_form};
+ghost use Rattle.instance.specs.ByColumn.{AreByColumn, with_entry, with_form};
 
-use crate::Entry;
+use crate::{Column, Entry, Instance};
 use fraction::Frac;
 use std::alloc::{AllocError, Global};
 use std::marker::Model;
@@ -16,9 +16,10 @@ pub struct ColumnEntry {
     pub coefficient: Frac,
 }
 
-// A list of entries for each column.
+/// The entries of a problem by column: for each column a list of its entries, in order of row. A problem keeps its
+/// entries by row alone; `Instance::by_column` makes this of it. Clauses see the lists.
 #[derive(Drop)]
-pub(crate) struct EntriesByColumn {
+pub struct EntriesByColumn {
     lists: Vec<Vec<ColumnEntry>>,
 }
 
@@ -32,60 +33,54 @@ impl Model for EntriesByColumn {
 }
 
 impl EntriesByColumn {
-    // No columns.
-    pub(crate) fn new(alloc: Global) -> Self
-        ensures { result ≡ [] }
+    // The entries of a problem, in one pass over its rows.
+    pub(crate) fn of(alloc: Global, problem: &Instance) -> Result<Self, AllocError>
+        ensures { IfOk result (λ made. AreByColumn made problem.now.columns problem.now.rows) }
     {
-        EntriesByColumn {
-            lists: Vec::new(alloc),
+        problem.keeps_its_limits();
+        let mut made = EntriesByColumn::without_rows(alloc, problem.columns())?;
+        for (place, row) in problem.rows().iter().enumerate() {
+            made.add_row(place as u32, row.entries().as_slice())?;
         }
+        Ok(made)
     }
 
-    // The same lists.
-    pub(crate) fn copy(&self, alloc: Global) -> Result<Self, AllocError>
-        ensures { IfOk result (λ copy. copy ≡ self.now) }
+    // The columns, without entries.
+    fn without_rows(alloc: Global, columns: &[Column]) -> Result<Self, AllocError>
+        ensures { IfOk result (λ made. AreByColumn made columns.now []) }
     {
-        let lists = copy_lists(alloc, &self.lists)?;
-        Ok(EntriesByColumn { lists })
+        let mut made = EntriesByColumn {
+            lists: Vec::with_capacity(alloc, columns.len())?,
+        };
+        for _column in columns {
+            made.add_column(alloc)?;
+        }
+        Ok(made)
     }
 
     // One more column, without entries.
-    pub(crate) fn add_column(&mut self, alloc: Global) -> Result<(), AllocError>
-        ensures ok { OnOk result (self.new ≡ self.old ++ [] ∷ []) }
-        ensures kept { OnErr result (self.new ≡ self.old) }
+    fn add_column(&mut self, alloc: Global) -> Result<(), AllocError>
+        ensures { OnOk result (self.new ≡ self.old ++ [] ∷ []) }
     {
         self.lists.push(Vec::new(alloc))?;
         Ok(())
     }
 
     // The entries of a row, each at the end of its column's list.
-    pub(crate) fn add_row(&mut self, row: u32, entries: &[Entry]) -> Result<(), AllocError>
+    fn add_row(&mut self, row: u32, entries: &[Entry]) -> Result<(), AllocError>
         requires { All (λ (e : FormEntry). e.column < length self.old) entries.now }
-        ensures ok { OnOk result (self.new ≡ with_form row entries.now self.old) }
-        ensures kept { OnErr result (self.new ≡ self.old) }
+        ensures { OnOk result (self.new ≡ with_form row entries.now self.old) }
     {
-        for (done, entry) in entries.iter().enumerate() {
-            if let Err(error) = self.push(row, *entry) {
-                self.take_back(&entries[..done]);
-                return Err(error);
-            }
+        for entry in entries {
+            self.push(row, *entry)?;
         }
         Ok(())
-    }
-
-    // The entries of a column.
-    pub(crate) fn get(&self, column: u32) -> &[ColumnEntry]
-        requires { column < length self.now }
-        ensures { result.now ≡ slice_index_or self.now column [] }
-    {
-        self.lists[column as usize].as_slice()
     }
 
     // An entry of a row, at the end of its column's list.
     fn push(&mut self, row: u32, entry: Entry) -> Result<(), AllocError>
         requires { entry.column < length self.old }
-        ensures ok { OnOk result (self.new ≡ with_entry row entry self.old) }
-        ensures kept { OnErr result (self.new ≡ self.old) }
+        ensures { OnOk result (self.new ≡ with_entry row entry self.old) }
     {
         self.lists[entry.column as usize].push(ColumnEntry {
             row,
@@ -94,42 +89,11 @@ impl EntriesByColumn {
         Ok(())
     }
 
-    // Takes the last entry of a column off.
-    fn pop(&mut self, column: u32)
-        requires { column < length self.old }
-        ensures { self.new ≡ without_last column self.old }
+    /// The entries of a column.
+    pub fn get(&self, column: u32) -> &[ColumnEntry]
+        requires { column < length self.now }
+        ensures { result.now ≡ slice_index_or self.now column [] }
     {
-        self.lists[column as usize].pop();
+        self.lists[column as usize].as_slice()
     }
-
-    // For each entry, from the last one on, takes the last entry of its column off.
-    fn take_back(&mut self, entries: &[Entry])
-        requires { All (λ (e : FormEntry). e.column < length self.old) entries.now }
-        ensures { self.new ≡ without_form entries.now self.old }
-    {
-        let mut left = entries;
-        while let Some((entry, before)) = left.split_last() {
-            self.pop(entry.column);
-            left = before;
-        }
-    }
-}
-
-fn copy_lists(
-    alloc: Global,
-    lists: &[Vec<ColumnEntry>],
-) -> Result<Vec<Vec<ColumnEntry>>, AllocError>
-    ensures { IfOk result (λ copy. map (λ list. list.items) copy.items ≡ map (λ list. list.items) lists.now) }
-{
-    let mut copy = Vec::new(alloc);
-    for list in lists {
-        copy.push(copy_list(alloc, list)?)?;
-    }
-    Ok(copy)
-}
-
-fn copy_list(alloc: Global, list: &[ColumnEntry]) -> Result<Vec<ColumnEntry>, AllocError>
-    ensures { IfOk result (λ copy. copy.items ≡ list.now) }
-{
-    list.to_vec(alloc)
 }

@@ -13,7 +13,7 @@ mod signs;
 
 pub use bounds::{greater, lesser};
 pub use builder::{BuildFault, Builder, MAX_COLUMNS, MAX_ENTRIES, MAX_ROWS};
-pub use by_column::ColumnEntry;
+pub use by_column::{ColumnEntry, EntriesByColumn};
 pub use entries::{Entries, Entry};
 pub use milp::Direction;
 pub use name::Name;

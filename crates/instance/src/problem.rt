@@ -3,11 +3,10 @@ ghost use Rattle.std.specs.Prelude.{◌≡◌, ◌<◌, [], length, map, IfOk};
 ghost use Rattle.std.specs.List.{All};
 ghost use Rattle.milp.specs.Form.{Entry as FormEntry};
 ghost use Rattle.instance.specs.WellFormed.{IsWellFormed, IsWithinLimits};
-ghost use Rattle.instance.specs.ByColumn.{entries_in_column, AreByColumn};
+ghost use Rattle.instance.specs.ByColumn.{AreByColumn};
 ghost use Rattle.instance.specs.Continuous as spec;
 
-use crate::by_column::EntriesByColumn;
-use crate::{ColumnEntry, Entries, Name};
+use crate::{Entries, EntriesByColumn, Name};
 use fraction::Frac;
 use milp::Direction;
 use std::alloc::{AllocError, Global};
@@ -161,7 +160,6 @@ impl Row {
 pub struct Instance {
     columns: Vec<Column>,
     rows: Vec<Row>,
-    by_column: EntriesByColumn,
     direction: Direction,
     objective_name: Name,
     objective: Entries,
@@ -171,21 +169,19 @@ pub struct Instance {
 impl Model for Instance {
     ghost use Rattle.milp.specs.Problem.{Problem};
     ghost use Rattle.instance.specs.WellFormed.{IsWellFormed, IsWithinLimits};
-    ghost use Rattle.instance.specs.ByColumn.{AreByColumn};
 
     ghost Value = { Problem };
 
     ghost view = { λ p. record { columns = p.columns.items; rows = p.rows.items; direction = p.direction; objective_name = p.objective_name; objective = p.objective; constant = p.constant } };
 
-    ghost invariant = { λ p. record { limits : IsWithinLimits p.columns.items p.rows.items; well_formed : IsWellFormed p.columns.items p.rows.items p.objective; by_column : AreByColumn p.by_column p.columns.items p.rows.items } };
+    ghost invariant = { λ p. record { limits : IsWithinLimits p.columns.items p.rows.items; well_formed : IsWellFormed p.columns.items p.rows.items p.objective } };
 }
 
 impl Instance {
-    /// The problem of these parts, which are well formed, with its entries by column.
+    /// The problem of these parts, which are well formed.
     pub(crate) fn with_parts(
         columns: Vec<Column>,
         rows: Vec<Row>,
-        by_column: EntriesByColumn,
         direction: Direction,
         objective_name: Name,
         objective: Entries,
@@ -193,13 +189,11 @@ impl Instance {
     ) -> Self
         requires limits { IsWithinLimits columns.items rows.items }
         requires well_formed { IsWellFormed columns.items rows.items objective }
-        requires by_column { AreByColumn by_column columns.items rows.items }
         ensures { result ≡ record { columns = columns.items; rows = rows.items; direction = direction; objective_name = objective_name; objective = objective; constant = constant } }
     {
         Instance {
             columns,
             rows,
-            by_column,
             direction,
             objective_name,
             objective,
@@ -230,12 +224,11 @@ impl Instance {
         &self.rows
     }
 
-    /// The entries of a column, in order of row.
-    pub fn column_entries(&self, column: u32) -> &[ColumnEntry]
-        requires { column < length self.now.columns }
-        ensures { result.now ≡ entries_in_column self.now.rows column }
+    /// Its entries by column, in order of row, in one pass over its rows. The memory is of where the problem's own is.
+    pub fn by_column(&self) -> Result<EntriesByColumn, AllocError>
+        ensures { IfOk result (λ made. AreByColumn made self.now.columns self.now.rows) }
     {
-        self.by_column.get(column)
+        EntriesByColumn::of(*self.columns.allocator(), self)
     }
 
     /// The same problem with another direction. It takes no memory.
@@ -268,13 +261,11 @@ impl Instance {
     {
         let columns = copy_columns(alloc, &self.columns)?;
         let rows = copy_rows(alloc, &self.rows)?;
-        let by_column = self.by_column.copy(alloc)?;
         let objective_name = self.objective_name.copy(alloc)?;
         let objective = self.objective.copy(alloc)?;
         Ok(Instance::with_parts(
             columns,
             rows,
-            by_column,
             self.direction,
             objective_name,
             objective,

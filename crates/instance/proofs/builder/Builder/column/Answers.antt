@@ -2,7 +2,6 @@ use Rattle.std.proofs.Common.{◌≡◌, ◌∙◌, ◌++◌, ◌∷◌, [], ap,
 use Rattle.milp.specs.Problem.{Column}
 use Rattle.instance.specs.WellFormed.{has_column}
 use Rattle.instance.proofs.Longer.{with_column, length-snoc}
-use Rattle.instance.proofs.ByColumn.{by_column_with_column}
 use Rattle.instance.proofs.builder.Builder.column.Goals as goal
 
 pub invariant_of-self-2 : goal.invariant_of-self-2
@@ -11,11 +10,9 @@ invariant_of-self-2 c =
     let rows = c.self.inside.rows.items in
     let new : has_column c.args.column.name columns ≡ false = search rules in
     let items : c.push_reserved.new.self.items ≡ columns ++ c.args.column ∷ [] = c.push_reserved.ensures.items ∙ ap (λ (cs : List Column). cs ++ c.args.column ∷ []) c.reserve.ensures.items in
-    let lists : c.add_column.new.self ≡ c.self.inside.by_column ++ [] ∷ [] = search rules in
     let size = ap (λ (cs : List Column). length cs) items ∙ length-snoc columns c.args.column in
     record {
       limits = record { columns = omega (arith, size, c.self.invariant.limits.columns); rows = c.self.invariant.limits.rows };
       well_formed = with_column columns _ rows c.self.inside.objective c.args.column c.self.invariant.well_formed new items;
-      by_column = by_column_with_column c.self.inside.by_column _ columns _ rows c.args.column c.self.invariant.by_column lists items;
       count = c.self.invariant.count;
     }

@@ -1,6 +1,6 @@
 use Rattle.std.proofs.Common.{◌≡◌, ◌∙◌, map, ap}
 use Rattle.instance.specs.Continuous as spec
-use Rattle.instance.proofs.Continuous.{well_formed, within_limits, by_column}
+use Rattle.instance.proofs.Continuous.{well_formed, within_limits}
 use Rattle.instance.proofs.problem.Instance.without_integrality.Goals as goal
 
 pub invariant_of-result : goal.invariant_of-result
@@ -11,5 +11,4 @@ invariant_of-result c =
     record {
       limits = within_limits kept.columns.items made kept.rows.items is c.self.invariant.limits;
       well_formed = well_formed kept.columns.items made kept.rows.items is kept.objective c.self.invariant.well_formed;
-      by_column = by_column kept.columns.items made kept.rows.items is kept.by_column c.self.invariant.by_column;
     }
