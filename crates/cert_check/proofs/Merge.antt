@@ -1,8 +1,9 @@
 -- The products of a column's entries with the weights of their rows are those of the weights with their rows' entries.
-use Rattle.std.proofs.Common.{◌≡◌, ◌∙◌, ℕ, suc, ◌+◌, ◌-◌, ◌*◌, ◌<◌, ◌≤◌, ◌==◌, nat_le, Bool, true, false, if◌then◌else◌, length, slice_get, get_or, drop, Result, Ok, Err, List, [], ◌∷◌, ◌++◌, append_assoc, refl, sym, ap, arith}
+use Rattle.std.proofs.Common.{◌≡◌, ◌∙◌, ℕ, suc, ◌+◌, ◌-◌, ◌*◌, ◌<◌, ◌≤◌, ◌==◌, nat_le, Bool, true, false, if◌then◌else◌, length, slice_get, get_or, drop, Result, Ok, Err, List, [], ◌∷◌, ◌++◌, append_assoc, refl, sym, ap, subst, arith}
 use mathlib.Core.Path.{ap₂}
 use Rattle.std.proofs.Math.Decide.{ℕ_discrete}
 use Rattle.std.proofs.lemmas.Bool.{and_parts, eq-eqb, leb-true}
+use Rattle.std.proofs.lemmas.List.Sums.{AllPass-from_list_all}
 use Rattle.std.specs.List.{list_all}
 use Rattle.rational.specs.Rational.{Rational, one_ℚ}
 use Rattle.fraction.specs.declared.frac.NoFit.{NoFit}
@@ -168,6 +169,13 @@ by_column n rows items j h k = merged 0 rows items j (all rows h) k ∙ alike (�
     all : (rows : List Row) → list_all (λ (r : Row). are_entries n r.entries) rows ≡ true → AllAscend rows
     all [] h = tt
     all (r ∷ rs) h = let parts = and_parts _ _ h in (entries_ascend 0 n r.entries parts.0, all rs parts.1)
+
+-- ---- the order of one row
+
+pub row_ascends : (n : ℕ) (rows all : List Row) (i : ℕ) (r : Row) → list_all (λ (r : Row). are_entries n r.entries) rows ≡ true → all ≡ rows → i < length all → r ≡ get_or all i r → ascending 0 r.entries ≡ true
+row_ascends n rows all i r formed same there is =
+    let all_formed = subst (λ (rs : List Row). list_all (λ (r : Row). are_entries n r.entries) rs ≡ true) (sym same) formed in
+    entries_ascend 0 n r.entries (subst (λ (s : Row). are_entries n s.entries ≡ true) (sym is) (AllPass-from_list_all _ all all_formed i r there))
 
 -- ---- the loop over a column's entries
 

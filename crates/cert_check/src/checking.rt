@@ -5,6 +5,7 @@ ghost use Rattle.verdicts.specs.Proves.{Proves, Holds, tests, first_failing};
 ghost use Rattle.fraction.specs.Answers.{DoesNotFit};
 ghost use Rattle.cert_check.specs.Outcome.{outcome, outcome_of, part_of, IfRefused, HoldsUpTo, trials, value_trials, ray_trials, verdict_trials, tree_trials};
 
+use crate::by_column::ByColumn;
 use crate::derived::check_derived;
 use crate::nodes::check_nodes;
 use crate::part::{CheckFault, Checked, Part};
@@ -15,7 +16,7 @@ use instance::Instance;
 
 /// Whether a certificate proves its verdict for a problem: the first part that does not hold, if there is one. A fault is
 /// the first operation on the way, in the order of the parts and of the tests of each, whose result does not fit. It takes
-/// no memory.
+/// memory for the problem's entries by column; where that is not there it answers the same, and takes longer.
 pub fn check(problem: &Instance, certificate: &Certificate) -> Result<Checked, CheckFault>
     ensures exact { outcome_of result ≡ outcome (trials problem.now certificate.now) }
     ensures accepted { IfOk result (λ r. r ≡ Checked.Accepted → Proves problem.now certificate.now) }
@@ -120,8 +121,9 @@ fn check_tree(
 {
     let derived = certificate.derived().as_slice();
     let tree = certificate.tree();
-    match check_derived(problem, tree, derived)? {
-        Checked::Accepted => check_nodes(problem, goal, derived, tree),
+    let problem = ByColumn::new(problem);
+    match check_derived(&problem, tree, derived)? {
+        Checked::Accepted => check_nodes(&problem, goal, derived, tree),
         Checked::Refused(part) => Ok(Checked::Refused(part)),
     }
 }

@@ -10,6 +10,7 @@ ghost use Rattle.cert_check.specs.Parts.{ascending, problem_alone, side_bound, s
 ghost use Rattle.cert_check.specs.Outcome.{outcome, outcome_of, derived_trials};
 
 use crate::bounds::next;
+use crate::by_column::ByColumn;
 use crate::forms::{is_form, is_side_form, weights_of};
 use crate::part::{CheckFault, Checked, Part};
 use crate::setting::Setting;
@@ -162,11 +163,11 @@ fn proof_passes(
 }
 
 // A derived row follows from the problem.
-pub(crate) fn derived_passes(problem: &Instance, tree: &Tree, row: &Derived) -> Result<bool, NoFit>
+pub(crate) fn derived_passes(problem: &ByColumn, tree: &Tree, row: &Derived) -> Result<bool, NoFit>
     ensures { result ≡ derived_answer problem.now row.now }
 {
     let form = row.form().as_slice();
-    if !in_range(problem, form) {
+    if !in_range(problem.problem(), form) {
         return Ok(false);
     }
     let setting = Setting::alone(problem, tree);
@@ -175,7 +176,7 @@ pub(crate) fn derived_passes(problem: &Instance, tree: &Tree, row: &Derived) -> 
 
 // The first derived row that does not follow from the problem, if there is one.
 pub(crate) fn check_derived(
-    problem: &Instance,
+    problem: &ByColumn,
     tree: &Tree,
     rows: &[Derived],
 ) -> Result<Checked, CheckFault>

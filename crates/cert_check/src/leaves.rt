@@ -4,6 +4,7 @@ ghost use Rattle.verdicts.specs.Certificate.{Empty, Bound};
 ghost use Rattle.certificate.specs.Ways.{way};
 ghost use Rattle.cert_check.specs.Parts.{node_answer};
 
+use crate::by_column::ByColumn;
 use crate::nodes::{bound_passes, empty_passes};
 use crate::setting::Setting;
 use certificate::{Derived, Tree, Weights};
@@ -11,7 +12,7 @@ use fraction::{Frac, NoFit};
 use instance::Instance;
 
 /// Whether the weights show that no point is under the splits on the way to a place of a tree: the test of a leaf without
-/// points that stands there, or the first operation on the way that does not fit. It takes no memory.
+/// points that stands there, or the first operation on the way that does not fit. Memory is taken as in `check`.
 pub fn shows_no_point(
     problem: &Instance,
     derived: &[Derived],
@@ -22,12 +23,13 @@ pub fn shows_no_point(
     requires { place ≤ length tree.now }
     ensures { result ≡ node_answer (record { problem = problem.now; derived = derived.now; sides = way tree.now place }) None (Empty weights.now) }
 {
-    let setting = Setting::of_node(problem, derived, tree, place);
+    let problem = ByColumn::new(problem);
+    let setting = Setting::of_node(&problem, derived, tree, place);
     empty_passes(&setting, weights)
 }
 
 /// Whether the weights show that no point there has a better value of the objective's form than this one: the test of a
-/// leaf without better points that stands there, or the first operation on the way that does not fit. It takes no memory.
+/// leaf without better points that stands there, or the first operation on the way that does not fit. Memory is taken as in `check`.
 pub fn shows_none_better(
     problem: &Instance,
     derived: &[Derived],
@@ -39,6 +41,7 @@ pub fn shows_none_better(
     requires { place ≤ length tree.now }
     ensures { result ≡ node_answer (record { problem = problem.now; derived = derived.now; sides = way tree.now place }) (Some value) (Bound weights.now) }
 {
-    let setting = Setting::of_node(problem, derived, tree, place);
+    let problem = ByColumn::new(problem);
+    let setting = Setting::of_node(&problem, derived, tree, place);
     bound_passes(&setting, weights, value)
 }

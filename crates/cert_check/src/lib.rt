@@ -2,6 +2,7 @@
 #![tactic(auto)]
 
 mod bounds;
+mod by_column;
 mod checking;
 mod derived;
 mod forms;

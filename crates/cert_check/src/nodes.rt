@@ -11,6 +11,7 @@ ghost use Rattle.cert_check.specs.Sums.{weight_products, are_forms};
 ghost use Rattle.cert_check.specs.Parts.{shown_answer, bound_answer, node_answer};
 ghost use Rattle.cert_check.specs.Outcome.{outcome, outcome_of, node_trials};
 
+use crate::by_column::ByColumn;
 use crate::derived::is_integer;
 use crate::forms::is_form;
 use crate::part::{CheckFault, Checked, Part};
@@ -18,7 +19,7 @@ use crate::setting::Setting;
 use crate::sums::{all_there, bound_sum};
 use certificate::{Derived, Tree, TreeNode, Weights};
 use fraction::{Frac, NoFit};
-use instance::{Instance, signed};
+use instance::signed;
 
 // F is zero, and R above 0.
 pub(crate) fn empty_passes(setting: &Setting, weights: &Weights) -> Result<bool, NoFit>
@@ -76,7 +77,7 @@ fn node_passes(setting: &Setting, goal: Option<Frac>, node: &TreeNode) -> Result
 
 // The node at a place passes.
 fn place_passes(
-    problem: &Instance,
+    problem: &ByColumn,
     goal: &Option<Frac>,
     derived: &[Derived],
     tree: &Tree,
@@ -104,7 +105,7 @@ fn opened(node: &TreeNode, places: usize) -> usize
 
 // The first node that does not pass, if there is one, in preorder.
 pub(crate) fn check_nodes(
-    problem: &Instance,
+    problem: &ByColumn,
     goal: &Option<Frac>,
     derived: &[Derived],
     tree: &Tree,

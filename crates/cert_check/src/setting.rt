@@ -6,6 +6,7 @@ ghost use Rattle.cert_check.specs.Sums.{lower_answer};
 ghost use Rattle.cert_check.specs.Parts.{problem_alone};
 
 use crate::bounds::{lower_at, upper_at};
+use crate::by_column::ByColumn;
 use certificate::{Derived, Tree};
 use fraction::{Frac, NoFit};
 use instance::Instance;
@@ -14,7 +15,7 @@ use std::marker::Model;
 // The problem, the derived rows that weights may name, and the place of a node in a tree.
 #[derive(Drop)]
 pub(crate) struct Setting<'a> {
-    problem: &'a Instance,
+    problem: &'a ByColumn<'a>,
     derived: &'a [Derived],
     tree: &'a Tree,
     place: usize,
@@ -35,7 +36,7 @@ impl<'a> Model for Setting<'a> {
 impl<'a> Setting<'a> {
     // A node of a tree.
     pub(crate) fn of_node(
-        problem: &'a Instance,
+        problem: &'a ByColumn<'a>,
         derived: &'a [Derived],
         tree: &'a Tree,
         place: usize,
@@ -52,7 +53,7 @@ impl<'a> Setting<'a> {
     }
 
     // The problem alone: no derived rows, no splits.
-    pub(crate) fn alone(problem: &'a Instance, tree: &'a Tree) -> Self
+    pub(crate) fn alone(problem: &'a ByColumn<'a>, tree: &'a Tree) -> Self
         ensures { result ≡ problem_alone problem.now }
     {
         Setting::of_node(problem, &[], tree, 0)
@@ -60,6 +61,13 @@ impl<'a> Setting<'a> {
 
     // The problem.
     pub(crate) fn problem(&self) -> &'a Instance
+        ensures { result.now ≡ self.now.problem }
+    {
+        self.problem.problem()
+    }
+
+    // The problem with its entries by column.
+    pub(crate) fn by_column(&self) -> &'a ByColumn<'a>
         ensures { result.now ≡ self.now.problem }
     {
         self.problem
@@ -76,13 +84,13 @@ impl<'a> Setting<'a> {
     pub(crate) fn lower(&self, column: u32) -> Result<Option<Frac>, NoFit>
         ensures { result ≡ lower_answer self.now.problem self.now.sides column }
     {
-        lower_at(self.problem, self.tree, self.place, column)
+        lower_at(self.problem(), self.tree, self.place, column)
     }
 
     // The upper bound of a column under the splits on the way.
     pub(crate) fn upper(&self, column: u32) -> Option<Frac>
         ensures { result ≡ upper_under self.now.problem self.now.sides column }
     {
-        upper_at(self.problem, self.tree, self.place, column)
+        upper_at(self.problem(), self.tree, self.place, column)
     }
 }

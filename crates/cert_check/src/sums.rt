@@ -1,13 +1,13 @@
 // What weights add up to.
-ghost use Rattle.std.specs.Prelude.{◌<◌, length, ◌≡◌, [], ◌∷◌};
+ghost use Rattle.std.specs.Prelude.{◌<◌, length, ◌≡◌, [], ◌∷◌, IsTrue, slice_get};
 ghost use Rattle.rational.specs.Rational.{zero_ℚ, one_ℚ};
 ghost use Rattle.verdicts.specs.Proves.{bound_used};
 ghost use Rattle.certificate.specs.Written.{AreItemsFrom};
 ghost use Rattle.cert_check.specs.Sums.{with_product, bound_of, row_bound, derived_bound, are_there, all_there, with_bound, with_bounds, bound_sum, products, form_at, item_products, weight_products, with_products};
-ghost use Rattle.std.specs.Prelude.{slice_get};
+ghost use Rattle.cert_check.specs.Parts.{ascending};
 
 use crate::kind::Kind;
-use crate::lookup::{entry_of, with_entries, with_index};
+use crate::lookup::{entry_of, with_index};
 use crate::setting::Setting;
 use certificate::{Derived, Item, Weights};
 use fraction::{Frac, NoFit};
@@ -164,9 +164,7 @@ fn with_rows(setting: &Setting, items: &[Item], column: u32, start: Frac) -> Res
     requires items { AreItemsFrom 0 items.now }
     ensures { result ≡ with_products start (item_products (form_at setting.now Kind.OfRow) items.now column) }
 {
-    let problem = setting.problem();
-    problem.keeps_its_limits();
-    with_entries(start, problem.column_entries(column), items)
+    setting.by_column().with_rows(items, column, start)
 }
 
 // A total plus the weights of a column.
@@ -177,16 +175,29 @@ fn with_column(setting: &Setting, items: &[Item], column: u32, start: Frac) -> R
     with_index(start, items, column, Frac::one())
 }
 
-// A total plus a weight times the coefficient of a column in a derived row.
+// A total plus a weight times the coefficient of a column in a form.
 #[tactic(auto, using(crate::proofs::Ascending::products_none))]
+pub(crate) fn with_coefficient(
+    total: Frac,
+    weight: Frac,
+    form: &[Entry],
+    column: u32,
+) -> Result<Frac, NoFit>
+    requires { IsTrue (ascending 0 form.now) }
+    ensures { result ≡ with_products total (products weight form.now column) }
+{
+    match entry_of(form, column) {
+        None => Ok(total),
+        Some(coefficient) => with_product(total, weight, coefficient),
+    }
+}
+
+// A total plus a weight times the coefficient of a column in a derived row.
 fn with_derived_row(total: Frac, weight: Frac, row: &Derived, column: u32) -> Result<Frac, NoFit>
     ensures { result ≡ with_products total (products weight row.now.form column) }
 {
     let _bound = row.bound();
-    match entry_of(row.form().as_slice(), column) {
-        None => Ok(total),
-        Some(coefficient) => with_product(total, weight, coefficient),
-    }
+    with_coefficient(total, weight, row.form().as_slice(), column)
 }
 
 // A total plus a weight times the coefficient of a column in the derived row that it names.
