@@ -99,7 +99,8 @@ fn column_text(alloc: Global, problem: &Instance, column: u32) -> Result<String,
     if column as usize >= problem.columns().len() {
         return Ok(text);
     }
-    for entry in problem.column_entries(column) {
+    let entries = problem.by_column()?;
+    for entry in entries.get(column) {
         let coefficient = entry.coefficient.text(alloc)?;
         text.push_str(format!(in alloc; " {}:{coefficient}", entry.row)?.as_str())?;
     }
