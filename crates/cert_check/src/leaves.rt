@@ -29,7 +29,8 @@ pub fn shows_no_point(
 }
 
 /// Whether the weights show that no point there has a better value of the objective's form than this one: the test of a
-/// leaf without better points that stands there, or the first operation on the way that does not fit. Memory is taken as in `check`.
+/// leaf without better points that stands there, or the first operation on the way that does not fit. Memory is taken as
+/// in `check`.
 pub fn shows_none_better(
     problem: &Instance,
     derived: &[Derived],
