@@ -11,7 +11,7 @@ use std::alloc::Global;
 /// The model that these tokens of a text make, or its first fault. The tokens are given up as soon as the statements are there.
 /// Errors: `Fault` with the number, the line and the kind of the first bad statement; `NoMemory`.
 pub fn parse(alloc: Global, tokens: Tokens<'_>) -> Result<Model, ParseError>
-    ensures { IsOutcome (spec.parsed tokens) result }
+    ensures { IsOutcome (spec.parsed tokens.entry) result }
 {
     let statements = read_statements(alloc, &tokens)?;
     // the statements hold nothing of the tokens, which take as much memory
