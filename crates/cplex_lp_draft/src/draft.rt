@@ -176,14 +176,15 @@ impl<'a> Draft<'a> {
         self.rows.has(name)
     }
 
-    pub(crate) fn rows(&self) -> &[DeclaredRow]
-        ensures value { result.now ≡ self.now.rows }
-        ensures new { AreNew (map (λ (r : Row). r.name) self.now.rows) }
-        ensures few { length self.now.rows ≤ 100_000 }
-        ensures entries { entry_count self.now.rows ≤ 2_000_000 }
-        ensures forms { All (HasForm (length self.now.columns)) self.now.rows }
+    // The rows alone; all else is let go.
+    pub(crate) fn into_rows(self) -> Vec<DeclaredRow>
+        ensures value { result.items ≡ self.entry.rows }
+        ensures new { AreNew (map (λ (r : Row). r.name) self.entry.rows) }
+        ensures few { length self.entry.rows ≤ 100_000 }
+        ensures entries { entry_count self.entry.rows ≤ 2_000_000 }
+        ensures forms { All (HasForm (length self.entry.columns)) self.entry.rows }
     {
-        self.rows.as_slice()
+        self.rows.into_rows()
     }
 
     /// The row of a new name begins at a line.

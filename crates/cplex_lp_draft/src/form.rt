@@ -79,7 +79,7 @@ fn push_entry(entries: &mut Vec<Entry>, column: u32, coefficient: Frac) -> Resul
 fn entries_in(alloc: Global, sums: &BTreeMap<u32, Frac>) -> Result<Vec<Entry>, AllocError>
     ensures { IfOk result (λ entries. entries.items ≡ entries_of (map term_of sums.now.entries)) }
 {
-    let mut entries = Vec::new(alloc);
+    let mut entries = Vec::with_capacity(alloc, sums.len())?;
     for (column, coefficient) in sums {
         push_entry(&mut entries, *column, *coefficient)?;
     }

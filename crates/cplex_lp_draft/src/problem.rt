@@ -14,26 +14,26 @@ use instance::{Builder, Entries, Instance, MAX_ENTRIES, MAX_ROWS, Name};
 use model_text::{add_columns, add_row};
 use std::alloc::{AllocError, Global};
 
-/// The problem of a declaration.
-pub fn finish(alloc: Global, draft: &Draft) -> Result<Instance, AllocError>
-    ensures { IfOk result (λ problem. problem ≡ problem_of draft.now) }
+/// The problem of a declaration. The entries of its rows are moved, and all else of it is let go before that.
+pub fn finish(alloc: Global, draft: Draft) -> Result<Instance, AllocError>
+    ensures { IfOk result (λ problem. problem ≡ problem_of draft.entry) }
 {
     let mut builder = Builder::new(alloc)?;
     add_columns(alloc, &mut builder, draft.columns())?;
-    add_rows(alloc, &mut builder, draft.rows())?;
-    set_objective(alloc, &mut builder, draft)?;
+    set_objective(alloc, &mut builder, &draft)?;
+    add_rows(alloc, &mut builder, draft.into_rows())?;
     Ok(builder.done())
 }
 
 // ---- rows
 
-fn add_rows(alloc: Global, builder: &mut Builder, rows: &[DeclaredRow]) -> Result<(), AllocError>
+fn add_rows(alloc: Global, builder: &mut Builder, rows: Vec<DeclaredRow>) -> Result<(), AllocError>
     requires empty { builder.old.rows ≡ [] }
-    requires new { AreNew (map (λ (r : RowOf). r.name) rows.now) }
-    requires few { length rows.now ≤ 100_000 }
-    requires forms { All (HasForm (length builder.old.columns)) rows.now }
-    requires entries { entry_count rows.now ≤ 2_000_000 }
-    ensures { IfOk result (λ _. builder.new ≡ record builder.old { rows = rows.now }) }
+    requires new { AreNew (map (λ (r : RowOf). r.name) rows.items) }
+    requires few { length rows.items ≤ 100_000 }
+    requires forms { All (HasForm (length builder.old.columns)) rows.items }
+    requires entries { entry_count rows.items ≤ 2_000_000 }
+    ensures { IfOk result (λ _. builder.new ≡ record builder.old { rows = rows.items }) }
 {
     for row in rows {
         add_declared_row(alloc, builder, row)?;
@@ -44,22 +44,18 @@ fn add_rows(alloc: Global, builder: &mut Builder, rows: &[DeclaredRow]) -> Resul
 fn add_declared_row(
     alloc: Global,
     builder: &mut Builder,
-    row: &DeclaredRow,
+    row: DeclaredRow,
 ) -> Result<(), AllocError>
-    requires new { has_row row.now.name builder.old.rows ≡ false }
-    requires form { HasForm (length builder.old.columns) row.now }
+    requires new { has_row row.name builder.old.rows ≡ false }
+    requires form { HasForm (length builder.old.columns) row }
     requires room { length builder.old.rows < MAX_ROWS }
-    requires entry_room { entries_of_rows builder.old.rows + length row.now.entries ≤ MAX_ENTRIES }
-    ensures { IfOk result (λ _. builder.new ≡ record builder.old { rows = builder.old.rows ++ row.now ∷ [] }) }
+    requires entry_room { entries_of_rows builder.old.rows + length row.entries ≤ MAX_ENTRIES }
+    ensures { IfOk result (λ _. builder.new ≡ record builder.old { rows = builder.old.rows ++ row ∷ [] }) }
 {
-    add_row(
-        alloc,
-        builder,
-        row.name(),
-        row.lower(),
-        row.upper(),
-        row.entries(),
-    )
+    let lower = row.lower();
+    let upper = row.upper();
+    let (name, entries) = row.into_parts();
+    add_row(alloc, builder, name.as_str(), lower, upper, entries)
 }
 
 // ---- the objective

@@ -37,12 +37,6 @@ impl DeclaredRow {
         }
     }
 
-    pub(crate) fn name(&self) -> &str
-        ensures { result.now ≡ self.now.name }
-    {
-        self.name.as_str()
-    }
-
     pub(crate) fn lower(&self) -> Option<Frac>
         ensures { result ≡ self.now.lower }
     {
@@ -59,6 +53,14 @@ impl DeclaredRow {
         ensures { result.now ≡ self.now.entries }
     {
         &self.entries
+    }
+
+    // Its name and its entries, which are moved.
+    pub(crate) fn into_parts(self) -> (String, Vec<Entry>)
+        ensures name { string_bytes result.0 ≡ self.name }
+        ensures entries { result.1.items ≡ self.entries }
+    {
+        (self.name, self.entries)
     }
 
     // It has these bounds and entries.

@@ -59,14 +59,14 @@ impl RowTable {
         self.count
     }
 
-    // The rows, for reading. Their names differ.
-    pub(crate) fn as_slice(&self) -> &[DeclaredRow]
-        ensures value { result.now ≡ self.now }
-        ensures new { AreNew (map (λ (r : Row). r.name) self.now) }
-        ensures few { length self.now ≤ 100_000 }
-        ensures entries { entry_count self.now ≤ 2_000_000 }
+    // The rows alone. Their names differ.
+    pub(crate) fn into_rows(self) -> Vec<DeclaredRow>
+        ensures value { result.items ≡ self }
+        ensures new { AreNew (map (λ (r : Row). r.name) self) }
+        ensures few { length self ≤ 100_000 }
+        ensures entries { entry_count self ≤ 2_000_000 }
     {
-        &self.rows
+        self.rows
     }
 
     // A row has this name.

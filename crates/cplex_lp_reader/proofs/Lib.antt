@@ -1,1 +1,2 @@
 pub mod CplexLpExamples
+mod Ahead

@@ -3,3 +3,4 @@ pub mod CplexLp
 pub mod Objective
 pub mod Constraints
 pub mod Bounds
+pub mod Ahead

@@ -1,1 +1,2 @@
 mod Scanned
+mod Begun

@@ -1,2 +1,3 @@
 pub mod Lexemes
 pub mod Tokens
+pub mod Left

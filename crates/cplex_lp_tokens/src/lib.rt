@@ -10,4 +10,4 @@ mod tokens;
 
 pub use section_words::is_word;
 pub use token::{Relation, Section, Token, TokenKind, is_before_colon, is_before_name};
-pub use tokens::tokens_of_lines;
+pub use tokens::TokenReader;

@@ -51,36 +51,27 @@ fn finished_column(alloc: Global, column: &DeclaredColumn) -> Result<Column, All
     Ok(Column::new(name, column.lower(), column.upper(), column.integer()))
 }
 
-/// One more row of an instance that has room for it.
+/// One more row of an instance that has room for it. Its entries are moved.
 pub fn add_row(
     alloc: Global,
     builder: &mut Builder,
     name: &str,
     lower: Option<Frac>,
     upper: Option<Frac>,
-    entries: &[Entry],
+    entries: Vec<Entry>,
 ) -> Result<(), AllocError>
     requires new { has_row name.now builder.old.rows ≡ false }
-    requires form { IsTrue (are_entries (length builder.old.columns) entries.now) }
+    requires form { IsTrue (are_entries (length builder.old.columns) entries.items) }
     requires room { length builder.old.rows < MAX_ROWS }
-    requires entry_room { entry_count builder.old.rows + length entries.now ≤ MAX_ENTRIES }
-    ensures { IfOk result (λ _. builder.new ≡ record builder.old { rows = builder.old.rows ++ record { name = name.now; lower = lower; upper = upper; entries = entries.now } ∷ [] }) }
+    requires entry_room { entry_count builder.old.rows + length entries.items ≤ MAX_ENTRIES }
+    ensures { IfOk result (λ _. builder.new ≡ record builder.old { rows = builder.old.rows ++ record { name = name.now; lower = lower; upper = upper; entries = entries.items } ∷ [] }) }
 {
     let name = Name::new(alloc, name)?;
-    let entries = copied_form(alloc, entries)?;
+    let entries = Entries::from_vec(entries);
     match builder.row(Row::new(name, lower, upper, entries)) {
         Ok(_) => Ok(()),
         Err((_, fault)) => Err(no_memory(fault)),
     }
-}
-
-/// A form of the same entries.
-pub fn copied_form(alloc: Global, entries: &[Entry]) -> Result<Entries, AllocError>
-    ensures { IfOk result (λ form. form ≡ entries.now) }
-{
-    let mut copied = Vec::new(alloc);
-    copied.extend_from_slice(entries)?;
-    Ok(Entries::from_vec(copied))
 }
 
 // There is room for one more.

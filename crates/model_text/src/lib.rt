@@ -13,12 +13,12 @@ mod names;
 mod owned_names;
 mod profile;
 
-pub use build::{add_columns, add_row, copied_form};
+pub use build::{add_columns, add_row};
 pub use column_table::ColumnTable;
 pub use declared_column::DeclaredColumn;
 pub use error::ReadError;
 pub use fault::{FaultKind, FileFault};
-pub use lines::{as_text, lines_in};
+pub use lines::{as_text, first_line};
 pub use literals::{after, digits, places_length, with_exponent};
 pub use names::Names;
 pub use owned_names::OwnedNames;

@@ -1,46 +1,51 @@
 // The lines of a text.
-ghost use Rattle.std.specs.Prelude.{◌≡◌, ◌++◌, ◌==◌, map, if◌then◌else◌, Some, None, IfOk};
+ghost use Rattle.std.specs.Prelude.{◌≡◌, ◌+◌, ◌<◌, ◌≤◌, ◌==◌, [], ◌∷◌, length, if◌then◌else◌, Some, None, IfSome, IfNone};
 ghost use Rattle.std.specs.Option.{option_map};
-ghost use Rattle.std.specs.List.{slice_split};
+ghost use Rattle.std.specs.List.{position};
 ghost use Rattle.std.specs.Str.{is_utf8};
-ghost use Rattle.std.specs.Str.Lines.{lines_of_parts, strip_carriage_return};
+ghost use Rattle.std.specs.Str.Lines.{strip_carriage_return};
 ghost use Rattle.model_text.specs.Lines.{lines_of};
 
-use std::alloc::{AllocError, Global};
+use crate::literals::after;
 
-/// The lines of a text.
-pub fn lines_in(alloc: Global, text: &[u8]) -> Result<Vec<&[u8]>, AllocError>
-    ensures { IfOk result (λ lines. map (λ l. l.now) lines.items ≡ lines_of text.now) }
+/// The first line of a text and what comes after it, or nothing where the text is empty. The lines of a text are its
+/// first line, and then those of what comes after it.
+pub fn first_line(text: &[u8]) -> Option<(&[u8], &[u8])>
+    ensures some { IfSome result (λ parts. lines_of text.now ≡ parts.0.now ∷ lines_of parts.1.now) }
+    ensures none { IfNone result (text.now ≡ []) }
+    ensures shorter { IfSome result (λ parts. length parts.1.now < length text.now) }
+    ensures within { IfSome result (λ parts. length parts.0.now + length parts.1.now ≤ length text.now) }
 {
-    let pieces = pieces_of(alloc, text)?;
-    lines_from(alloc, &pieces)
-}
-
-// The pieces between line feeds.
-fn pieces_of(alloc: Global, text: &[u8]) -> Result<Vec<&[u8]>, AllocError>
-    ensures { IfOk result (λ pieces. map (λ l. l.now) pieces.items ≡ slice_split (λ b. b == 10) text.now) }
-{
-    text.split(|b| *b == b'\n').collect(alloc)
-}
-
-// Each piece but the last as a line, and the last where it is not empty.
-fn lines_from<'a>(alloc: Global, pieces: &[&'a [u8]]) -> Result<Vec<&'a [u8]>, AllocError>
-    ensures { IfOk result (λ lines. map (λ l. l.now) lines.items ≡ lines_of_parts (map (λ l. l.now) pieces.now)) }
-{
-    let mut lines = Vec::new(alloc);
-    for i in 0..pieces.len() {
-        let piece = pieces[i];
-        if i + 1 < pieces.len() {
-            lines.push(without_return(piece))?;
-        } else if !piece.is_empty() {
-            lines.push(piece)?;
-        }
+    match line_feed(text) {
+        Some(place) => Some((without_return(&text[..place]), after(text, place + 1))),
+        None => last_line(text),
     }
-    Ok(lines)
+}
+
+fn line_feed(text: &[u8]) -> Option<usize>
+    ensures { result ≡ position (λ b. b == 10) text.now }
+{
+    text.iter().position(|b| *b == b'\n')
+}
+
+// The line of a text without a line feed, where it is not empty.
+fn last_line(text: &[u8]) -> Option<(&[u8], &[u8])>
+    requires { position (λ b. b == 10) text.now ≡ None }
+    ensures some { IfSome result (λ parts. lines_of text.now ≡ parts.0.now ∷ lines_of parts.1.now) }
+    ensures none { IfNone result (text.now ≡ []) }
+    ensures shorter { IfSome result (λ parts. length parts.1.now < length text.now) }
+    ensures within { IfSome result (λ parts. length parts.0.now + length parts.1.now ≤ length text.now) }
+{
+    if text.is_empty() {
+        None
+    } else {
+        Some((text, after(text, text.len())))
+    }
 }
 
 fn without_return(line: &[u8]) -> &[u8]
-    ensures { result.now ≡ strip_carriage_return line.now }
+    ensures value { result.now ≡ strip_carriage_return line.now }
+    ensures within { length result.now ≤ length line.now }
 {
     let count = line.len();
     if count > 0 && line[count - 1] == b'\r' {

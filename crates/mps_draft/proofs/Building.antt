@@ -1,30 +1,38 @@
--- What a builder asks for, from what a draft keeps.
-use Rattle.std.proofs.Common.{◌≡◌, ◌∙◌, ℕ, suc, zero, ◌+◌, ◌<◌, ◌≤◌, false, List, [], ◌∷◌, ◌++◌, length, map, take, get_or, sym, ap, refl, arith}
-use Rattle.std.proofs.lemmas.List.{take_more}
-use Rattle.std.specs.Str.{bytes_eq}
-use Rattle.milp.specs.Problem.{Row}
+-- What is left to add to a problem, from what a draft keeps.
+use Rattle.std.proofs.Common.{◌≡◌, ◌+◌, ◌≤◌, false, List, [], ◌∷◌, ◌++◌, length, map, ap, refl, subst, arith}
+use Rattle.std.specs.List.{All}
+use Rattle.std.proofs.lemmas.List.{length-map}
+use Rattle.std.proofs.lemmas.List.Elements.{All-tail}
+use Rattle.milp.specs.Problem.{Problem, Row}
 use Rattle.instance.specs.WellFormed.{has_row, entry_count as entries_of_rows}
 use Rattle.model_text.specs.Names.{AreNew}
+use Rattle.model_text.proofs.Adding.{IsLeft, left-at-first, row-new, row-added}
+use Rattle.mps_draft.specs.Consistent.{IsGiven}
 use Rattle.mps_draft.specs.Declaration.{DeclaredRow, entry_count}
 use Rattle.mps_draft.specs.Finished.{finished_row}
-use Rattle.model_text.proofs.Laws.{list_any-same, new-at}
-use Rattle.mps_draft.proofs.Kept.{entry_count-push}
 
-pub row-new : (rows : List DeclaredRow) (i : ℕ) (r : DeclaredRow) → AreNew (map (λ (r : DeclaredRow). r.name) rows) → i < length rows → r ≡ get_or rows i r → has_row r.name (map finished_row (take i rows)) ≡ false
-row-new rows i r new h e =
-    sym (list_any-same finished_row (λ (y : DeclaredRow). bytes_eq y.name r.name) (λ (y : Row). bytes_eq y.name r.name) (λ y. refl) (take i rows)) ∙ new-at (λ (r : DeclaredRow). r.name) rows i r new h e
+names-finished : (rows : List DeclaredRow) → map (λ (r : Row). r.name) (map finished_row rows) ≡ map (λ (r : DeclaredRow). r.name) rows
+names-finished [] = refl
+names-finished (r ∷ rs) = ap (λ names. r.name ∷ names) (names-finished rs)
 
 entries-finished : (rows : List DeclaredRow) → entries_of_rows (map finished_row rows) ≡ entry_count rows
 entries-finished [] = refl
 entries-finished (r ∷ rs) = ap (λ n. length r.entries + n) (entries-finished rs)
 
-entry_count-take : (rows : List DeclaredRow) (n : ℕ) → entry_count (take n rows) ≤ entry_count rows
-entry_count-take [] zero = omega arith
-entry_count-take [] (suc n) = omega arith
-entry_count-take (r ∷ rs) zero = omega arith
-entry_count-take (r ∷ rs) (suc n) = let h = entry_count-take rs n in omega (arith, h)
+-- the rows that are left, of columns that are there
+abbrev pub AreLeft : Problem → List DeclaredRow → Problem → Type 0
+AreLeft b rows whole = IsLeft b (map finished_row rows) whole × All (IsGiven (length b.columns)) rows
 
-pub entries-fit : (rows : List DeclaredRow) (i : ℕ) (r : DeclaredRow) → i < length rows → r ≡ get_or rows i r → entries_of_rows (map finished_row (take i rows)) + length r.entries ≤ entry_count rows
-entries-fit rows i r h e =
-    let more : entry_count (take (i + 1) rows) ≡ entry_count (take i rows) + length r.entries = ap entry_count (take_more rows i r h ∙ ap (λ z. take i rows ++ z ∷ []) (sym e)) ∙ entry_count-push (take i rows) r in
-    omega (arith, more, entries-finished (take i rows), entry_count-take rows (i + 1))
+pub all-left : (b : Problem) (rows left : List DeclaredRow) → left ≡ rows → b.rows ≡ [] → AreNew (map (λ (r : DeclaredRow). r.name) rows) → length rows ≤ 100_000 → All (IsGiven (length b.columns)) rows → entry_count rows ≤ 2_000_000 → AreLeft b left (record b { rows = map finished_row rows })
+all-left b rows left same none new few given entries =
+    let one : IsLeft b (map finished_row rows) (record b { rows = map finished_row rows }) = left-at-first b (map finished_row rows) none (rw (names-finished rows) new) (omega (arith, length-map rows finished_row, few)) (omega (arith, entries-finished rows, entries)) in
+    rw same (one, given)
+
+pub next-new : (b whole : Problem) (row : DeclaredRow) (rows rest : List DeclaredRow) → rows ≡ row ∷ rest → AreLeft b rows whole → has_row row.name b.rows ≡ false
+next-new b whole row rows rest split left =
+    row-new b whole (finished_row row) (map finished_row rest) (subst (λ (rs : List DeclaredRow). IsLeft b (map finished_row rs) whole) split left.0)
+
+pub next-added : (b more whole : Problem) (row : DeclaredRow) (rows rest : List DeclaredRow) → more ≡ record b { rows = b.rows ++ finished_row row ∷ [] } → rows ≡ row ∷ rest → AreLeft b rows whole → AreLeft more rest whole
+next-added b more whole row rows rest is split left =
+    let given : All (IsGiven (length b.columns)) rest = All-tail (IsGiven (length b.columns)) row rest (subst (All (IsGiven (length b.columns))) split left.1) in
+    (row-added b more whole (finished_row row) (map finished_row rows) (map finished_row rest) is (ap (map finished_row) split) left.0, rw is given)

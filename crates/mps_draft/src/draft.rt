@@ -286,27 +286,23 @@ impl<'a> Draft<'a> {
         self.columns.as_slice()
     }
 
-    pub(crate) fn rows(&self) -> &[DeclaredRow<'a>]
-        ensures value { result.now ≡ self.now.rows }
-        ensures new { AreNew (map (λ (r : RowOf). r.name) self.now.rows) }
-        ensures few { length self.now.rows ≤ 100_000 }
-        ensures given { All (IsGiven (length self.now.columns)) self.now.rows }
-        ensures entries { count_of_entries self.now.rows ≤ 2_000_000 }
-    {
-        self.rows.as_slice()
-    }
-
     pub(crate) fn direction(&self) -> Direction
         ensures { result ≡ self.now.direction }
     {
         self.direction
     }
 
-    pub(crate) fn objective(&self) -> Option<&DeclaredRow<'a>>
-        ensures value { option_map (λ r. r.now) result ≡ self.now.objective }
-        ensures given { IfSome self.now.objective (IsGiven (length self.now.columns)) }
+    // The objective and the rows; all else is let go.
+    pub(crate) fn into_rows(self) -> (Option<DeclaredRow<'a>>, Vec<DeclaredRow<'a>>)
+        ensures objective { result.0 ≡ self.entry.objective }
+        ensures objective_given { IfSome self.entry.objective (IsGiven (length self.entry.columns)) }
+        ensures rows { result.1.items ≡ self.entry.rows }
+        ensures new { AreNew (map (λ (r : RowOf). r.name) self.entry.rows) }
+        ensures few { length self.entry.rows ≤ 100_000 }
+        ensures given { All (IsGiven (length self.entry.columns)) self.entry.rows }
+        ensures entries { count_of_entries self.entry.rows ≤ 2_000_000 }
     {
-        self.objective.as_ref()
+        (self.objective, self.rows.into_rows())
     }
 
     // ---- sets

@@ -11,32 +11,34 @@ use crate::draft::Draft;
 use crate::row::DeclaredRow;
 use fraction::Frac;
 use instance::{Builder, Direction, Entries, Instance, MAX_ENTRIES, MAX_ROWS, Name};
-use model_text::{add_columns, add_row, copied_form};
+use model_text::{add_columns, add_row};
 use std::alloc::{AllocError, Global};
 
-/// The problem of a declaration.
-pub fn finish(alloc: Global, draft: &Draft) -> Result<Instance, AllocError>
-    ensures { IfOk result (λ problem. problem ≡ problem_of draft.now) }
+/// The problem of a declaration. The entries of its rows are moved, and all else of it is let go before that.
+pub fn finish(alloc: Global, draft: Draft) -> Result<Instance, AllocError>
+    ensures { IfOk result (λ problem. problem ≡ problem_of draft.entry) }
 {
     let mut builder = Builder::new(alloc)?;
     add_columns(alloc, &mut builder, draft.columns())?;
-    add_rows(alloc, &mut builder, draft.rows())?;
-    match draft.objective() {
-        Some(objective) => set_objective(alloc, &mut builder, draft.direction(), objective)?,
-        None => set_nothing(alloc, &mut builder, draft.direction())?,
+    let direction = draft.direction();
+    let (objective, rows) = draft.into_rows();
+    add_rows(alloc, &mut builder, rows)?;
+    match objective {
+        Some(objective) => set_objective(alloc, &mut builder, direction, objective)?,
+        None => set_nothing(alloc, &mut builder, direction)?,
     }
     Ok(builder.done())
 }
 
 // ---- rows
 
-fn add_rows(alloc: Global, builder: &mut Builder, rows: &[DeclaredRow]) -> Result<(), AllocError>
+fn add_rows(alloc: Global, builder: &mut Builder, rows: Vec<DeclaredRow>) -> Result<(), AllocError>
     requires empty { builder.old.rows ≡ [] }
-    requires new { AreNew (map (λ (r : RowOf). r.name) rows.now) }
-    requires few { length rows.now ≤ 100_000 }
-    requires given { All (IsGiven (length builder.old.columns)) rows.now }
-    requires entries { entry_count rows.now ≤ 2_000_000 }
-    ensures { IfOk result (λ _. builder.new ≡ record builder.old { rows = map finished_row rows.now }) }
+    requires new { AreNew (map (λ (r : RowOf). r.name) rows.items) }
+    requires few { length rows.items ≤ 100_000 }
+    requires given { All (IsGiven (length builder.old.columns)) rows.items }
+    requires entries { entry_count rows.items ≤ 2_000_000 }
+    ensures { IfOk result (λ _. builder.new ≡ record builder.old { rows = map finished_row rows.entry.items }) }
 {
     for row in rows {
         add_declared_row(alloc, builder, row)?;
@@ -47,22 +49,18 @@ fn add_rows(alloc: Global, builder: &mut Builder, rows: &[DeclaredRow]) -> Resul
 fn add_declared_row(
     alloc: Global,
     builder: &mut Builder,
-    row: &DeclaredRow,
+    row: DeclaredRow,
 ) -> Result<(), AllocError>
-    requires new { has_row row.now.name builder.old.rows ≡ false }
-    requires given { IsGiven (length builder.old.columns) row.now }
+    requires new { has_row row.name builder.old.rows ≡ false }
+    requires given { IsGiven (length builder.old.columns) row }
     requires room { length builder.old.rows < MAX_ROWS }
-    requires entry_room { entries_of_rows builder.old.rows + length row.now.entries ≤ MAX_ENTRIES }
-    ensures { IfOk result (λ _. builder.new ≡ record builder.old { rows = builder.old.rows ++ finished_row row.now ∷ [] }) }
+    requires entry_room { entries_of_rows builder.old.rows + length row.entries ≤ MAX_ENTRIES }
+    ensures { IfOk result (λ _. builder.new ≡ record builder.old { rows = builder.old.rows ++ finished_row row.entry ∷ [] }) }
 {
-    add_row(
-        alloc,
-        builder,
-        row.name(),
-        row.lower(),
-        row.upper(),
-        row.entries(),
-    )
+    let name = row.name();
+    let lower = row.lower();
+    let upper = row.upper();
+    add_row(alloc, builder, name, lower, upper, row.into_entries())
 }
 
 // ---- the objective
@@ -72,17 +70,17 @@ fn set_objective(
     alloc: Global,
     builder: &mut Builder,
     direction: Direction,
-    objective: &DeclaredRow,
+    objective: DeclaredRow,
 ) -> Result<(), AllocError>
-    requires { IsGiven (length builder.old.columns) objective.now }
-    ensures { IfOk result (λ _. builder.new ≡ problem_with direction builder.old.columns builder.old.rows (Some objective.now)) }
+    requires { IsGiven (length builder.old.columns) objective }
+    ensures { IfOk result (λ _. builder.new ≡ problem_with direction builder.old.columns builder.old.rows (Some objective.entry)) }
 {
     let name = Name::new(alloc, objective.name())?;
-    let entries = copied_form(alloc, objective.entries())?;
     let constant = match objective.rhs() {
         Some(rhs) => rhs.neg(),
         None => Frac::zero(),
     };
+    let entries = Entries::from_vec(objective.into_entries());
     builder.objective(direction, name, entries, constant);
     Ok(())
 }

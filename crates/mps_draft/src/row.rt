@@ -1,5 +1,5 @@
 // Rows of a declaration.
-ghost use Rattle.std.specs.Prelude.{◌≡◌, ◌<◌, ◌≤◌, ◌^◌, IsTrue, OnOk, OnErr};
+ghost use Rattle.std.specs.Prelude.{◌≡◌, ◌<◌, ◌≤◌, ◌^◌, ◌++◌, [], ◌∷◌, IsTrue, OnOk, OnErr};
 ghost use Rattle.instance.specs.WellFormed.{are_entries};
 ghost use Rattle.mps_draft.specs.Declaration.{new_row, is_free};
 ghost use Rattle.mps_draft.specs.Rows.{given, row_kind_of};
@@ -55,6 +55,18 @@ impl RowKind {
 pub struct RowRange {
     pub lower: Frac,
     pub upper: Frac,
+}
+
+// One more entry. A full list grows by a quarter, so that little of it stands empty.
+fn push_entry(entries: &mut Vec<Entry>, entry: Entry) -> Result<(), AllocError>
+    ensures added { OnOk result (entries.new.items ≡ entries.old.items ++ entry ∷ []) }
+    ensures kept { OnErr result (entries.new.items ≡ entries.old.items) }
+{
+    if entries.len() == entries.capacity() {
+        entries.reserve_exact(entries.len() / 4 + 1)?;
+    }
+    entries.push(entry)?;
+    Ok(())
 }
 
 /// The objective or a row, as far as it is declared.
@@ -138,12 +150,12 @@ impl<'a> DeclaredRow<'a> {
         self.range
     }
 
-    // What the columns have in it: a form in order of column.
-    pub(crate) fn entries(&self) -> &[Entry]
-        ensures value { result.now ≡ self.now.entries }
-        ensures form { IsTrue (are_entries self.now.latest self.now.entries) }
+    // What the columns have in it, moved: a form in order of column.
+    pub(crate) fn into_entries(self) -> Vec<Entry>
+        ensures value { result.items ≡ self.entry.entries }
+        ensures form { IsTrue (are_entries self.entry.latest self.entry.entries) }
     {
-        &self.entries
+        self.entries
     }
 
     // What its value is at least.
@@ -180,10 +192,11 @@ impl<'a> DeclaredRow<'a> {
         ensures kept { OnErr result (self.new ≡ self.old) }
     {
         if !value.is_zero() {
-            self.entries.push(Entry {
+            let entry = Entry {
                 column: columns as u32 - 1,
                 coefficient: value,
-            })?;
+            };
+            push_entry(&mut self.entries, entry)?;
         }
         self.latest = columns;
         Ok(())

@@ -49,12 +49,12 @@ impl<'a> RowTable<'a> {
         self.rows.len()
     }
 
-    // The rows, for reading. Their names differ.
-    pub(crate) fn as_slice(&self) -> &[DeclaredRow<'a>]
-        ensures value { result.now ≡ self.now }
-        ensures new { AreNew (map (λ (r : RowOf). r.name) self.now) }
+    // The rows alone. Their names differ.
+    pub(crate) fn into_rows(self) -> Vec<DeclaredRow<'a>>
+        ensures value { result.items ≡ self.entry }
+        ensures new { AreNew (map (λ (r : RowOf). r.name) self.entry) }
     {
-        &self.rows
+        self.rows
     }
 
     // The row of a name.

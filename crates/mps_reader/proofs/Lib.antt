@@ -1,4 +1,3 @@
 pub mod FreeMpsExamples
-pub mod LineSteps
 pub mod Pairs
 pub mod WholePieces

@@ -1,6 +1,7 @@
 // Whole texts.
-ghost use Rattle.std.specs.Prelude.{◌≡◌, map, Ok, Err, IfOk};
+ghost use Rattle.std.specs.Prelude.{◌≡◌, Ok, Err, IfOk};
 ghost use Rattle.model_text.specs.declared.fault.FileFault.{FileFault as FileFaultOf};
+ghost use Rattle.model_text.specs.Lines.{lines_of};
 ghost use Rattle.model_text.specs.Profile.{IsWithinInstance};
 ghost use Rattle.model_text.specs.Follows.{Follows, Reads};
 ghost use Rattle.mps_reader.specs.Follows.{fault_at};
@@ -8,7 +9,7 @@ ghost use Rattle.mps_reader.specs.FreeMps.{declared, declared_from, declared_wit
 
 use crate::line::read_line;
 use instance::Instance;
-use model_text::{FaultKind, FileFault, Profile, ReadError, lines_in, reader_profile};
+use model_text::{FaultKind, FileFault, Profile, ReadError, first_line, reader_profile};
 use mps_draft::{Draft, finish};
 use std::alloc::Global;
 
@@ -30,41 +31,41 @@ pub fn read_within(
     requires { IsWithinInstance profile.now }
     ensures { Reads result (declared_within profile.now text.now) }
 {
-    let lines = match lines_in(alloc, text) {
-        Ok(lines) => lines,
-        Err(_) => return Err(ReadError::NoMemory),
-    };
     let mut draft = Draft::new(alloc);
-    match read_lines(alloc, profile, &mut draft, &lines) {
+    match read_lines(alloc, profile, &mut draft, text) {
         Ok(()) => {}
         Err(error) => return Err(error),
     }
-    match finish(alloc, &draft) {
+    match finish(alloc, draft) {
         Ok(problem) => Ok(problem),
         Err(_) => Err(ReadError::NoMemory),
     }
 }
 
-// Adds what these lines declare, which are all of a text.
+// Adds what the lines of a text declare.
 fn read_lines<'a>(
     alloc: Global,
     profile: &Profile,
     draft: &mut Draft<'a>,
-    lines: &[&'a [u8]],
+    text: &'a [u8],
 ) -> Result<(), ReadError<FileFault>>
     requires { IsWithinInstance profile.now }
-    ensures { Follows result draft.new (declared_from profile.now 1 draft.old (map (λ l. l.now) lines.now)) }
+    ensures { Follows result draft.new (declared_from profile.now 1 draft.old (lines_of text.now)) }
 {
-    for i in 0..lines.len() {
-        match read_line(alloc, profile, draft, lines[i]) {
+    let mut line = 1;
+    let mut rest = text;
+    while let Some((first, behind)) = first_line(rest) {
+        match read_line(alloc, profile, draft, first) {
             Ok(()) => {}
-            Err(error) => return Err(at_line(i + 1, error)),
+            Err(error) => return Err(at_line(line, error)),
         }
+        line += 1;
+        rest = behind;
     }
     if draft.section().is_ended() {
         Ok(())
     } else {
-        Err(at_line(lines.len() + 1, ReadError::Fault(FaultKind::NoEnd)))
+        Err(at_line(line, ReadError::Fault(FaultKind::NoEnd)))
     }
 }
 

@@ -1,11 +1,20 @@
--- A row's name is none before it, and its entries fit.
-use Rattle.std.proofs.Common.{ap, arith}
-use Rattle.milp.specs.Problem.{Problem}
-use Rattle.cplex_lp_draft.proofs.Building.{row-new, entries-fit}
+-- One row less is left.
+use Rattle.std.proofs.Common.{◌≡◌, ◌∷◌, rules}
+use Rattle.std.specs.Vec.Iter.{into_iter_items}
+use Rattle.cplex_lp_draft.proofs.Building.{all-left, next-new, next-added}
 use Rattle.cplex_lp_draft.proofs.problem.add_rows.Goals as goal
 
-pub add_declared_row-requires-clause-new : goal.add_declared_row-requires-clause-new
-add_declared_row-requires-clause-new c = rw (ap (λ (b : Problem). b.rows) c.loop-row.invariant) (row-new c.args.rows.now c.loop-row.row-index c.row-item.result c.requires.new (omega arith) c.row-item.is)
+pub loop-row-init : goal.loop-row-init
+loop-row-init c =
+    let all : into_iter_items c.into_iter-row-iterator.result ≡ c.args.rows.items = search rules in
+    (tt, tt, all-left c.args.builder.now c.args.rows.items _ all c.requires.empty c.requires.new c.requires.few c.requires.forms c.requires.entries)
 
-pub add_declared_row-requires-clause-entry_room : goal.add_declared_row-requires-clause-entry_room
-add_declared_row-requires-clause-entry_room c = rw (ap (λ (b : Problem). b.rows) c.loop-row.invariant) (omega (arith, entries-fit c.args.rows.now c.loop-row.row-index c.row-item.result (omega arith) c.row-item.is, c.requires.entries))
+pub add_declared_row-requires-clause-new : goal.add_declared_row-requires-clause-new
+add_declared_row-requires-clause-new c =
+    let split : into_iter_items c.loop-row.row-iterator ≡ c.in-Some.row ∷ into_iter_items c.next.new.self = search rules in
+    next-new c.loop-row.builder _ c.in-Some.row _ (into_iter_items c.next.new.self) split (c.loop-row.invariant).2
+
+pub loop-row-preserved : goal.loop-row-preserved
+loop-row-preserved c =
+    let split : into_iter_items c.loop-row.row-iterator ≡ c.in-Some.row ∷ into_iter_items c.next.new.self = search rules in
+    (tt, tt, next-added c.loop-row.builder c.add_declared_row.new.builder _ c.in-Some.row _ (into_iter_items c.next.new.self) c.in_ok-add_declared_row.ensures split (c.loop-row.invariant).2)

@@ -1,6 +1,10 @@
--- The rows so far.
-use Rattle.std.proofs.Common.{◌≡◌, take}
+-- What is left to add.
+use Rattle.std.specs.Vec.Iter.{into_iter_items}
+use Rattle.cplex_lp_draft.proofs.Building.{AreLeft}
 use Rattle.cplex_lp_draft.proofs.problem.add_rows.Given as goal
 
 abbrev pub invariant-loop-row : goal.invariant-loop-row
-invariant-loop-row l = l.builder ≡ record l.initial.builder { rows = take l.row-index l.rows }
+invariant-loop-row l =
+    (goal.iterator-loop-row).can_next l.row-iterator
+    × (goal.iterator-loop-row).is_finite l.row-iterator
+    × AreLeft l.builder (into_iter_items l.row-iterator) (record l.initial.builder { rows = l.fn.rows.items })

@@ -1,7 +1,13 @@
 -- The whole is what is left to do.
-use Rattle.std.proofs.Common.{◌≡◌, ◌+◌, drop, map}
+use Rattle.std.proofs.Common.{◌≡◌, ◌+◌, ◌≤◌, length}
+use Rattle.model_text.specs.Lines.{lines_of}
 use Rattle.mps_reader.specs.FreeMps.{declared_from}
 use Rattle.mps_reader.proofs.read.read_lines.Given as goal
 
-abbrev pub invariant-loop-i : goal.invariant-loop-i
-invariant-loop-i l = declared_from l.profile 1 l.initial.draft (map (λ x. x.now) l.lines) ≡ declared_from l.profile (l.i + 1) l.draft (drop l.i (map (λ x. x.now) l.lines))
+abbrev pub invariant-loop-first : goal.invariant-loop-first
+invariant-loop-first l =
+    (declared_from l.profile 1 l.initial.draft (lines_of l.text) ≡ declared_from l.profile l.line l.draft (lines_of l.rest))
+    × (l.line + length l.rest ≤ 1 + length l.text)
+
+abbrev pub decreases-loop-first : goal.decreases-loop-first
+decreases-loop-first l = length l.rest
