@@ -2,13 +2,14 @@
 ghost use Rattle.std.specs.Prelude.{◌≡◌, IsTrue, length};
 ghost use Rattle.gmpl_generate.specs.Solved.{RowsFit};
 
+use crate::rows::{Subject, check, split};
 use crate::tables::push_files;
 use crate::words::{fault_word, read};
 use fraction::Frac;
-use gmpl_reader::{Afterwards, MathProgFault, Reading, ReadingEnd, Rest, after_solve};
+use gmpl_generate::ModelFault;
+use gmpl_reader::{Afterwards, MathProgFault, Reading, ReadingEnd, Rest, TableFile, after_solve};
 use instance::{Instance, Point, activity};
 use std::alloc::{AllocError, Global};
-use std::process::Abort;
 use std::test::Fail;
 
 // A row has what is printed, where `$` ends a line, with the files behind it that are made, as `[name: text]`, and the fault where
@@ -54,6 +55,20 @@ fn point_of(alloc: Global, text: &str) -> Result<Point, AllocError> {
     Ok(Point::from_vec(numbers))
 }
 
+// What is printed, and the files that are made.
+fn made_word(alloc: Global, printed: String, files: &[TableFile]) -> Result<String, AllocError> {
+    let mut told = printed;
+    push_files(alloc, &mut told, files)?;
+    told.as_str().replace(alloc, "\n", "$")
+}
+
+fn with_fault(alloc: Global, made: String, fault: ModelFault) -> Result<String, AllocError> {
+    let mut word = made;
+    let fault = fault_word(alloc, MathProgFault::Model(fault))?;
+    word.push_str(fault.as_str())?;
+    Ok(word)
+}
+
 // What is printed, the files that are made, and the fault behind them.
 fn after_word(alloc: Global, after: Afterwards) -> Result<String, AllocError> {
     let Afterwards {
@@ -61,14 +76,11 @@ fn after_word(alloc: Global, after: Afterwards) -> Result<String, AllocError> {
         files,
         fault,
     } = after;
-    let mut told = printed;
-    push_files(alloc, &mut told, &files)?;
-    let mut word = told.as_str().replace(alloc, "\n", "$")?;
-    if let Some(fault) = fault {
-        let fault = fault_word(alloc, MathProgFault::Model(fault))?;
-        word.push_str(fault.as_str())?;
+    let made = made_word(alloc, printed, &files)?;
+    match fault {
+        Some(fault) => with_fault(alloc, made, fault),
+        None => Ok(made),
     }
-    Ok(word)
 }
 
 fn at_point(
@@ -87,10 +99,7 @@ fn at_point(
     after_word(alloc, after)
 }
 
-fn behind(alloc: Global, text: &str, point: &Point) -> Result<String, AllocError> {
-    let Ok(reading) = read(alloc, text, "@@")? else {
-        return "no model".to_string(alloc);
-    };
+fn behind_reading(alloc: Global, reading: Reading, point: &Point) -> Result<String, AllocError> {
     let Reading {
         printed: _,
         files: _,
@@ -102,19 +111,22 @@ fn behind(alloc: Global, text: &str, point: &Point) -> Result<String, AllocError
     }
 }
 
+fn behind(alloc: Global, text: &str, point: &Point) -> Result<String, AllocError> {
+    match read(alloc, text, "@@")? {
+        Ok(reading) => behind_reading(alloc, reading, point),
+        Err(_) => "no model".to_string(alloc),
+    }
+}
+
+pub(crate) fn behind_row(alloc: Global, row: &str) -> Result<String, AllocError> {
+    let (_, asked) = split(row);
+    let (point, text) = split(asked);
+    let point = point_of(alloc, point)?;
+    let found = behind(alloc, text, &point)?;
+    format!(in alloc; "{found} => {asked}")
+}
+
 #[test]
 fn texts_behind_solve(rt: HostRuntime) -> Result<(), Fail> {
-    let alloc = rt.alloc();
-    for row in BEHIND.lines() {
-        let Some((want, rest)) = row.split_once(" => ") else {
-            panic!(rt; "what is printed: {row}");
-        };
-        let Some((point, text)) = rest.split_once(" => ") else {
-            panic!(rt; "a point and a text: {row}");
-        };
-        let point = point_of(alloc, point)?;
-        let found = behind(alloc, text, &point)?;
-        assert_eq!(rt; found.as_str(), want, "at {row}");
-    }
-    Ok(())
+    check(&rt, rt.alloc(), &Subject::Behind, BEHIND)
 }

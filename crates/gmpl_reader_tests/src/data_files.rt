@@ -1,5 +1,5 @@
 // Models with files of data, with the problems that they declare. Behind ` <- ` stands a file.
-use crate::words::check_table;
+use crate::rows::{Subject, check};
 use std::test::Fail;
 
 // By hand after the language reference. Where there are files, the model's own section does not count; blocks are counted over
@@ -28,5 +28,5 @@ model fault: statement 2, line 1: CheckFailed => param p; check: p = 1; data; pa
 
 #[test]
 fn problems_of_models_with_files(rt: HostRuntime) -> Result<(), Fail> {
-    check_table(&rt, rt.alloc(), FILES)
+    check(&rt, rt.alloc(), &Subject::Problems, FILES)
 }

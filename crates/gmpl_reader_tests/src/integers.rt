@@ -1,5 +1,5 @@
 // Models with integer variables, with the problems that they declare.
-use crate::words::check_table;
+use crate::rows::{Subject, check};
 use std::test::Fail;
 
 // By hand after the language reference. `binary` is integer, from 0 to 1 or within that; the bounds of an integer column are
@@ -24,5 +24,5 @@ syntax fault: statement 1, line 1: Undeclared => var x integer, >= q; minimize z
 
 #[test]
 fn problems_with_integer_columns(rt: HostRuntime) -> Result<(), Fail> {
-    check_table(&rt, rt.alloc(), INTEGERS)
+    check(&rt, rt.alloc(), &Subject::Problems, INTEGERS)
 }

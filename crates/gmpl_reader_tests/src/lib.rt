@@ -12,6 +12,8 @@ mod models;
 #[cfg(test)]
 mod printed;
 #[cfg(test)]
+mod rows;
+#[cfg(test)]
 mod tables;
 #[cfg(test)]
 mod words;

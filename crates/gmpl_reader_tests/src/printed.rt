@@ -1,6 +1,7 @@
 // Texts that print on their way, with the problems that they declare, or their first faults.
+use crate::rows::{Subject, check, split};
 use crate::words::answer;
-use std::process::Abort;
+use std::alloc::{AllocError, Global};
 use std::test::Fail;
 
 // A row has what is printed, where `$` ends a line, then the problem or the fault, then a model with its files of data, each behind
@@ -41,20 +42,15 @@ abc => min obj + 0 | => printf 'a' & 'bc'; end;
 ";
 
 // What was printed, with a mark for each line end.
+pub(crate) fn printed_row(alloc: Global, row: &str) -> Result<String, AllocError> {
+    let (_, rest) = split(row);
+    let (_, texts) = split(rest);
+    let found = answer(alloc, texts, "@@")?;
+    let printed = found.printed.as_str().replace(alloc, "\n", "$")?;
+    format!(in alloc; "{printed} => {} => {texts}", found.end)
+}
+
 #[test]
 fn printed_texts(rt: HostRuntime) -> Result<(), Fail> {
-    let alloc = rt.alloc();
-    for row in PRINTED.lines() {
-        let Some((want, rest)) = row.split_once(" => ") else {
-            panic!(rt; "what is printed: {row}");
-        };
-        let Some((end, texts)) = rest.split_once(" => ") else {
-            panic!(rt; "a problem and its texts: {row}");
-        };
-        let found = answer(alloc, texts, "@@")?;
-        let printed = found.printed.as_str().replace(alloc, "\n", "$")?;
-        assert_eq!(rt; printed.as_str(), want, "at {row}");
-        assert_eq!(rt; found.end.as_str(), end, "at {row}");
-    }
-    Ok(())
+    check(&rt, rt.alloc(), &Subject::Printed, PRINTED)
 }

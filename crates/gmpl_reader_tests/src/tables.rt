@@ -1,8 +1,8 @@
 // Texts with tables that are read and written.
+use crate::rows::{Subject, check, split};
 use crate::words::{end_word, read, with_lines};
-use gmpl_reader::{Reading, ReadingEnd, TableFile, read_on};
+use gmpl_reader::{Pending, Reading, ReadingEnd, TableFile, read_on};
 use std::alloc::{AllocError, Global};
-use std::process::Abort;
 use std::test::Fail;
 
 // A row has what is told, then the problem or the fault, then a model with the texts of the tables' files in the order in which they
@@ -41,6 +41,11 @@ a => model fault: statement 2, line 1: DivZero => printf 'a'; table t{i in 1..3}
  => min obj + 0; r 1.. 1*x |; x .. => var x; s.t. r: x >= 1; solve; table t{i in 1..1} OUT 'CSV' 'o.csv': x ~ x; end;
 ";
 
+fn file_word(alloc: Global, name: &str, text: &[u8]) -> Result<String, AllocError> {
+    let text = str::from_utf8(text).unwrap_or("no text");
+    format!(in alloc; "[{name}: {text}]")
+}
+
 /// Files that are made, each as `[name: text]`.
 pub(crate) fn push_files(
     alloc: Global,
@@ -48,13 +53,37 @@ pub(crate) fn push_files(
     files: &[TableFile],
 ) -> Result<(), AllocError> {
     for file in files {
-        let name = file.name.as_str();
-        match String::from_utf8(file.text.to_vec(alloc)?) {
-            Ok(text) => told.push_str(format!(in alloc; "[{name}: {text}]")?.as_str())?,
-            Err(_) => told.push_str("[no text]")?,
-        }
+        let word = file_word(alloc, file.name.as_str(), file.text.as_slice())?;
+        told.push_str(word.as_str())?;
     }
     Ok(())
+}
+
+fn push_name(alloc: Global, told: &mut String, name: &str) -> Result<(), AllocError> {
+    told.push_str(format!(in alloc; "<{name}>")?.as_str())
+}
+
+fn read_further(
+    alloc: Global,
+    pending: Pending,
+    printed: String,
+    text: &str,
+) -> Result<Reading, AllocError> {
+    let text = with_lines(alloc, text, "|")?;
+    read_on(alloc, pending, printed, &text)
+}
+
+fn behind_table(
+    alloc: Global,
+    told: &mut String,
+    pending: Pending,
+    printed: String,
+    text: &str,
+) -> Result<Reading, AllocError> {
+    push_name(alloc, told, pending.pause.name.as_str())?;
+    let reading = read_further(alloc, pending, printed, text)?;
+    push_files(alloc, told, &reading.files)?;
+    Ok(reading)
 }
 
 // Where a table is asked for, the reading goes on with the text of its file; else it stays.
@@ -70,14 +99,7 @@ fn gone_on(
         end,
     } = reading;
     match end {
-        ReadingEnd::Table(pending) => {
-            let name = pending.pause.name.as_str();
-            told.push_str(format!(in alloc; "<{name}>")?.as_str())?;
-            let text = with_lines(alloc, text, "|")?;
-            let reading = read_on(alloc, pending, printed, &text)?;
-            push_files(alloc, told, &reading.files)?;
-            Ok(reading)
-        }
+        ReadingEnd::Table(pending) => behind_table(alloc, told, pending, printed, text),
         end => Ok(Reading {
             printed,
             files,
@@ -86,36 +108,55 @@ fn gone_on(
     }
 }
 
+// Each table is given the next text.
+fn behind_tables(
+    alloc: Global,
+    told: &mut String,
+    reading: Reading,
+    texts: &str,
+) -> Result<Reading, AllocError> {
+    let mut reading = reading;
+    for text in texts.split(" <- ").skip(1) {
+        reading = gone_on(alloc, told, reading, text)?;
+    }
+    Ok(reading)
+}
+
+fn whole_course(alloc: Global, told: String, reading: Reading) -> Result<String, AllocError> {
+    let end = end_word(alloc, reading.end)?;
+    format!(in alloc; "{told}{} => {end}", reading.printed)
+}
+
+fn course_of(alloc: Global, reading: Reading, texts: &str) -> Result<String, AllocError> {
+    let mut told = String::new(alloc);
+    push_files(alloc, &mut told, &reading.files)?;
+    let reading = behind_tables(alloc, &mut told, reading, texts)?;
+    whole_course(alloc, told, reading)
+}
+
+fn model(texts: &str) -> &str {
+    match texts.split_once(" <- ") {
+        Some((model, _)) => model,
+        None => texts,
+    }
+}
+
 // What is told of a model with these texts of tables, and its end.
 fn course(alloc: Global, texts: &str) -> Result<String, AllocError> {
-    let mut told = String::new(alloc);
-    let mut parts = texts.split(" <- ");
-    let Ok(mut reading) = read(alloc, parts.next().unwrap_or(""), "|")? else {
-        return "no model".to_string(alloc);
-    };
-    push_files(alloc, &mut told, &reading.files)?;
-    for text in parts {
-        reading = gone_on(alloc, &mut told, reading, text)?;
+    match read(alloc, model(texts), "|")? {
+        Ok(reading) => course_of(alloc, reading, texts),
+        Err(_) => "no model".to_string(alloc),
     }
-    told.push_str(reading.printed.as_str())?;
-    told.push_str(" => ")?;
-    told.push_str(end_word(alloc, reading.end)?.as_str())?;
-    Ok(told)
+}
+
+pub(crate) fn tables_row(alloc: Global, row: &str) -> Result<String, AllocError> {
+    let (_, rest) = split(row);
+    let (_, texts) = split(rest);
+    let found = course(alloc, texts)?.as_str().replace(alloc, "\n", "|")?;
+    format!(in alloc; "{found} => {texts}")
 }
 
 #[test]
 fn tables_are_read_and_written(rt: HostRuntime) -> Result<(), Fail> {
-    let alloc = rt.alloc();
-    for row in TABLES.lines() {
-        let Some((told, rest)) = row.split_once(" => ") else {
-            panic!(rt; "what is told: {row}");
-        };
-        let Some((end, texts)) = rest.split_once(" => ") else {
-            panic!(rt; "a problem and its texts: {row}");
-        };
-        let want = format!(in alloc; "{told} => {end}")?;
-        let found = course(alloc, texts)?.as_str().replace(alloc, "\n", "|")?;
-        assert_eq!(rt; found.as_str(), want.as_str(), "at {row}");
-    }
-    Ok(())
+    check(&rt, rt.alloc(), &Subject::Tables, TABLES)
 }

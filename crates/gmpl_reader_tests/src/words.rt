@@ -1,12 +1,11 @@
 // How the tables write problems and faults.
+use crate::rows::split;
 use fraction::Frac;
 use gmpl_reader::{MathProgFault, Reading, ReadingEnd, read_math_prog};
 use instance::{Column, Direction, Entry, Instance, Name, Row};
 use model_text::ReadError;
 use solution_writer::{Fault, fault_line};
 use std::alloc::{AllocError, Global};
-use std::process::Abort;
-use std::test::Fail;
 
 fn column_name(columns: &[Column], place: u32) -> &str {
     match columns.get(place as usize) {
@@ -193,16 +192,18 @@ pub(crate) fn answer(alloc: Global, texts: &str, mark: &str) -> Result<Outcome, 
     answer_of(alloc, read(alloc, texts, mark)?)
 }
 
+// What is printed, where anything is, and the problem or the fault.
+fn outcome_word(alloc: Global, outcome: Outcome) -> Result<String, AllocError> {
+    if outcome.printed.is_empty() {
+        return Ok(outcome.end);
+    }
+    format!(in alloc; "{} and {}", outcome.printed, outcome.end)
+}
+
 /// A row has a problem or a fault, and behind ` => ` a model with its files of data, each behind ` <- `; `|` in these texts ends a
 /// line. Nothing is printed.
-pub(crate) fn check_table(rt: &impl Abort, alloc: Global, table: &str) -> Result<(), Fail> {
-    for row in table.lines() {
-        let Some((want, texts)) = row.split_once(" => ") else {
-            panic!(rt; "a problem and its texts: {row}");
-        };
-        let found = answer(alloc, texts, "|")?;
-        assert_eq!(rt; found.end.as_str(), want, "at {row}");
-        assert_eq!(rt; found.printed.as_str(), "", "at {row}");
-    }
-    Ok(())
+pub(crate) fn problem_row(alloc: Global, row: &str) -> Result<String, AllocError> {
+    let (_, texts) = split(row);
+    let found = outcome_word(alloc, answer(alloc, texts, "|")?)?;
+    format!(in alloc; "{found} => {texts}")
 }
