@@ -11,19 +11,12 @@ use fraction::Frac;
 use instance::{Instance, Point};
 use search_tree::{Lease, Subtree};
 use std::alloc::{AllocError, Global};
-use std::test::Fail;
 use tree_pool::{Board, LeaseAnswer};
 
 /// The problem of a CPLEX LP text, in which `/` is a line feed.
-pub(crate) fn problem_of(alloc: Global, model: &str) -> Result<Instance, Fail> {
-    let mut text = String::new(alloc);
-    for c in model.chars() {
-        text.push(if c == '/' { '\n' } else { c })?;
-    }
-    match read_lp(alloc, text.as_bytes()) {
-        Ok(problem) => Ok(problem),
-        Err(_) => Err("a problem".into()),
-    }
+pub(crate) fn problem_of(alloc: Global, model: &str) -> Result<Option<Instance>, AllocError> {
+    let text = model.replace(alloc, "/", "\n")?;
+    Ok(read_lp(alloc, text.as_bytes()).ok())
 }
 
 /// A board at its start, without cuts.
