@@ -1,8 +1,8 @@
 // Expressions with their values or first faults. A row's kind says which evaluator is asked: `n` a number, `s` a symbol, `S` a set,
 // `b` what is true (1) or false (0), `f` a linear form.
 use crate::models::answer;
-use std::alloc::Global;
-use std::process::Abort;
+use crate::rows::{Subject, check, cut, split};
+use std::alloc::{AllocError, Global};
 use std::test::Fail;
 
 // What the expressions may name.
@@ -283,41 +283,34 @@ f 5y+1x.1+0 => y + x[1] + 4 * y
 f !NotANumber => y + 'a'
 ";
 
-pub(crate) fn check(rt: &impl Abort, alloc: Global, table: &str) -> Result<(), Fail> {
-    for row in table.lines() {
-        let Some((want, expression)) = row.split_once(" => ") else {
-            panic!(rt; "an answer and an expression: {row}");
-        };
-        let Some((kind, want)) = want.split_once(' ') else {
-            panic!(rt; "a kind and an answer: {row}");
-        };
-        let found = answer(alloc, PRELUDE, kind, expression)?;
-        assert_eq!(rt; found.as_str(), want, "at {row}");
-    }
-    Ok(())
+pub(crate) fn expression_row(alloc: Global, row: &str) -> Result<String, AllocError> {
+    let (head, expression) = split(row);
+    let (kind, _) = cut(head);
+    let found = answer(alloc, PRELUDE, kind, expression)?;
+    format!(in alloc; "{kind} {found} => {expression}")
 }
 
 #[test]
 fn numbers(rt: HostRuntime) -> Result<(), Fail> {
-    check(&rt, rt.alloc(), NUMBERS)
+    check(&rt, rt.alloc(), &Subject::Expressions, NUMBERS)
 }
 
 #[test]
 fn symbols(rt: HostRuntime) -> Result<(), Fail> {
-    check(&rt, rt.alloc(), SYMBOLS)
+    check(&rt, rt.alloc(), &Subject::Expressions, SYMBOLS)
 }
 
 #[test]
 fn sets(rt: HostRuntime) -> Result<(), Fail> {
-    check(&rt, rt.alloc(), SETS)
+    check(&rt, rt.alloc(), &Subject::Expressions, SETS)
 }
 
 #[test]
 fn truths(rt: HostRuntime) -> Result<(), Fail> {
-    check(&rt, rt.alloc(), TRUTHS)
+    check(&rt, rt.alloc(), &Subject::Expressions, TRUTHS)
 }
 
 #[test]
 fn forms(rt: HostRuntime) -> Result<(), Fail> {
-    check(&rt, rt.alloc(), FORMS)
+    check(&rt, rt.alloc(), &Subject::Expressions, FORMS)
 }

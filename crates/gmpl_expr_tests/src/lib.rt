@@ -6,6 +6,8 @@ mod expressions;
 #[cfg(test)]
 mod models;
 #[cfg(test)]
+mod rows;
+#[cfg(test)]
 mod solved;
 #[cfg(test)]
 mod texts;

@@ -1,4 +1,5 @@
 // Small models, evaluated. A row has its answer, what data give, and the model's text, whose last statement is the one that is asked.
+use crate::rows::{Subject, check, cut, split};
 use crate::texts::{fault_word, form_word, set_word, symbol_word, tuple_word};
 use fraction::Frac;
 use gmpl_data::{DataTables, Given, LoadedModel};
@@ -14,7 +15,6 @@ use gmpl_resolved::{Attribute, Declaration, Expr, Indexing, Numbered, Statement}
 use gmpl_value::{SetValue, Symbol, Tuple};
 use sqlite_items::Items;
 use std::alloc::{AllocError, Global};
-use std::process::Abort;
 use std::test::Fail;
 
 // The statement that asks for an expression, by the kind of the row.
@@ -70,6 +70,57 @@ fn condition(whole: &Expr) -> &Expr {
     }
 }
 
+// Each evaluator is called in a function of its own.
+fn symbol(
+    alloc: Global,
+    context: &mut Context<'_>,
+    whole: &Expr,
+    bindings: &Tuple,
+) -> Result<String, EvalFault> {
+    let symbol = eval_sym(alloc, context, whole, bindings)?;
+    Ok(symbol_word(alloc, &symbol)?)
+}
+
+fn set(
+    alloc: Global,
+    context: &mut Context<'_>,
+    whole: &Expr,
+    bindings: &Tuple,
+) -> Result<String, EvalFault> {
+    let set = eval_set(alloc, context, whole, bindings)?;
+    Ok(set_word(alloc, &set)?)
+}
+
+fn truth(
+    alloc: Global,
+    context: &mut Context<'_>,
+    whole: &Expr,
+    bindings: &Tuple,
+) -> Result<String, EvalFault> {
+    let truth = eval_bool(alloc, context, condition(whole), bindings)?;
+    Ok((if truth { "1" } else { "0" }).to_string(alloc)?)
+}
+
+fn form(
+    alloc: Global,
+    context: &mut Context<'_>,
+    whole: &Expr,
+    bindings: &Tuple,
+) -> Result<String, EvalFault> {
+    let form = eval_form(alloc, context, whole, bindings)?;
+    Ok(form_word(alloc, &form)?)
+}
+
+fn numeral(
+    alloc: Global,
+    context: &mut Context<'_>,
+    whole: &Expr,
+    bindings: &Tuple,
+) -> Result<String, EvalFault> {
+    let number = eval_num(alloc, context, whole, bindings)?;
+    Ok(number.text(alloc)?)
+}
+
 fn value_word(
     alloc: Global,
     context: &mut Context<'_>,
@@ -78,25 +129,31 @@ fn value_word(
 ) -> Result<String, EvalFault> {
     let bindings = Tuple::new(alloc);
     match kind {
-        "s" => Ok(symbol_word(alloc, &eval_sym(alloc, context, whole, &bindings)?)?),
-        "S" => Ok(set_word(alloc, &eval_set(alloc, context, whole, &bindings)?)?),
-        "b" => {
-            let truth = eval_bool(alloc, context, condition(whole), &bindings)?;
-            Ok((if truth { "1" } else { "0" }).to_string(alloc)?)
-        }
-        "f" => Ok(form_word(alloc, &eval_form(alloc, context, whole, &bindings)?)?),
-        _ => Ok(eval_num(alloc, context, whole, &bindings)?.text(alloc)?),
+        "s" => symbol(alloc, context, whole, &bindings),
+        "S" => set(alloc, context, whole, &bindings),
+        "b" => truth(alloc, context, whole, &bindings),
+        "f" => form(alloc, context, whole, &bindings),
+        _ => numeral(alloc, context, whole, &bindings),
     }
 }
 
-fn asked_word(alloc: Global, model: &LoadedModel, kind: &str) -> Result<String, AllocError> {
-    let Some(whole) = asked(model.statements.as_slice()) else {
-        return "no expression".to_string(alloc);
-    };
+fn word_of(
+    alloc: Global,
+    model: &LoadedModel,
+    kind: &str,
+    whole: &Expr,
+) -> Result<String, AllocError> {
     let mut context = Context::new(alloc, model);
     match value_word(alloc, &mut context, kind, whole) {
         Ok(word) => Ok(word),
         Err(fault) => fault_word(alloc, fault),
+    }
+}
+
+fn asked_word(alloc: Global, model: &LoadedModel, kind: &str) -> Result<String, AllocError> {
+    match asked(model.statements.as_slice()) {
+        Some(whole) => word_of(alloc, model, kind, whole),
+        None => "no expression".to_string(alloc),
     }
 }
 
@@ -109,9 +166,13 @@ pub(crate) fn answer(
 ) -> Result<String, AllocError> {
     let statement = statement_text(alloc, kind, expression)?;
     let text = format!(in alloc; "{prelude}{statement}")?;
-    let Some(statements) = statements_of(alloc, &text)? else {
-        return "no model".to_string(alloc);
-    };
+    match statements_of(alloc, &text)? {
+        Some(statements) => answer_of(alloc, statements, kind),
+        None => "no model".to_string(alloc),
+    }
+}
+
+fn answer_of(alloc: Global, statements: Items<Numbered>, kind: &str) -> Result<String, AllocError> {
     let model = LoadedModel {
         statements,
         steps: Items::new(alloc),
@@ -267,29 +328,40 @@ fn nothing_given(alloc: Global) -> Given {
     }
 }
 
+fn crowd(alloc: Global, overfull: &mut SetValue, member: &str) -> Result<(), AllocError> {
+    let member = tuple_of(alloc, member)?;
+    match overfull.insert(member) {
+        Ok(_) => Ok(()),
+        Err(_) => Err(AllocError),
+    }
+}
+
+fn give_value(
+    alloc: Global,
+    values: &mut Members,
+    member: &str,
+    word: &str,
+) -> Result<(), AllocError> {
+    let member = tuple_of(alloc, member)?;
+    let value = value_of(alloc, word)?;
+    match values.insert(member, value) {
+        Ok(()) => Ok(()),
+        Err(_) => Err(AllocError),
+    }
+}
+
 // What one change gives the first object.
 fn give(alloc: Global, given: &mut Given, change: &str) -> Result<(), AllocError> {
-    let mut words = change.split_whitespace().skip(1);
-    let Some(member) = words.next() else {
-        return Ok(());
-    };
-    let Some(word) = words.next() else {
-        return match given.overfull.insert(tuple_of(alloc, member)?) {
-            Ok(_) => Ok(()),
-            Err(_) => Err(AllocError),
-        };
-    };
+    let (_, words) = cut(change);
+    let (member, word) = cut(words);
+    if word.is_empty() {
+        return crowd(alloc, &mut given.overfull, member);
+    }
     if member == "*" {
         given.default = Some(Symbol::Number(number(word)));
         return Ok(());
     }
-    match given
-        .values
-        .insert(tuple_of(alloc, member)?, value_of(alloc, word)?)
-    {
-        Ok(()) => Ok(()),
-        Err(_) => Err(AllocError),
-    }
+    give_value(alloc, &mut given.values, member, word)
 }
 
 fn changed(
@@ -306,6 +378,15 @@ fn changed(
             _ => give(alloc, &mut given, change)?,
         }
     }
+    model_of(alloc, statements, given)
+}
+
+// The model whose first object is given this.
+fn model_of(
+    alloc: Global,
+    statements: Items<Numbered>,
+    given: Given,
+) -> Result<LoadedModel, AllocError> {
     let mut objects = Items::new(alloc);
     objects.push(given)?;
     Ok(LoadedModel {
@@ -323,16 +404,22 @@ fn bound_word(alloc: Global, bound: Option<Frac>) -> Result<String, AllocError> 
     }
 }
 
+fn both_bounds(
+    alloc: Global,
+    lower: Option<Frac>,
+    upper: Option<Frac>,
+) -> Result<String, AllocError> {
+    let lower = bound_word(alloc, lower)?;
+    let upper = bound_word(alloc, upper)?;
+    format!(in alloc; "{lower}..{upper}")
+}
+
 // The bounds of the member with the subscript 1 of the first statement.
 fn bounds_word(alloc: Global, model: &LoadedModel) -> Result<String, AllocError> {
-    let mut context = Context::new(alloc, model);
     let subscripts = tuple_of(alloc, "1")?;
+    let mut context = Context::new(alloc, model);
     match bounds_of(alloc, &mut context, 0, &subscripts) {
-        Ok(bounds) => {
-            let lower = bound_word(alloc, bounds.lower)?;
-            let upper = bound_word(alloc, bounds.upper)?;
-            format!(in alloc; "{lower}..{upper}")
-        }
+        Ok(bounds) => both_bounds(alloc, bounds.lower, bounds.upper),
         Err(fault) => fault_word(alloc, fault),
     }
 }
@@ -346,69 +433,88 @@ fn domain(statement: &Statement) -> &Option<Indexing> {
     }
 }
 
+fn element_word(alloc: Global, tuple: &Tuple, indices: &Tuple) -> Result<String, AllocError> {
+    let tuple = tuple_word(alloc, tuple)?;
+    let indices = tuple_word(alloc, indices)?;
+    format!(in alloc; "{tuple}/{indices}")
+}
+
 fn walk_word(alloc: Global, walk: &Walk) -> Result<String, AllocError> {
     let mut made = String::new(alloc);
     for element in walk.elements.as_slice() {
         if !made.is_empty() {
             made.push(' ')?;
         }
-        made.push_str(tuple_word(alloc, &element.tuple)?.as_str())?;
-        made.push('/')?;
-        made.push_str(tuple_word(alloc, &element.indices)?.as_str())?;
+        let word = element_word(alloc, &element.tuple, &element.indices)?;
+        made.push_str(word.as_str())?;
     }
-    if let Some(fault) = walk.fault {
-        made.push(' ')?;
-        made.push_str(fault_word(alloc, fault)?.as_str())?;
+    match walk.fault {
+        Some(fault) => with_fault(alloc, made, fault),
+        None => Ok(made),
     }
-    Ok(made)
+}
+
+fn with_fault(alloc: Global, made: String, fault: EvalFault) -> Result<String, AllocError> {
+    let fault = fault_word(alloc, fault)?;
+    format!(in alloc; "{made} {fault}")
 }
 
 // What the domain of the last statement goes over: the components, and those of the new indices behind `/`.
 fn elements_word(alloc: Global, model: &LoadedModel) -> Result<String, AllocError> {
-    let Some(last) = model.statements.as_slice().last() else {
-        return "no statement".to_string(alloc);
-    };
+    match model.statements.as_slice().last() {
+        Some(last) => elements_in(alloc, model, domain(&last.statement)),
+        None => "no statement".to_string(alloc),
+    }
+}
+
+fn elements_in(
+    alloc: Global,
+    model: &LoadedModel,
+    domain: &Option<Indexing>,
+) -> Result<String, AllocError> {
     let mut context = Context::new(alloc, model);
     let bindings = Tuple::new(alloc);
-    match elements_of(alloc, &mut context, domain(&last.statement), &bindings) {
+    match elements_of(alloc, &mut context, domain, &bindings) {
         Ok(walk) => walk_word(alloc, &walk),
         Err(fault) => fault_word(alloc, fault),
     }
 }
 
-fn member_word(alloc: Global, kind: &str, changes: &str, text: &str) -> Result<String, AllocError> {
-    let Some(statements) = statements_of(alloc, text)? else {
-        return "no model".to_string(alloc);
-    };
-    let model = changed(alloc, statements, changes)?;
+fn word_in(alloc: Global, model: &LoadedModel, kind: &str) -> Result<String, AllocError> {
     match kind {
-        "v" => bounds_word(alloc, &model),
-        "e" => elements_word(alloc, &model),
-        _ => asked_word(alloc, &model, kind),
+        "v" => bounds_word(alloc, model),
+        "e" => elements_word(alloc, model),
+        _ => asked_word(alloc, model, kind),
+    }
+}
+
+fn word_behind(
+    alloc: Global,
+    statements: Items<Numbered>,
+    kind: &str,
+    changes: &str,
+) -> Result<String, AllocError> {
+    let model = changed(alloc, statements, changes)?;
+    word_in(alloc, &model, kind)
+}
+
+fn member_word(alloc: Global, kind: &str, changes: &str, text: &str) -> Result<String, AllocError> {
+    match statements_of(alloc, text)? {
+        Some(statements) => word_behind(alloc, statements, kind, changes),
+        None => "no model".to_string(alloc),
     }
 }
 
 // A row is a kind, an answer, what data give and a text.
-fn parts<'a>(rt: &impl Abort, row: &'a str) -> (&'a str, &'a str, &'a str, &'a str) {
-    let Some((head, text)) = row.split_once(" | ") else {
-        panic!(rt; "data and a text: {row}");
-    };
-    let Some((answer, changes)) = head.split_once(" => ") else {
-        panic!(rt; "an answer and data: {row}");
-    };
-    let Some((kind, want)) = answer.split_once(' ') else {
-        panic!(rt; "a kind and an answer: {row}");
-    };
-    (kind, want, changes, text)
+pub(crate) fn member_row(alloc: Global, row: &str) -> Result<String, AllocError> {
+    let (head, asked) = split(row);
+    let (kind, _) = cut(head);
+    let (changes, text) = asked.split_once(" | ").unwrap_or((asked, ""));
+    let found = member_word(alloc, kind, changes, text)?;
+    format!(in alloc; "{kind} {found} => {changes} | {text}")
 }
 
 #[test]
 fn members_of_models(rt: HostRuntime) -> Result<(), Fail> {
-    let alloc = rt.alloc();
-    for row in MEMBERS.lines() {
-        let (kind, want, changes, text) = parts(&rt, row);
-        let found = member_word(alloc, kind, changes, text)?;
-        assert_eq!(rt; found.as_str(), want, "at {row}");
-    }
-    Ok(())
+    check(&rt, rt.alloc(), &Subject::Members, MEMBERS)
 }

@@ -1,16 +1,17 @@
 // Members behind `solve`, at a solution that is written by hand.
 use crate::models::{asked, statements_of, tuple_of};
+use crate::rows::{Subject, check, cut, split};
 use crate::texts::{fault_word, form_word, set_word, symbol_word, tuple_word};
 use fraction::Frac;
 use gmpl_data::{DataTables, LoadedModel};
 use gmpl_expr::{Context, eval_value, member_value};
 use gmpl_fault::EvalFault;
 use gmpl_operations::Value;
+use gmpl_resolved::Expr;
 use gmpl_solution::{Member, Solution, SolvedRow};
 use gmpl_value::Tuple;
 use sqlite_items::Items;
 use std::alloc::{AllocError, Global};
-use std::process::Abort;
 use std::test::Fail;
 
 // The members x[3] and y are no columns.
@@ -84,10 +85,16 @@ fn member(alloc: Global, statement: u32, subscript: &str) -> Result<Member, Allo
     })
 }
 
-fn with_values(alloc: Global, solution: Solution) -> Result<Solution, AllocError> {
+// With the value of a member of `x`.
+fn with_value(
+    alloc: Global,
+    solution: Solution,
+    subscript: &str,
+    value: Frac,
+) -> Result<Solution, AllocError> {
     let mut made = solution;
-    made.add_value(member(alloc, 0, "1")?, Frac::whole(4))?;
-    made.add_value(member(alloc, 0, "2")?, Frac::whole(3))?;
+    let member = member(alloc, 0, subscript)?;
+    made.add_value(member, value)?;
     Ok(made)
 }
 
@@ -100,10 +107,15 @@ fn row(value: Frac) -> SolvedRow {
     }
 }
 
-fn with_rows(alloc: Global, solution: Solution) -> Result<Solution, AllocError> {
+fn with_row(
+    alloc: Global,
+    solution: Solution,
+    subscript: &str,
+    value: Frac,
+) -> Result<Solution, AllocError> {
     let mut made = solution;
-    made.add_row(member(alloc, 2, "1")?, row(Frac::whole(4)))?;
-    made.add_row(member(alloc, 2, "2")?, row(Frac::whole(3)))?;
+    let member = member(alloc, 2, subscript)?;
+    made.add_row(member, row(value))?;
     Ok(made)
 }
 
@@ -123,8 +135,10 @@ fn with_objective(alloc: Global, solution: Solution) -> Result<Solution, AllocEr
 }
 
 fn solution(alloc: Global) -> Result<Solution, AllocError> {
-    let made = with_values(alloc, Solution::new(alloc))?;
-    let made = with_rows(alloc, made)?;
+    let made = with_value(alloc, Solution::new(alloc), "1", Frac::whole(4))?;
+    let made = with_value(alloc, made, "2", Frac::whole(3))?;
+    let made = with_row(alloc, made, "1", Frac::whole(4))?;
+    let made = with_row(alloc, made, "2", Frac::whole(3))?;
     with_objective(alloc, made)
 }
 
@@ -163,77 +177,93 @@ fn model(
     }))
 }
 
+fn value(alloc: Global, model: &LoadedModel, whole: &Expr) -> Result<Value, EvalFault> {
+    let mut context = Context::new(alloc, model);
+    let bindings = Tuple::new(alloc);
+    eval_value(alloc, &mut context, whole, &bindings)
+}
+
+fn asked_value(alloc: Global, model: &LoadedModel) -> Result<String, AllocError> {
+    match asked(model.statements.as_slice()) {
+        Some(whole) => result_word(alloc, value(alloc, model, whole)),
+        None => "no expression".to_string(alloc),
+    }
+}
+
 fn answer(
     alloc: Global,
     expression: &str,
     solution: Option<Solution>,
 ) -> Result<String, AllocError> {
-    let Some(model) = model(alloc, expression, solution)? else {
-        return "no model".to_string(alloc);
-    };
-    let Some(whole) = asked(model.statements.as_slice()) else {
-        return "no expression".to_string(alloc);
-    };
-    let mut context = Context::new(alloc, &model);
-    let found = eval_value(alloc, &mut context, whole, &Tuple::new(alloc));
-    result_word(alloc, found)
+    match model(alloc, expression, solution)? {
+        Some(model) => asked_value(alloc, &model),
+        None => "no model".to_string(alloc),
+    }
 }
 
 fn place(word: &str) -> usize {
     word.parse::<usize>().unwrap_or(99)
 }
 
-fn member_answer(alloc: Global, word: &str, subscript: &str) -> Result<String, AllocError> {
-    let solution = solution(alloc)?;
-    let Some(model) = model(alloc, "0", Some(solution))? else {
-        return "no model".to_string(alloc);
-    };
-    let subscripts = tuple_of(alloc, subscript)?;
-    let mut context = Context::new(alloc, &model);
-    let found = member_value(alloc, &mut context, place(word), &subscripts);
-    result_word(alloc, found)
+fn member_of(
+    alloc: Global,
+    model: &LoadedModel,
+    place: usize,
+    subscripts: &Tuple,
+) -> Result<Value, EvalFault> {
+    let mut context = Context::new(alloc, model);
+    member_value(alloc, &mut context, place, subscripts)
 }
 
-fn parts<'a>(rt: &impl Abort, row: &'a str) -> (&'a str, &'a str) {
-    let Some((want, asked)) = row.split_once(" => ") else {
-        panic!(rt; "an answer and what is asked: {row}");
-    };
-    (want, asked)
+fn member_word(
+    alloc: Global,
+    model: &LoadedModel,
+    place: usize,
+    subscript: &str,
+) -> Result<String, AllocError> {
+    let subscripts = tuple_of(alloc, subscript)?;
+    result_word(alloc, member_of(alloc, model, place, &subscripts))
+}
+
+fn member_answer(alloc: Global, word: &str, subscript: &str) -> Result<String, AllocError> {
+    let solution = solution(alloc)?;
+    match model(alloc, "0", Some(solution))? {
+        Some(model) => member_word(alloc, &model, place(word), subscript),
+        None => "no model".to_string(alloc),
+    }
+}
+
+pub(crate) fn solved_row(alloc: Global, row: &str) -> Result<String, AllocError> {
+    let (_, expression) = split(row);
+    let solution = solution(alloc)?;
+    let found = answer(alloc, expression, Some(solution))?;
+    format!(in alloc; "{found} => {expression}")
 }
 
 #[test]
 fn behind_solve(rt: HostRuntime) -> Result<(), Fail> {
-    let alloc = rt.alloc();
-    for row in SOLVED.lines() {
-        let (want, expression) = parts(&rt, row);
-        let solution = solution(alloc)?;
-        let found = answer(alloc, expression, Some(solution))?;
-        assert_eq!(rt; found.as_str(), want, "at {row}");
-    }
-    Ok(())
+    check(&rt, rt.alloc(), &Subject::Solved, SOLVED)
+}
+
+pub(crate) fn unsolved_row(alloc: Global, row: &str) -> Result<String, AllocError> {
+    let (_, expression) = split(row);
+    let found = answer(alloc, expression, None)?;
+    format!(in alloc; "{found} => {expression}")
 }
 
 #[test]
 fn without_a_solution(rt: HostRuntime) -> Result<(), Fail> {
-    let alloc = rt.alloc();
-    for row in UNSOLVED.lines() {
-        let (want, expression) = parts(&rt, row);
-        let found = answer(alloc, expression, None)?;
-        assert_eq!(rt; found.as_str(), want, "at {row}");
-    }
-    Ok(())
+    check(&rt, rt.alloc(), &Subject::Unsolved, UNSOLVED)
+}
+
+pub(crate) fn solved_member_row(alloc: Global, row: &str) -> Result<String, AllocError> {
+    let (_, asked) = split(row);
+    let (place, subscript) = cut(asked);
+    let found = member_answer(alloc, place, subscript)?;
+    format!(in alloc; "{found} => {asked}")
 }
 
 #[test]
 fn members_behind_solve(rt: HostRuntime) -> Result<(), Fail> {
-    let alloc = rt.alloc();
-    for row in MEMBERS.lines() {
-        let (want, asked) = parts(&rt, row);
-        let Some((place, subscript)) = asked.split_once(' ') else {
-            panic!(rt; "a place and a subscript: {row}");
-        };
-        let found = member_answer(alloc, place, subscript)?;
-        assert_eq!(rt; found.as_str(), want, "at {row}");
-    }
-    Ok(())
+    check(&rt, rt.alloc(), &Subject::SolvedMembers, MEMBERS)
 }
