@@ -1,5 +1,6 @@
 // Certificates that are checked, and one that is written.
-use crate::runs::{check_table, model_alone, outcome};
+use crate::rows::{Subject, check};
+use crate::runs::{model_alone, outcome};
 use std::test::Fail;
 
 // A certificate, or a part of one, for the small model, and for a linear program with two rows: whole, with a number
@@ -22,7 +23,7 @@ const CHECKED: &str = "\
 
 #[test]
 fn certificates_are_checked(rt: HostRuntime) -> Result<(), Fail> {
-    check_table(&rt, rt.alloc(), CHECKED)
+    check(&rt, rt.alloc(), &Subject::Answers, CHECKED)
 }
 
 // The report and the certificate go to their files, in pieces of seven bytes.

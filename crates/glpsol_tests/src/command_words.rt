@@ -1,4 +1,5 @@
 // Words, and the settings that they ask for.
+use crate::rows::{Subject, check, split};
 use command_line::{DataFiles, Language, Settings, Task, WordsFault, read_words};
 use instance::{Direction, Name};
 use std::alloc::{AllocError, Global};
@@ -150,26 +151,21 @@ usage <- --math|f|-y|y|--display|y
 usage <- --math|f|-Y|y
 ";
 
-fn check_table(rt: &impl Abort, alloc: Global, table: &str) -> Result<(), Fail> {
-    for row in table.lines() {
-        let Some((want, words)) = row.split_once(" <- ") else {
-            panic!(rt; "an answer and words: {row}");
-        };
-        let found = found_of(alloc, &words_of(alloc, words)?)?;
-        assert_eq!(rt; found.as_str(), want, "at {row}");
-    }
-    Ok(())
+pub(crate) fn settings_of_row(alloc: Global, row: &str) -> Result<String, AllocError> {
+    let (_, words) = split(row);
+    let words = words_of(alloc, words)?;
+    found_of(alloc, &words)
 }
 
 #[test]
 fn commands_are_read(rt: HostRuntime) -> Result<(), Fail> {
-    check_table(&rt, rt.alloc(), COMMANDS)
+    check(&rt, rt.alloc(), &Subject::Settings, COMMANDS)
 }
 
 #[test]
 fn other_words_are_no_command(rt: HostRuntime) -> Result<(), Fail> {
     assert!(rt; read_words(rt.alloc(), &[]).err() == Some(WordsFault::Usage));
-    check_table(&rt, rt.alloc(), NO_COMMANDS)
+    check(&rt, rt.alloc(), &Subject::Settings, NO_COMMANDS)
 }
 
 // What words ask for, in the tables' words.

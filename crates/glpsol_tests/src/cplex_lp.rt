@@ -1,5 +1,5 @@
 // CPLEX LP texts, and their answers.
-use crate::runs::check_table;
+use crate::rows::{Subject, check};
 use std::test::Fail;
 
 const TEXTS: &str = "\
@@ -15,5 +15,5 @@ const TEXTS: &str = "\
 
 #[test]
 fn texts_and_their_answers(rt: HostRuntime) -> Result<(), Fail> {
-    check_table(&rt, rt.alloc(), TEXTS)
+    check(&rt, rt.alloc(), &Subject::Answers, TEXTS)
 }

@@ -1,8 +1,9 @@
 // Words that are no command, files that are missing, and an outside that fails.
-use crate::runs::{check_table, model_alone, status, words_of, written};
+use crate::rows::{Subject, check};
+use crate::runs::{model_alone, printed, words_of};
 use glpsol_cli::{Answer, Reached, Target, run};
 use outside::MemSink;
-use std::alloc::Global;
+use std::alloc::{AllocError, Global};
 use std::process::Abort;
 use std::test::Fail;
 use std::thread::Threads;
@@ -15,7 +16,7 @@ const WORDS: &str = "\
 
 #[test]
 fn words_that_are_no_command(rt: HostRuntime) -> Result<(), Fail> {
-    check_table(&rt, rt.alloc(), WORDS)
+    check(&rt, rt.alloc(), &Subject::Answers, WORDS)
 }
 
 const MISSING: &str = "\
@@ -25,7 +26,7 @@ const MISSING: &str = "\
 
 #[test]
 fn a_file_that_is_missing(rt: HostRuntime) -> Result<(), Fail> {
-    check_table(&rt, rt.alloc(), MISSING)
+    check(&rt, rt.alloc(), &Subject::Answers, MISSING)
 }
 
 // The number of the call on the store that fails, and what is printed: opening, two reads and the end of the model, making,
@@ -47,36 +48,30 @@ const FAILING_CALLS: &str = "\
 14 OPTIMAL$objective cost 2$column x 2$
 ";
 
-fn check_failing_call<T: Threads + Sync + Abort>(
+fn printed_at_call<T: Threads + Sync>(
     rt: &T,
     alloc: Global,
-    call: &str,
-    want: &str,
-) -> Result<(), Fail> {
-    let Ok(number) = call.parse::<u64>() else {
-        panic!(rt; "a number: {call}");
-    };
+    number: u64,
+) -> Result<String, AllocError> {
     let mut files = model_alone(alloc, Some(number), 4096)?;
-    let mut out = MemSink::new(alloc, Vec::new(alloc), 1);
     let words = words_of(alloc, "--freemps f --cert c -o r -w w")?;
-    let _status = status(rt, alloc, words, &mut files, &mut out);
-    assert_eq!(rt;
-        out.bytes(),
-        written(alloc, want)?.as_bytes(),
-        "at call {call}"
-    );
-    Ok(())
+    printed(rt, alloc, words, &mut files, 1)
+}
+
+/// A row with what is printed.
+pub(crate) fn failing_call<T: Threads + Sync>(
+    rt: &T,
+    alloc: Global,
+    row: &str,
+) -> Result<String, AllocError> {
+    let (call, _) = row.split_once(' ').unwrap_or((row, ""));
+    let found = printed_at_call(rt, alloc, call.parse::<u64>().unwrap_or(0))?;
+    format!(in alloc; "{call} {found}")
 }
 
 #[test]
 fn each_call_on_the_store_fails(rt: HostRuntime) -> Result<(), Fail> {
-    for row in FAILING_CALLS.lines() {
-        let Some((call, want)) = row.split_once(' ') else {
-            panic!(rt; "a call and what is printed: {row}");
-        };
-        check_failing_call(&rt, rt.alloc(), call, want)?;
-    }
-    Ok(())
+    check(&rt, rt.alloc(), &Subject::FailingCalls, FAILING_CALLS)
 }
 
 // The sink takes 4 bytes, and fails then.

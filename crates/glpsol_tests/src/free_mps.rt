@@ -1,5 +1,5 @@
 // Free MPS texts of few columns, and their answers.
-use crate::runs::check_table;
+use crate::rows::{Subject, check};
 use std::test::Fail;
 
 const TEXTS: &str = "\
@@ -20,5 +20,5 @@ const TEXTS: &str = "\
 
 #[test]
 fn texts_and_their_answers(rt: HostRuntime) -> Result<(), Fail> {
-    check_table(&rt, rt.alloc(), TEXTS)
+    check(&rt, rt.alloc(), &Subject::Answers, TEXTS)
 }

@@ -1,5 +1,5 @@
 // Integer programs in the three languages, whose optima GLPK gives too, and certificates with a tree.
-use crate::runs::{check_round_trips, check_table};
+use crate::rows::{Subject, check};
 use std::test::Fail;
 
 // Among them a knapsack and its relaxation, equations that no whole numbers meet, limits of splits that are too small,
@@ -25,13 +25,13 @@ const INTEGER: &str = "\
 
 #[test]
 fn integer_programs(rt: HostRuntime) -> Result<(), Fail> {
-    check_table(&rt, rt.alloc(), INTEGER)
+    check(&rt, rt.alloc(), &Subject::Answers, INTEGER)
 }
 
 // What the program writes with `--cert` it accepts with `--checkcert`.
 #[test]
 fn their_certificates_are_accepted(rt: HostRuntime) -> Result<(), Fail> {
-    check_round_trips(&rt, rt.alloc(), INTEGER)
+    check(&rt, rt.alloc(), &Subject::RoundTrips, INTEGER)
 }
 
 // Whole numbers that no split finds, refuted by a derived row; and a tree of one split.
@@ -46,5 +46,5 @@ const CHECKED: &str = "\
 
 #[test]
 fn trees_are_checked(rt: HostRuntime) -> Result<(), Fail> {
-    check_table(&rt, rt.alloc(), CHECKED)
+    check(&rt, rt.alloc(), &Subject::Answers, CHECKED)
 }

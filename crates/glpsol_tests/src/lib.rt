@@ -25,6 +25,8 @@ mod printing;
 #[cfg(test)]
 mod raw_solutions;
 #[cfg(test)]
+mod rows;
+#[cfg(test)]
 mod runs;
 #[cfg(test)]
 mod tables;

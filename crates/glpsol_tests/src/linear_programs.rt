@@ -1,5 +1,5 @@
 // Linear programs in free MPS, whose optima GLPK and textbooks give, and the certificates that are written for them.
-use crate::runs::{check_round_trips, check_table};
+use crate::rows::{Subject, check};
 use std::test::Fail;
 
 // Among them Beale's example, at which other rules than Bland's go round, a blending, a diet, a degenerate optimum, and
@@ -19,7 +19,7 @@ const LINEAR: &str = "\
 
 #[test]
 fn linear_programs(rt: HostRuntime) -> Result<(), Fail> {
-    check_table(&rt, rt.alloc(), LINEAR)
+    check(&rt, rt.alloc(), &Subject::Answers, LINEAR)
 }
 
 // A problem of transport, and one without end: the points are not the only ones.
@@ -30,11 +30,11 @@ const MANY_POINTS: &str = "\
 
 #[test]
 fn optima_of_many_points(rt: HostRuntime) -> Result<(), Fail> {
-    check_table(&rt, rt.alloc(), MANY_POINTS)
+    check(&rt, rt.alloc(), &Subject::Answers, MANY_POINTS)
 }
 
 // What the program writes with `--cert` it accepts with `--checkcert`.
 #[test]
 fn written_certificates_are_accepted(rt: HostRuntime) -> Result<(), Fail> {
-    check_round_trips(&rt, rt.alloc(), LINEAR)
+    check(&rt, rt.alloc(), &Subject::RoundTrips, LINEAR)
 }

@@ -1,5 +1,5 @@
 // MathProg texts, and their answers.
-use crate::runs::check_table;
+use crate::rows::{Subject, check};
 use std::test::Fail;
 
 // Optima that GLPK gives too.
@@ -20,7 +20,7 @@ const MODELS: &str = "\
 
 #[test]
 fn models_are_solved(rt: HostRuntime) -> Result<(), Fail> {
-    check_table(&rt, rt.alloc(), MODELS)
+    check(&rt, rt.alloc(), &Subject::Answers, MODELS)
 }
 
 // A shortest path, a greatest flow, a cutting stock, a plan over periods, a blend, a game, a least distance, and what sets, strings
@@ -44,7 +44,7 @@ const OBJECTIVES: &str = "\
 
 #[test]
 fn objectives_are_those_of_glpk(rt: HostRuntime) -> Result<(), Fail> {
-    check_table(&rt, rt.alloc(), OBJECTIVES)
+    check(&rt, rt.alloc(), &Subject::Answers, OBJECTIVES)
 }
 
 // The data files c and d stand in the place of the model's own data, in this order.
@@ -58,7 +58,7 @@ const DATA_FILES: &str = "\
 
 #[test]
 fn data_files_are_read(rt: HostRuntime) -> Result<(), Fail> {
-    check_table(&rt, rt.alloc(), DATA_FILES)
+    check(&rt, rt.alloc(), &Subject::Answers, DATA_FILES)
 }
 
 const FAULTS: &str = "\
@@ -80,5 +80,5 @@ const FAULTS: &str = "\
 
 #[test]
 fn faults_are_named(rt: HostRuntime) -> Result<(), Fail> {
-    check_table(&rt, rt.alloc(), FAULTS)
+    check(&rt, rt.alloc(), &Subject::Answers, FAULTS)
 }

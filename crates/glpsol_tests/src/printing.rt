@@ -1,6 +1,5 @@
 // Models that print: up to `solve`, behind it, to the output and to a file.
-use crate::runs::check_table;
-use crate::written_files::check_written;
+use crate::rows::{Subject, check};
 use std::test::Fail;
 
 // By hand after the language reference and C's `printf`.
@@ -25,7 +24,7 @@ const PRINTED: &str = "\
 
 #[test]
 fn models_print(rt: HostRuntime) -> Result<(), Fail> {
-    check_table(&rt, rt.alloc(), PRINTED)
+    check(&rt, rt.alloc(), &Subject::Answers, PRINTED)
 }
 
 // Behind `solve` names of variables, constraints and objectives are numbers.
@@ -43,7 +42,7 @@ const BEHIND: &str = "\
 
 #[test]
 fn models_print_their_solutions(rt: HostRuntime) -> Result<(), Fail> {
-    check_table(&rt, rt.alloc(), BEHIND)
+    check(&rt, rt.alloc(), &Subject::Answers, BEHIND)
 }
 
 // To the file y.
@@ -63,5 +62,5 @@ const TO_A_FILE: &str = "\
 
 #[test]
 fn models_print_to_a_file(rt: HostRuntime) -> Result<(), Fail> {
-    check_written(&rt, rt.alloc(), TO_A_FILE)
+    check(&rt, rt.alloc(), &Subject::WrittenFiles, TO_A_FILE)
 }

@@ -1,5 +1,5 @@
 // Raw solutions, which are written to the file y.
-use crate::written_files::check_written;
+use crate::rows::{Subject, check};
 use std::test::Fail;
 
 // A best point has the values of the rows and then the numbers of the columns, a ray the columns alone.
@@ -16,5 +16,5 @@ const SOLUTIONS: &str = "\
 
 #[test]
 fn raw_solutions_are_written(rt: HostRuntime) -> Result<(), Fail> {
-    check_written(&rt, rt.alloc(), SOLUTIONS)
+    check(&rt, rt.alloc(), &Subject::WrittenFiles, SOLUTIONS)
 }

@@ -1,9 +1,8 @@
 // Runs of the program over files and an output in memory, as rows of tables say them.
+use crate::rows::split;
 use glpsol_cli::run;
 use outside::{MemSink, MemStore};
 use std::alloc::{AllocError, Global};
-use std::process::Abort;
-use std::test::Fail;
 use std::thread::Threads;
 
 /// The text of a small model: the least x from 2 to 5.
@@ -32,32 +31,30 @@ pub(crate) fn words_of(alloc: Global, text: &str) -> Result<Vec<String>, AllocEr
 
 /// A text as a table writes it: `$` is a line feed, and `@` the model above.
 pub(crate) fn written(alloc: Global, row: &str) -> Result<String, AllocError> {
-    let model = with_line_feeds(alloc, MODEL)?;
-    let mut text = String::new(alloc);
-    for c in row.chars() {
-        match c {
-            '$' => text.push('\n')?,
-            '@' => text.push_str(model.as_str())?,
-            c => text.push(c)?,
-        }
-    }
-    Ok(text)
+    let whole = row.replace(alloc, "@", MODEL)?;
+    whole.as_str().replace(alloc, "$", "\n")
 }
 
-fn with_line_feeds(alloc: Global, row: &str) -> Result<String, AllocError> {
-    let mut text = String::new(alloc);
-    for c in row.chars() {
-        text.push(if c == '$' { '\n' } else { c })?;
-    }
-    Ok(text)
+/// A text as a table writes it, without the mark of the model.
+pub(crate) fn with_marks(alloc: Global, text: &str) -> Result<String, AllocError> {
+    text.replace(alloc, "\n", "$")
 }
 
-// A status and what was printed.
-fn printed(alloc: Global, code: u8, bytes: &[u8]) -> Result<String, AllocError> {
-    match str::from_utf8(bytes) {
-        Ok(text) => format!(in alloc; "{code} {text}"),
-        Err(_) => "bytes that are no text".to_string(alloc),
-    }
+fn text_of(bytes: &[u8]) -> &str {
+    str::from_utf8(bytes).unwrap_or("bytes that are no text")
+}
+
+/// What words print, in a table's words, where the output takes at most so many bytes at once.
+pub(crate) fn printed<T: Threads + Sync>(
+    rt: &T,
+    alloc: Global,
+    words: Vec<String>,
+    files: &mut MemStore,
+    at_most: usize,
+) -> Result<String, AllocError> {
+    let mut out = MemSink::new(alloc, Vec::new(alloc), at_most);
+    let _status = status(rt, alloc, words, files, &mut out);
+    with_marks(alloc, text_of(out.bytes()))
 }
 
 /// The status with which words end, and what they print.
@@ -70,7 +67,8 @@ pub(crate) fn outcome<T: Threads + Sync>(
     let words = words_of(alloc, words)?;
     let mut out = MemSink::new(alloc, Vec::new(alloc), 4096);
     let code = status(rt, alloc, words, files, &mut out);
-    printed(alloc, code, out.bytes())
+    let text = text_of(out.bytes());
+    format!(in alloc; "{code} {text}")
 }
 
 // Adds a file with the text of a row.
@@ -124,31 +122,23 @@ fn outcome_of_row<T: Threads + Sync>(
     outcome(rt, alloc, words, &mut files)
 }
 
-fn check_row<T: Threads + Sync + Abort>(rt: &T, alloc: Global, row: &str) -> Result<(), Fail> {
-    let Some((want, given)) = row.split_once(" <- ") else {
-        panic!(rt; "an answer and words: {row}");
-    };
-    let wanted = written(alloc, want)?;
-    let found = outcome_of_row(rt, alloc, given)?;
-    if want.ends_with('$') {
-        assert_eq!(rt; found.as_str(), wanted.as_str(), "at {row}");
-    } else {
-        assert!(rt; found.starts_with(wanted.as_str()), "{found} at {row}");
-    }
-    Ok(())
-}
-
-/// Each row has, parted by ` <- `, the status and what is printed, then the words, and then the texts of the files f, c and
-/// d, where there are such files. What doesn't end a line is the beginning of what is printed.
-pub(crate) fn check_table<T: Threads + Sync + Abort>(
+/// The status and what is printed in a row, where a part that doesn't end a line counts for the whole.
+pub(crate) fn answer_of_row<T: Threads + Sync>(
     rt: &T,
     alloc: Global,
-    table: &str,
-) -> Result<(), Fail> {
-    for row in table.lines() {
-        check_row(rt, alloc, row)?;
+    row: &str,
+) -> Result<String, AllocError> {
+    let (want, given) = split(row);
+    let found = outcome_of_row(rt, alloc, given)?;
+    in_words_of(alloc, found.as_str(), want)
+}
+
+fn in_words_of(alloc: Global, found: &str, want: &str) -> Result<String, AllocError> {
+    let found = with_marks(alloc, found)?;
+    if !want.ends_with('$') && found.as_str().starts_with(want) {
+        return want.to_string(alloc);
     }
-    Ok(())
+    Ok(found)
 }
 
 // What the program says to the certificate that it writes for words on a text.
@@ -167,32 +157,21 @@ fn round_trip<T: Threads + Sync>(
     outcome(rt, alloc, with_check.as_str(), &mut files)
 }
 
-fn check_round_trip<T: Threads + Sync + Abort>(
+/// For a row whose status is 0: the answer that it has, where the program accepts the certificate that it writes, and else what it says
+/// to that.
+pub(crate) fn round_trip_of_row<T: Threads + Sync>(
     rt: &T,
     alloc: Global,
     row: &str,
-) -> Result<(), Fail> {
-    let Some((want, given)) = row.split_once(" <- ") else {
-        panic!(rt; "an answer and words: {row}");
-    };
-    let Some((words, text)) = given.split_once(" <- ") else {
-        panic!(rt; "words and a text: {row}");
-    };
-    if want.starts_with('0') {
-        let found = round_trip(rt, alloc, words, text)?;
-        assert_eq!(rt; found.as_str(), "0 ACCEPTED\n", "at {row}");
+) -> Result<String, AllocError> {
+    let (want, given) = split(row);
+    let (words, text) = split(given);
+    if !want.starts_with('0') {
+        return want.to_string(alloc);
     }
-    Ok(())
-}
-
-/// For each row of a table as above whose status is 0: the certificate that the program writes, it accepts.
-pub(crate) fn check_round_trips<T: Threads + Sync + Abort>(
-    rt: &T,
-    alloc: Global,
-    table: &str,
-) -> Result<(), Fail> {
-    for row in table.lines() {
-        check_round_trip(rt, alloc, row)?;
+    let found = round_trip(rt, alloc, words, text)?;
+    if found.as_str() == "0 ACCEPTED\n" {
+        return want.to_string(alloc);
     }
-    Ok(())
+    Ok(found)
 }

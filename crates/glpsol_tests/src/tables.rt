@@ -1,9 +1,8 @@
 // Models with tables: files that are read and written on the way.
-use crate::runs::{check_table, status, words_of, written};
-use crate::written_files::check_written;
-use outside::{MemSink, MemStore};
-use std::alloc::Global;
-use std::process::Abort;
+use crate::rows::{Subject, check};
+use crate::runs::{printed, words_of};
+use outside::MemStore;
+use std::alloc::{AllocError, Global};
 use std::test::Fail;
 use std::thread::Threads;
 
@@ -21,7 +20,7 @@ const READ: &str = "\
 
 #[test]
 fn tables_are_read(rt: HostRuntime) -> Result<(), Fail> {
-    check_table(&rt, rt.alloc(), READ)
+    check(&rt, rt.alloc(), &Subject::Answers, READ)
 }
 
 // To the file y.
@@ -38,7 +37,7 @@ const WRITTEN: &str = "\
 
 #[test]
 fn tables_are_written(rt: HostRuntime) -> Result<(), Fail> {
-    check_written(&rt, rt.alloc(), WRITTEN)
+    check(&rt, rt.alloc(), &Subject::WrittenFiles, WRITTEN)
 }
 
 // The number of the call on the store that fails, and what is printed: the first four are the model's, then come opening, two reads and
@@ -60,38 +59,37 @@ const FAILING_CALLS: &str = "\
 const MODEL_WITH_TABLES: &str =
     "set K; printf 'a\\n'; table t IN 'CSV' 'c': K<-[k]; table u{i in K} OUT 'CSV' 'o': i; var x >= 1; minimize z: x; solve; printf 'b\\n'; table w{i in K} OUT 'CSV' 'p': i, x; end;";
 
-fn check_failing_call<T: Threads + Sync + Abort>(
+fn printed_at_call<T: Threads + Sync>(
     rt: &T,
     alloc: Global,
-    call: &str,
-    want: &str,
-) -> Result<(), Fail> {
-    let Ok(number) = call.parse::<u64>() else {
-        panic!(rt; "a number: {call}");
-    };
+    number: u64,
+) -> Result<String, AllocError> {
     let mut fails = Vec::new(alloc);
     fails.push(number)?;
     let mut files = MemStore::new(alloc, fails, 4096);
     files.add("f", MODEL_WITH_TABLES.as_bytes())?;
     files.add("c", b"k\n1\n2\n")?;
-    let mut out = MemSink::new(alloc, Vec::new(alloc), 4096);
     let words = words_of(alloc, "--math f")?;
-    let _status = status(rt, alloc, words, &mut files, &mut out);
-    assert_eq!(rt;
-        out.bytes(),
-        written(alloc, want)?.as_bytes(),
-        "at call {call}"
-    );
-    Ok(())
+    printed(rt, alloc, words, &mut files, 4096)
+}
+
+/// A row with what is printed.
+pub(crate) fn failing_call_of_tables<T: Threads + Sync>(
+    rt: &T,
+    alloc: Global,
+    row: &str,
+) -> Result<String, AllocError> {
+    let (call, _) = row.split_once(' ').unwrap_or((row, ""));
+    let found = printed_at_call(rt, alloc, call.parse::<u64>().unwrap_or(0))?;
+    format!(in alloc; "{call} {found}")
 }
 
 #[test]
 fn each_call_on_the_store_fails(rt: HostRuntime) -> Result<(), Fail> {
-    for row in FAILING_CALLS.lines() {
-        let Some((call, want)) = row.split_once(' ') else {
-            panic!(rt; "a call and what is printed: {row}");
-        };
-        check_failing_call(&rt, rt.alloc(), call, want)?;
-    }
-    Ok(())
+    check(
+        &rt,
+        rt.alloc(),
+        &Subject::FailingCallsOfTables,
+        FAILING_CALLS,
+    )
 }

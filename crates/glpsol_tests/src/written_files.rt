@@ -1,9 +1,8 @@
 // Runs that write to a file of memory, as rows of tables say them.
-use crate::runs::{outcome, written};
+use crate::rows::split;
+use crate::runs::{outcome, with_marks, written};
 use outside::MemStore;
 use std::alloc::{AllocError, Global};
-use std::process::Abort;
-use std::test::Fail;
 use std::thread::Threads;
 
 fn file_text(alloc: Global, files: &MemStore) -> Result<String, AllocError> {
@@ -16,44 +15,43 @@ fn file_text(alloc: Global, files: &MemStore) -> Result<String, AllocError> {
     }
 }
 
-fn check_file<T: Threads + Sync + Abort>(
+// What words print, and what file y holds then, where that is something else.
+fn found_and_held<T: Threads + Sync>(
     rt: &T,
     alloc: Global,
-    want: &str,
     held: &str,
     given: &str,
-) -> Result<(), Fail> {
-    let Some((words, text)) = given.split_once(" <- ") else {
-        panic!(rt; "words and a text: {given}");
-    };
+) -> Result<String, AllocError> {
+    let (words, text) = split(given);
     let mut files = MemStore::new(alloc, Vec::new(alloc), 4096);
-    files.add("f", written(alloc, text)?.as_bytes())?;
+    add_model(alloc, &mut files, text)?;
     let found = outcome(rt, alloc, words, &mut files)?;
-    assert_eq!(rt;
-        found.as_str(),
-        written(alloc, want)?.as_str(),
-        "at {given}"
-    );
     let file = file_text(alloc, &files)?;
-    assert_eq!(rt; file.as_str(), written(alloc, held)?.as_str(), "at {given}");
-    Ok(())
+    beside_file(alloc, found.as_str(), file.as_str(), held)
 }
 
-/// Each row has, parted by ` <- `, the status with what is printed, what file y holds then (`none`, where there is none), the
+fn add_model(alloc: Global, files: &mut MemStore, text: &str) -> Result<(), AllocError> {
+    let text = written(alloc, text)?;
+    files.add("f", text.as_bytes())
+}
+
+fn beside_file(alloc: Global, found: &str, file: &str, held: &str) -> Result<String, AllocError> {
+    let found = with_marks(alloc, found)?;
+    let file = with_marks(alloc, file)?;
+    if file.as_str() == held {
+        return Ok(found);
+    }
+    format!(in alloc; "{found} and the file: {file}")
+}
+
+/// A row has, parted by ` <- `, the status with what is printed, what file y holds then (`none`, where there is none), the
 /// words, and the text of the file f.
-pub(crate) fn check_written<T: Threads + Sync + Abort>(
+pub(crate) fn written_of_row<T: Threads + Sync>(
     rt: &T,
     alloc: Global,
-    table: &str,
-) -> Result<(), Fail> {
-    for row in table.lines() {
-        let Some((want, others)) = row.split_once(" <- ") else {
-            panic!(rt; "what is printed: {row}");
-        };
-        let Some((held, given)) = others.split_once(" <- ") else {
-            panic!(rt; "what the file holds: {row}");
-        };
-        check_file(rt, alloc, want, held, given)?;
-    }
-    Ok(())
+    row: &str,
+) -> Result<String, AllocError> {
+    let (_, others) = split(row);
+    let (held, given) = split(others);
+    found_and_held(rt, alloc, held, given)
 }
