@@ -63,6 +63,20 @@ const FALLING_ROWS: &str = "\
 // What tells that the plain account does not follow the board.
 const AGAINST: &str = "against the account";
 
+// The reply to an event, with a mark where the account does not follow.
+fn replied(
+    alloc: Global,
+    board: &mut Board,
+    oracle: &mut Oracle,
+    event: &str,
+) -> Result<String, AllocError> {
+    let found = reply(alloc, board, event)?;
+    if oracle.follow(alloc, event, found.as_str())? {
+        return Ok(found);
+    }
+    format!(in alloc; "{found} {}", AGAINST)
+}
+
 // An event with its reply.
 fn step_word(
     alloc: Global,
@@ -70,10 +84,8 @@ fn step_word(
     oracle: &mut Oracle,
     event: &str,
 ) -> Result<String, AllocError> {
-    let found = reply(alloc, board, event)?;
-    let follows = oracle.follow(alloc, event, found.as_str())?;
-    let account = if follows { "" } else { AGAINST };
-    format!(in alloc; "{event} > {found}{account}; ")
+    let found = replied(alloc, board, oracle, event)?;
+    format!(in alloc; "{event} > {found}; ")
 }
 
 // The events of a row, each with its reply.
@@ -105,8 +117,8 @@ fn follows(
     oracle: &mut Oracle,
     event: &str,
 ) -> Result<bool, AllocError> {
-    let found = reply(alloc, board, event)?;
-    oracle.follow(alloc, event, found.as_str())
+    let found = replied(alloc, board, oracle, event)?;
+    Ok(!found.as_str().ends_with(AGAINST))
 }
 
 // Whether the account follows so many leases.
@@ -126,9 +138,8 @@ fn follows_leases(
 
 // Whether no leaf is left to be leased, and the account follows.
 fn is_idle(alloc: Global, board: &mut Board, oracle: &mut Oracle) -> Result<bool, AllocError> {
-    let found = reply(alloc, board, "lease 0")?;
-    let follows = oracle.follow(alloc, "lease 0", found.as_str())?;
-    Ok(follows && found.as_str().starts_with("idle"))
+    let found = replied(alloc, board, oracle, "lease 0")?;
+    Ok(found.as_str().starts_with("idle") && !found.as_str().ends_with(AGAINST))
 }
 
 // Leases all leaves that are not closed, and tells how many there are.
