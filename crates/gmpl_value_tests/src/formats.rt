@@ -1,9 +1,9 @@
 // Formats and what they print, with values from C's printf where it has them, and else from Python's fractions.
+use crate::rows::{Subject, check};
 use crate::texts::{fault_word, symbol};
 use gmpl_formats::printed;
 use gmpl_value::Symbol;
 use std::alloc::{AllocError, Global};
-use std::process::Abort;
 use std::test::Fail;
 
 // ---- the text, or the fault, and the format with its arguments; a text's ends of lines and tabs are written as arrows
@@ -135,28 +135,25 @@ const FORMATS: &str = "\
 [-00170141183460469231731687303715884105727] <- [%042d] | -170141183460469231731687303715884105727
 ";
 
-// A row's text, format and arguments.
-fn parts<'a>(rt: &impl Abort, row: &'a str) -> (&'a str, &'a str, &'a str) {
-    let Some((want, call)) = row.split_once(" <- [") else {
-        panic!(rt; "a text and a format: {row}");
-    };
-    let Some(want) = want
-        .strip_prefix('[')
-        .and_then(|text| text.strip_suffix(']'))
-    else {
-        panic!(rt; "a text in brackets: {row}");
-    };
+// The arguments behind a format's bracket.
+fn arguments(alloc: Global, call: &str) -> Result<Vec<Symbol>, AllocError> {
     match call.split_once("] | ") {
-        Some((format, words)) => (want, format, words),
-        None => (want, call.strip_suffix(']').unwrap_or(call), ""),
+        Some((_, words)) => symbols(alloc, words),
+        None => Ok(Vec::new(alloc)),
     }
+}
+
+// The format within its brackets.
+fn format(call: &str) -> &str {
+    let format = match call.split_once("] | ") {
+        Some((format, _)) => format,
+        None => call.strip_suffix(']').unwrap_or(call),
+    };
+    format.strip_prefix('[').unwrap_or(format)
 }
 
 fn symbols(alloc: Global, words: &str) -> Result<Vec<Symbol>, AllocError> {
     let mut made = Vec::new(alloc);
-    if words.is_empty() {
-        return Ok(made);
-    }
     for word in words.split(" | ") {
         made.push(symbol(alloc, word)?)?;
     }
@@ -182,14 +179,14 @@ fn answer(alloc: Global, format: &str, arguments: &[Symbol]) -> Result<String, A
     }
 }
 
+/// What a call prints, in brackets.
+pub(crate) fn format_word(alloc: Global, call: &str) -> Result<String, AllocError> {
+    let arguments = arguments(alloc, call)?;
+    let text = answer(alloc, format(call), &arguments)?;
+    format!(in alloc; "[{text}]")
+}
+
 #[test]
 fn formats(rt: HostRuntime) -> Result<(), Fail> {
-    let alloc = rt.alloc();
-    for row in FORMATS.lines() {
-        let (want, format, words) = parts(&rt, row);
-        let arguments = symbols(alloc, words)?;
-        let found = answer(alloc, format, &arguments)?;
-        assert_eq!(rt; found.as_str(), want, "at {row}");
-    }
-    Ok(())
+    check(&rt, rt.alloc(), &Subject::Formats, FORMATS)
 }

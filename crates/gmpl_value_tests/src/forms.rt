@@ -1,11 +1,11 @@
 // Linear forms: operands first, then the operator. A letter is a variable, `~` is the sign.
+use crate::rows::{Subject, check};
 use crate::texts::{fault_word, number};
 use gmpl_fault::EvalFault;
 use gmpl_forms::{Amount, Form, Sign, Variable};
 use gmpl_text::Text;
 use gmpl_value::{Symbol, Tuple};
 use std::alloc::{AllocError, Global};
-use std::process::Abort;
 use std::test::Fail;
 
 const FORMS: &str = "\
@@ -63,21 +63,21 @@ fn combined(
     }
 }
 
-fn pop(alloc: Global, stack: &mut Vec<Amount>) -> Amount {
+fn pop(stack: &mut Vec<Amount>) -> Amount {
     match stack.pop() {
         Some(amount) => amount,
-        None => Amount::Form(Form::number(alloc, number("-9999"))),
+        None => Amount::Number(number("-9999")),
     }
 }
 
 fn step(alloc: Global, stack: &mut Vec<Amount>, word: &str) -> Result<Amount, EvalFault> {
     if is_operator(word) {
-        let second = pop(alloc, stack);
-        let first = pop(alloc, stack);
+        let second = pop(stack);
+        let first = pop(stack);
         return combined(alloc, word, first, second);
     }
     if word == "~" {
-        return pop(alloc, stack).negated();
+        return pop(stack).negated();
     }
     if word == "x" || word == "y" {
         return variable(alloc, word);
@@ -91,7 +91,7 @@ fn value(alloc: Global, text: &str) -> Result<Amount, EvalFault> {
         let amount = step(alloc, &mut stack, word)?;
         stack.push(amount)?;
     }
-    Ok(pop(alloc, &mut stack))
+    Ok(pop(&mut stack))
 }
 
 fn variable_word(variable: &Variable) -> &str {
@@ -128,14 +128,11 @@ fn answer_word(alloc: Global, answer: Result<Amount, EvalFault>) -> Result<Strin
     }
 }
 
+pub(crate) fn form_answer(alloc: Global, text: &str) -> Result<String, AllocError> {
+    answer_word(alloc, value(alloc, text))
+}
+
 #[test]
 fn linear_forms(rt: HostRuntime) -> Result<(), Fail> {
-    for row in FORMS.lines() {
-        let Some((want, text)) = row.split_once(" => ") else {
-            panic!(rt; "an answer and operands: {row}");
-        };
-        let found = answer_word(rt.alloc(), value(rt.alloc(), text))?;
-        assert_eq!(rt; found.as_str(), want, "at {row}");
-    }
-    Ok(())
+    check(&rt, rt.alloc(), &Subject::Forms, FORMS)
 }

@@ -1,6 +1,7 @@
 // The functions and operators at their edges. The values are those of GLPK's solver for these expressions, written as fractions;
 // where it rounds, or asks for whole operands, they are worked out from the language reference's rules.
-use crate::texts::{fault_word, number, symbol, symbol_word};
+use crate::rows::{Subject, check};
+use crate::texts::{fault_word, number, split, symbol, symbol_word};
 use fraction::Frac;
 use gmpl_fault::EvalFault;
 use gmpl_functions::{
@@ -9,7 +10,6 @@ use gmpl_functions::{
 };
 use gmpl_value::Symbol;
 use std::alloc::{AllocError, Global};
-use std::process::Abort;
 use std::test::Fail;
 
 const UNARY: &str = "\
@@ -129,6 +129,8 @@ const EXTREMES: &str = "\
 -2 => max -5 -2 -9
 1 => min 1 3 2
 7 => min 7
+!NoValue => max
+!NoValue => min
 ";
 
 fn unary(name: &str, a: Frac) -> Result<Frac, EvalFault> {
@@ -163,11 +165,8 @@ fn part(alloc: Global, text: &Symbol, numbers: &str) -> Result<Symbol, EvalFault
 }
 
 fn truth(symbol: &Symbol) -> Result<Symbol, EvalFault> {
-    Ok(Symbol::Number(if truth_of(symbol)? {
-        Frac::one()
-    } else {
-        Frac::zero()
-    }))
+    let truth = truth_of(symbol)?;
+    Ok(Symbol::Number(number(if truth { "1" } else { "0" })))
 }
 
 // The word that a symbol or a fault is in the tables.
@@ -208,66 +207,54 @@ fn numbers(alloc: Global, text: &str) -> Result<Vec<Frac>, AllocError> {
     Ok(made)
 }
 
-// A row is an answer, a name and what the function is called with.
-fn parts<'a>(rt: &impl Abort, row: &'a str) -> (&'a str, &'a str, &'a str) {
-    let Some((want, call)) = row.split_once(" => ") else {
-        panic!(rt; "an answer and a call: {row}");
-    };
-    let Some((name, operands)) = call.split_once(' ') else {
-        panic!(rt; "a name and operands: {row}");
-    };
-    (want, name, operands)
+pub(crate) fn unary_word(alloc: Global, words: &str) -> Result<String, AllocError> {
+    let (name, a) = split(words);
+    number_word(alloc, unary(name, number(a)))
 }
 
 #[test]
 fn functions_of_one_number(rt: HostRuntime) -> Result<(), Fail> {
-    for row in UNARY.lines() {
-        let (want, name, a) = parts(&rt, row);
-        let found = number_word(rt.alloc(), unary(name, number(a)))?;
-        assert_eq!(rt; found.as_str(), want, "at {row}");
-    }
-    Ok(())
+    check(&rt, rt.alloc(), &Subject::Unary, UNARY)
+}
+
+pub(crate) fn binary_word(alloc: Global, words: &str) -> Result<String, AllocError> {
+    let (name, operands) = split(words);
+    let (a, b) = split(operands);
+    number_word(alloc, binary(name, number(a), number(b)))
 }
 
 #[test]
 fn operators_on_two_numbers(rt: HostRuntime) -> Result<(), Fail> {
-    for row in BINARY.lines() {
-        let (want, name, operands) = parts(&rt, row);
-        let (a, b) = operands.split_once(' ').unwrap_or((operands, ""));
-        let found = number_word(rt.alloc(), binary(name, number(a), number(b)))?;
-        assert_eq!(rt; found.as_str(), want, "at {row}");
-    }
-    Ok(())
+    check(&rt, rt.alloc(), &Subject::Binary, BINARY)
+}
+
+pub(crate) fn string_word(alloc: Global, words: &str) -> Result<String, AllocError> {
+    let (name, operands) = split(words);
+    let (first, rest) = split(operands);
+    let first = symbol(alloc, first)?;
+    answer_word(alloc, of_text(alloc, name, &first, rest))
 }
 
 #[test]
 fn functions_of_strings(rt: HostRuntime) -> Result<(), Fail> {
-    let alloc = rt.alloc();
-    for row in STRINGS.lines() {
-        let (want, name, operands) = parts(&rt, row);
-        let (first, rest) = operands.split_once(' ').unwrap_or((operands, ""));
-        let first = symbol(alloc, first)?;
-        let found = answer_word(alloc, of_text(alloc, name, &first, rest))?;
-        assert_eq!(rt; found.as_str(), want, "at {row}");
+    check(&rt, rt.alloc(), &Subject::Strings, STRINGS)
+}
+
+fn extreme(name: &str, numbers: &[Frac]) -> Result<Frac, EvalFault> {
+    if name == "max" {
+        greatest(numbers)
+    } else {
+        least(numbers)
     }
-    Ok(())
+}
+
+pub(crate) fn extreme_word(alloc: Global, words: &str) -> Result<String, AllocError> {
+    let (name, operands) = split(words);
+    let numbers = numbers(alloc, operands)?;
+    number_word(alloc, extreme(name, &numbers))
 }
 
 #[test]
 fn extremes_of_numbers(rt: HostRuntime) -> Result<(), Fail> {
-    let alloc = rt.alloc();
-    for row in EXTREMES.lines() {
-        let (want, name, operands) = parts(&rt, row);
-        let numbers = numbers(alloc, operands)?;
-        let answer = if name == "max" {
-            greatest(&numbers)
-        } else {
-            least(&numbers)
-        };
-        let found = number_word(alloc, answer)?;
-        assert_eq!(rt; found.as_str(), want, "at {row}");
-    }
-    assert_eq!(rt; number_word(alloc, greatest(&[]))?.as_str(), "!NoValue");
-    assert_eq!(rt; number_word(alloc, least(&[]))?.as_str(), "!NoValue");
-    Ok(())
+    check(&rt, rt.alloc(), &Subject::Extremes, EXTREMES)
 }

@@ -8,6 +8,8 @@ mod forms;
 #[cfg(test)]
 mod functions;
 #[cfg(test)]
+mod rows;
+#[cfg(test)]
 mod sets;
 #[cfg(test)]
 mod texts;

@@ -1,11 +1,11 @@
 // Sets and their operations, ranges, the order of symbols, and the names of members.
-use crate::texts::{number, set_fault_word, symbol, tuple, tuple_word};
+use crate::rows::{Subject, check};
+use crate::texts::{number, set_fault_word, split, symbol, tuple, tuple_word};
 use gmpl_functions::card;
 use gmpl_member_names::member_name;
 use gmpl_value::{SetFault, SetValue, Symbol, Tuple, cross, diff, inter, range, symdiff, union};
 use std::alloc::{AllocError, Global};
 use std::cmp::Ordering;
-use std::process::Abort;
 use std::test::Fail;
 
 // Elements have commas between them, and their parts points; the empty set is `-`.
@@ -68,6 +68,16 @@ x['it''s'] => x 'it's
 x['a,b'] => x 'a,b
 ";
 
+// What is in a set, whether it lies within another, its copy, and the number of its elements.
+const MEMBERS: &str = "\
+yes => has 2.'a,1.'b 1.'b
+no => has 2.'a,1.'b 1.'c
+yes => within 2.'a,1.'b 1.'b,3.'c,2.'a
+no => within 1.'b,3.'c,2.'a 2.'a,1.'b
+2.'a,1.'b => copy 2.'a,1.'b
+3 => card 1.'b,3.'c,2.'a
+";
+
 fn set(alloc: Global, text: &str) -> Result<SetValue, SetFault> {
     let mut made = SetValue::new(alloc);
     if text == "-" {
@@ -121,47 +131,33 @@ fn applied(alloc: Global, name: &str, first: &str, second: &str) -> Result<SetVa
     operation(alloc, name, &first, &second)
 }
 
-// A row's answer and its words.
-fn parts<'a>(rt: &impl Abort, row: &'a str) -> (&'a str, &'a str) {
-    let Some((want, words)) = row.split_once(" => ") else {
-        panic!(rt; "an answer and words: {row}");
-    };
-    (want, words)
-}
-
-fn split(words: &str) -> (&str, &str) {
-    words.split_once(' ').unwrap_or((words, ""))
+pub(crate) fn operation_word(alloc: Global, words: &str) -> Result<String, AllocError> {
+    let (name, operands) = split(words);
+    let (first, second) = split(operands);
+    answer_word(alloc, applied(alloc, name, first, second))
 }
 
 #[test]
 fn operations_on_sets(rt: HostRuntime) -> Result<(), Fail> {
-    for row in OPERATIONS.lines() {
-        let (want, words) = parts(&rt, row);
-        let (name, operands) = split(words);
-        let (first, second) = split(operands);
-        let found = answer_word(rt.alloc(), applied(rt.alloc(), name, first, second))?;
-        assert_eq!(rt; found.as_str(), want, "at {row}");
+    check(&rt, rt.alloc(), &Subject::Operations, OPERATIONS)
+}
+
+pub(crate) fn range_word(alloc: Global, words: &str) -> Result<String, AllocError> {
+    let (from, rest) = split(words);
+    let (to, by) = split(rest);
+    let by = number(by);
+    if by.is_zero() {
+        return "no step".to_string(alloc);
     }
-    Ok(())
+    answer_word(alloc, range(alloc, number(from), number(to), by))
 }
 
 #[test]
 fn ranges(rt: HostRuntime) -> Result<(), Fail> {
-    for row in RANGES.lines() {
-        let (want, words) = parts(&rt, row);
-        let (from, rest) = split(words);
-        let (to, by) = split(rest);
-        let by = number(by);
-        if by.is_zero() {
-            panic!(rt; "a step: {row}");
-        }
-        let found = answer_word(rt.alloc(), range(rt.alloc(), number(from), number(to), by))?;
-        assert_eq!(rt; found.as_str(), want, "at {row}");
-    }
-    Ok(())
+    check(&rt, rt.alloc(), &Subject::Ranges, RANGES)
 }
 
-fn order_word(order: Ordering) -> &'static str {
+fn sign(order: Ordering) -> &'static str {
     match order {
         Ordering::Less => "<",
         Ordering::Equal => "=",
@@ -169,17 +165,16 @@ fn order_word(order: Ordering) -> &'static str {
     }
 }
 
+pub(crate) fn order_word(alloc: Global, words: &str) -> Result<String, AllocError> {
+    let (first, second) = split(words);
+    let first = symbol(alloc, first)?;
+    let second = symbol(alloc, second)?;
+    sign(first.order(&second)).to_string(alloc)
+}
+
 #[test]
 fn orders_of_symbols(rt: HostRuntime) -> Result<(), Fail> {
-    let alloc = rt.alloc();
-    for row in ORDERS.lines() {
-        let (want, words) = parts(&rt, row);
-        let (first, second) = split(words);
-        let first = symbol(alloc, first)?;
-        let second = symbol(alloc, second)?;
-        assert_eq!(rt; order_word(first.order(&second)), want, "at {row}");
-    }
-    Ok(())
+    check(&rt, rt.alloc(), &Subject::Orders, ORDERS)
 }
 
 fn subscripts(alloc: Global, text: &str) -> Result<Tuple, AllocError> {
@@ -189,39 +184,60 @@ fn subscripts(alloc: Global, text: &str) -> Result<Tuple, AllocError> {
     tuple(alloc, text)
 }
 
-#[test]
-fn names_of_members(rt: HostRuntime) -> Result<(), Fail> {
-    let alloc = rt.alloc();
-    for row in NAMES.lines() {
-        let (want, words) = parts(&rt, row);
-        let (name, text) = split(words);
-        let subscripts = subscripts(alloc, text)?;
-        let found = member_name(alloc, name, &subscripts)?;
-        assert_eq!(rt; found.as_str(), want, "at {row}");
-    }
-    Ok(())
+pub(crate) fn member_word(alloc: Global, words: &str) -> Result<String, AllocError> {
+    let (name, text) = split(words);
+    let subscripts = subscripts(alloc, text)?;
+    member_name(alloc, name, &subscripts)
 }
 
-// What is in a set, and whether it lies within another.
+#[test]
+fn names_of_members(rt: HostRuntime) -> Result<(), Fail> {
+    check(&rt, rt.alloc(), &Subject::Names, NAMES)
+}
+
+fn truth_word(truth: bool) -> &'static str {
+    if truth { "yes" } else { "no" }
+}
+
+fn has(alloc: Global, set: &SetValue, element: &str) -> Result<bool, SetFault> {
+    let element = tuple(alloc, element)?;
+    Ok(set.contains(&element))
+}
+
+fn is_within(alloc: Global, small: &SetValue, large: &str) -> Result<bool, SetFault> {
+    let large = set(alloc, large)?;
+    Ok(small.is_within(&large))
+}
+
+fn copy_word(alloc: Global, set: &SetValue) -> Result<String, SetFault> {
+    let copied = set.copied(alloc)?;
+    Ok(set_word(alloc, &copied)?)
+}
+
+fn question(alloc: Global, name: &str, set: &SetValue, rest: &str) -> Result<String, SetFault> {
+    match name {
+        "has" => Ok(truth_word(has(alloc, set, rest)?).to_string(alloc)?),
+        "within" => Ok(truth_word(is_within(alloc, set, rest)?).to_string(alloc)?),
+        "copy" => copy_word(alloc, set),
+        _ => Ok(card(set).text(alloc)?),
+    }
+}
+
+fn asked(alloc: Global, words: &str) -> Result<String, SetFault> {
+    let (name, operands) = split(words);
+    let (first, rest) = split(operands);
+    let first = set(alloc, first)?;
+    question(alloc, name, &first, rest)
+}
+
+pub(crate) fn asked_word(alloc: Global, words: &str) -> Result<String, AllocError> {
+    match asked(alloc, words) {
+        Ok(word) => Ok(word),
+        Err(fault) => set_fault_word(alloc, fault),
+    }
+}
+
 #[test]
 fn members_of_sets(rt: HostRuntime) -> Result<(), Fail> {
-    let alloc = rt.alloc();
-    let Ok(small) = set(alloc, "2.'a,1.'b") else {
-        panic!(rt; "a set");
-    };
-    let Ok(large) = set(alloc, "1.'b,3.'c,2.'a") else {
-        panic!(rt; "a set");
-    };
-    let element = tuple(alloc, "1.'b")?;
-    let other = tuple(alloc, "1.'c")?;
-    assert!(rt; small.contains(&element));
-    assert!(rt; !small.contains(&other));
-    assert!(rt; small.is_within(&large));
-    assert!(rt; !large.is_within(&small));
-    assert_eq!(rt;
-        set_word(alloc, &small.copied(alloc)?)?.as_str(),
-        "2.'a,1.'b"
-    );
-    assert_eq!(rt; card(&large).text(alloc)?.as_str(), "3");
-    Ok(())
+    check(&rt, rt.alloc(), &Subject::Members, MEMBERS)
 }

@@ -6,20 +6,17 @@ use gmpl_text::Text;
 use gmpl_value::{SetFault, Symbol, Tuple};
 use std::alloc::{AllocError, Global};
 
+/// The first word, and the words behind it.
+pub(crate) fn split(words: &str) -> (&str, &str) {
+    words.split_once(' ').unwrap_or((words, ""))
+}
+
 /// A number, or a string behind a quote, in which `_` is a blank.
 pub(crate) fn symbol(alloc: Global, word: &str) -> Result<Symbol, AllocError> {
     match word.strip_prefix('\'') {
-        Some(text) => Ok(Symbol::Word(Text::from(with_blanks(alloc, text)?))),
+        Some(text) => Ok(Symbol::Word(Text::from(text.replace(alloc, "_", " ")?))),
         None => Ok(Symbol::Number(number(word))),
     }
-}
-
-fn with_blanks(alloc: Global, text: &str) -> Result<String, AllocError> {
-    let mut made = String::new(alloc);
-    for c in text.chars() {
-        made.push(if c == '_' { ' ' } else { c })?;
-    }
-    Ok(made)
 }
 
 pub(crate) fn number(word: &str) -> Frac {
