@@ -5,6 +5,8 @@
 #[cfg(test)]
 mod models;
 #[cfg(test)]
+mod rows;
+#[cfg(test)]
 mod statements;
 #[cfg(test)]
 mod tokens;

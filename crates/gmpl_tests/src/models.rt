@@ -1,10 +1,10 @@
 // Model texts with the objects that they declare, or with their first fault.
+use crate::rows::{Subject, check, split};
 use gmpl_kinds::{Object, Sort};
 use gmpl_lexer::read_tokens;
 use gmpl_parse::{ParseError, parse};
 use gmpl_syntax::{SyntaxFault, SyntaxFaultKind};
 use std::alloc::{AllocError, Global};
-use std::process::Abort;
 use std::test::Fail;
 
 // ---- tables: objects, and the text, in which `$` is a line feed
@@ -435,59 +435,53 @@ fn answer_text(alloc: Global, text: &str) -> Result<String, AllocError> {
     }
 }
 
-fn check_table(rt: &impl Abort, alloc: Global, table: &str) -> Result<(), Fail> {
-    for row in table.lines() {
-        let Some((want, text)) = row.split_once(" => ") else {
-            panic!(rt; "an answer and a text: {row}");
-        };
-        let text = text.replace(alloc, "$", "\n")?;
-        let found = answer_text(alloc, text.as_str())?;
-        assert_eq!(rt; found.as_str(), want, "at {row}");
-    }
-    Ok(())
+pub(crate) fn model_row(alloc: Global, row: &str) -> Result<String, AllocError> {
+    let (_, text) = split(row);
+    let text = text.replace(alloc, "$", "\n")?;
+    answer_text(alloc, text.as_str())
 }
 
 #[test]
 fn names_of_models(rt: HostRuntime) -> Result<(), Fail> {
-    check_table(&rt, rt.alloc(), NAMES)
+    check(&rt, rt.alloc(), &Subject::Models, NAMES)
 }
 
 #[test]
 fn attributes_and_checks(rt: HostRuntime) -> Result<(), Fail> {
-    check_table(&rt, rt.alloc(), ATTRIBUTES)
+    check(&rt, rt.alloc(), &Subject::Models, ATTRIBUTES)
 }
 
 #[test]
 fn executed_statements(rt: HostRuntime) -> Result<(), Fail> {
-    check_table(&rt, rt.alloc(), EXECUTED)
+    check(&rt, rt.alloc(), &Subject::Models, EXECUTED)
 }
 
 #[test]
 fn statements_behind_solve(rt: HostRuntime) -> Result<(), Fail> {
-    check_table(&rt, rt.alloc(), SOLVED)
+    check(&rt, rt.alloc(), &Subject::Models, SOLVED)
 }
 
 #[test]
 fn names_of_tables(rt: HostRuntime) -> Result<(), Fail> {
-    check_table(&rt, rt.alloc(), TABLE_NAMES)
+    check(&rt, rt.alloc(), &Subject::Models, TABLE_NAMES)
 }
 
 #[test]
 fn tables_that_are_read(rt: HostRuntime) -> Result<(), Fail> {
-    check_table(&rt, rt.alloc(), TABLES_READ)
+    check(&rt, rt.alloc(), &Subject::Models, TABLES_READ)
 }
 
 #[test]
 fn tables_that_are_written(rt: HostRuntime) -> Result<(), Fail> {
-    check_table(&rt, rt.alloc(), TABLES_WRITTEN)
+    check(&rt, rt.alloc(), &Subject::Models, TABLES_WRITTEN)
 }
 
 #[test]
 fn kinds_of_models(rt: HostRuntime) -> Result<(), Fail> {
-    check_table(&rt, rt.alloc(), KINDS)
+    check(&rt, rt.alloc(), &Subject::Models, KINDS)
 }
 
 #[test]
 fn first_faults(rt: HostRuntime) -> Result<(), Fail> {
-    check_table(&rt, rt.alloc(), ORDER)
+    check(&rt, rt.alloc(), &Subject::Models, ORDER)
 }

@@ -1,4 +1,5 @@
 // Model texts with their statements, or with the first bad one.
+use crate::rows::{Subject, check, split};
 use gmpl_lexer::read_tokens;
 use gmpl_statements::read_statements;
 use gmpl_syntax::{
@@ -582,36 +583,30 @@ fn answer_text(alloc: Global, text: &str) -> Result<String, AllocError> {
     Ok(answer)
 }
 
-fn check_table(rt: &impl Abort, alloc: Global, table: &str) -> Result<(), Fail> {
-    for row in table.lines() {
-        let Some((want, text)) = row.split_once(" => ") else {
-            panic!(rt; "an answer and a text: {row}");
-        };
-        let text = text.replace(alloc, "$", "\n")?;
-        let found = answer_text(alloc, text.as_str())?;
-        assert_eq!(rt; found.as_str(), want, "at {row}");
-    }
-    Ok(())
+pub(crate) fn statement_row(alloc: Global, row: &str) -> Result<String, AllocError> {
+    let (_, text) = split(row);
+    let text = text.replace(alloc, "$", "\n")?;
+    answer_text(alloc, text.as_str())
 }
 
 #[test]
 fn declarations(rt: HostRuntime) -> Result<(), Fail> {
-    check_table(&rt, rt.alloc(), DECLARATIONS)
+    check(&rt, rt.alloc(), &Subject::Statements, DECLARATIONS)
 }
 
 #[test]
 fn actions(rt: HostRuntime) -> Result<(), Fail> {
-    check_table(&rt, rt.alloc(), ACTIONS)
+    check(&rt, rt.alloc(), &Subject::Statements, ACTIONS)
 }
 
 #[test]
 fn expressions(rt: HostRuntime) -> Result<(), Fail> {
-    check_table(&rt, rt.alloc(), EXPRESSIONS)
+    check(&rt, rt.alloc(), &Subject::Statements, EXPRESSIONS)
 }
 
 #[test]
 fn ends(rt: HostRuntime) -> Result<(), Fail> {
-    check_table(&rt, rt.alloc(), ENDS)
+    check(&rt, rt.alloc(), &Subject::Statements, ENDS)
 }
 
 // A text with so many open tokens.
@@ -636,31 +631,43 @@ fn nested_answer(alloc: Global, parts: &[&str], count: usize) -> Result<String, 
     answer_text(alloc, text.as_str())
 }
 
-fn check_depth(rt: &impl Abort, alloc: Global, row: &str) -> Result<(), Fail> {
-    let Some((parts, most)) = row.rsplit_once('|') else {
-        panic!(rt; "parts and a depth: {row}");
-    };
-    let Ok(most) = most.parse::<usize>() else {
-        panic!(rt; "a depth: {row}");
-    };
+fn parts_of(alloc: Global, parts: &str) -> Result<Vec<&str>, AllocError> {
     let mut list: Vec<&str> = Vec::new(alloc);
     for part in parts.split('|') {
         list.push(part)?;
     }
-    assert!(rt; list.len() == 5, "{row}");
-    let answer = nested_answer(alloc, list.as_slice(), most)?;
-    assert!(rt; !answer.starts_with("!"), "{row}");
-    let answer = nested_answer(alloc, list.as_slice(), most.saturating_add(1))?;
-    assert_eq!(rt; answer.as_str(), "!TooDeep 1 1", "{row}");
-    Ok(())
+    Ok(list)
+}
+
+// A row stays as it is where its depth is the last one that is read.
+fn row_or_answers(
+    alloc: Global,
+    row: &str,
+    parts: &[&str],
+    most: usize,
+) -> Result<String, AllocError> {
+    let last = nested_answer(alloc, parts, most)?;
+    let next = nested_answer(alloc, parts, most.saturating_add(1))?;
+    if !last.starts_with("!") && next.as_str() == "!TooDeep 1 1" {
+        return row.to_string(alloc);
+    }
+    format!(in alloc; "{last}, then {next}")
+}
+
+pub(crate) fn depth_row(alloc: Global, row: &str) -> Result<String, AllocError> {
+    let (parts, most) = row.rsplit_once('|').unwrap_or((row, ""));
+    let list = parts_of(alloc, parts)?;
+    row_or_answers(
+        alloc,
+        row,
+        list.as_slice(),
+        most.parse::<usize>().unwrap_or(0),
+    )
 }
 
 #[test]
 fn depths(rt: HostRuntime) -> Result<(), Fail> {
-    for row in DEPTHS.lines() {
-        check_depth(&rt, rt.alloc(), row)?;
-    }
-    Ok(())
+    check(&rt, rt.alloc(), &Subject::Depths, DEPTHS)
 }
 
 // Heads of a `for` without braces are not deeper than one another.

@@ -1,4 +1,5 @@
 // Model texts with their tokens, or with the first place where none can stand.
+use crate::rows::{Subject, check, split};
 use gmpl_lexer::read_tokens;
 use gmpl_token::{LexFault, LexFaultKind, Token, TokenKind};
 use std::alloc::{AllocError, Global};
@@ -208,42 +209,52 @@ fn written(alloc: Global, row: &str) -> Result<String, AllocError> {
     Ok(text)
 }
 
-fn check_table(rt: &impl Abort, alloc: Global, table: &str) -> Result<(), Fail> {
-    for row in table.lines() {
-        let Some((want, text)) = row.split_once(" => ") else {
-            panic!(rt; "an answer and a text: {row}");
-        };
-        let text = written(alloc, text)?;
-        let found = answer_text(alloc, text.as_bytes())?;
-        assert_eq!(rt; found.as_str(), want, "at {row}");
-    }
-    Ok(())
+pub(crate) fn token_row(alloc: Global, row: &str) -> Result<String, AllocError> {
+    let (_, text) = split(row);
+    let text = written(alloc, text)?;
+    answer_text(alloc, text.as_bytes())
 }
 
 #[test]
 fn tokens_of_texts(rt: HostRuntime) -> Result<(), Fail> {
-    check_table(&rt, rt.alloc(), TOKENS)
+    check(&rt, rt.alloc(), &Subject::Tokens, TOKENS)
 }
 
 #[test]
 fn first_faults(rt: HostRuntime) -> Result<(), Fail> {
-    check_table(&rt, rt.alloc(), FAULTS)
+    check(&rt, rt.alloc(), &Subject::Tokens, FAULTS)
 }
 
-// A comment holds any bytes, and a string does not, ended or not.
+// A comment holds any bytes, and a string does not, ended or not. `~` is the byte 255 and `^` the byte 254.
+const BYTES: &str = "\
+n(x) n(y) => x # ~$/* ^ */ y
+n(x) !BadByte 2 2 => x$\"~\"
+n(x) !BadByte 2 3 => x$ \"~$
+n(x) !BadByte 1 2 => x ~
+";
+
+fn bytes_of(alloc: Global, text: &str) -> Result<Vec<u8>, AllocError> {
+    let mut bytes = Vec::new(alloc);
+    for byte in text.bytes() {
+        bytes.push(match byte {
+            b'$' => b'\n',
+            b'~' => 255,
+            b'^' => 254,
+            byte => byte,
+        })?;
+    }
+    Ok(bytes)
+}
+
+pub(crate) fn byte_row(alloc: Global, row: &str) -> Result<String, AllocError> {
+    let (_, text) = split(row);
+    let bytes = bytes_of(alloc, text)?;
+    answer_text(alloc, bytes.as_slice())
+}
+
 #[test]
 fn bytes_that_are_no_text(rt: HostRuntime) -> Result<(), Fail> {
-    let alloc = rt.alloc();
-    for (text, want) in [
-        (b"x # \xff\n/* \xfe */ y".as_slice(), "n(x) n(y)"),
-        (b"x\n\"\xff\"".as_slice(), "n(x) !BadByte 2 2"),
-        (b"x\n \"\xff\n".as_slice(), "n(x) !BadByte 2 3"),
-        (b"x \xff".as_slice(), "n(x) !BadByte 1 2"),
-    ] {
-        let found = answer_text(alloc, text)?;
-        assert_eq!(rt; found.as_str(), want);
-    }
-    Ok(())
+    check(&rt, rt.alloc(), &Subject::Bytes, BYTES)
 }
 
 // Where tokens stand: each with its line and how many bytes are before it.
