@@ -8,7 +8,7 @@ use Rattle.model_text.specs.declared.error.ReadError.TheVariants.{Fault, NoMemor
 use Rattle.model_text.specs.Follows.{Follows}
 use Rattle.model_text.specs.Steps.{then_do}
 use Rattle.cplex_lp_tokens.specs.declared.token.TokenKind.{TokenKind}
-use Rattle.cplex_lp_tokens.specs.declared.token.TokenKind.TheVariants.{SectionWords, Word, Literal, Plus, Minus, Stray}
+use Rattle.cplex_lp_tokens.specs.declared.token.TokenKind.TheVariants.{SectionWords, Word, Literal, Plus, Minus}
 use Rattle.cplex_lp_tokens.specs.Tokens.{Token}
 use Rattle.cplex_lp_draft.specs.declared.expecting.Sign.{Sign}
 use Rattle.cplex_lp_draft.specs.declared.expecting.Sign.TheVariants.{Unsigned}
@@ -81,9 +81,6 @@ module _ (profile : Profile) (d : Declaration) (t next : Token) (rest more : Lis
   ahead = rw (kind-ahead t.kind) refl
 
 -- ---- a token of some, with others behind them
-
-abbrev no_token : Token
-no_token = record { line = 0; kind = Stray; text = [] }
 
 ahead-of : (profile : Profile) (d : Declaration) (t : Token) (some more : List Token) → 0 < length some → with_token profile d t (some ++ more) ≡ with_token profile d t some
 ahead-of profile d t [] more h = absurd (omega arith)

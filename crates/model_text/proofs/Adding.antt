@@ -1,6 +1,6 @@
 -- Rows are added to a problem one after another.
 use Rattle.std.proofs.Common.{◌≡◌, ◌∙◌, ◌+◌, ◌<◌, ◌≤◌, false, List, [], ◌∷◌, ◌++◌, length, map, get_or, refl, sym, ap, subst, arith}
-use Rattle.std.proofs.lemmas.List.{append_assoc, append-nil, length-append}
+use Rattle.std.proofs.lemmas.List.{append_assoc, length-append}
 use Rattle.std.proofs.Math.Seq.{take-append_seam, get_or-append_seam}
 use Rattle.milp.specs.Problem.{Problem, Row}
 use Rattle.instance.specs.WellFormed.{has_row, entry_count}
@@ -50,6 +50,3 @@ module _ (b whole : Problem) (row : Row) (rest : List Row) (left : IsLeft b (row
 pub row-added : (b more whole : Problem) (row : Row) (rows rest : List Row) → more ≡ record b { rows = b.rows ++ row ∷ [] } → rows ≡ row ∷ rest → IsLeft b rows whole → IsLeft more rest whole
 row-added b more whole row rows rest is split left =
     subst (λ (p : Problem). IsLeft p rest whole) (sym is) (one-less b whole row rest (subst (λ (rs : List Row). IsLeft b rs whole) split left))
-
-pub nothing-left : (b whole : Problem) → IsLeft b [] whole → b ≡ whole
-nothing-left b whole left = ap (λ (rs : List Row). record b { rows = rs }) (sym (append-nil b.rows)) ∙ left.same
