@@ -1,4 +1,5 @@
 // Data texts with what they give to the objects of a model, or with their first bad block.
+use crate::rows::{Subject, check};
 use gmpl_data::{DataTables, Given};
 use gmpl_data_input::{DataFault, DataFaultKind};
 use gmpl_data_tokens::read_data_tokens;
@@ -9,7 +10,6 @@ use gmpl_token::Tokens;
 use gmpl_value::{SetValue, Symbol, Tuple};
 use model_text::Names;
 use std::alloc::{AllocError, Global};
-use std::process::Abort;
 use std::test::Fail;
 
 // A row has what is given and the text, in which `$` is a line feed, and `|` parts two texts. What is given to an object stands
@@ -325,6 +325,17 @@ fn member_text(
     Ok(made)
 }
 
+fn push_default(
+    alloc: Global,
+    answer: &mut String,
+    name: &str,
+    value: &Symbol,
+) -> Result<(), AllocError> {
+    let text = symbol_text(alloc, value)?;
+    let word = format!(in alloc; "{name}*={text}")?;
+    push_word(answer, word.as_str())
+}
+
 fn push_given(
     alloc: Global,
     answer: &mut String,
@@ -337,12 +348,10 @@ fn push_given(
             push_word(answer, word.as_str())?;
         }
     }
-    if let Some(value) = &given.default {
-        let text = symbol_text(alloc, value)?;
-        let word = format!(in alloc; "{name}*={text}")?;
-        push_word(answer, word.as_str())?;
+    match &given.default {
+        Some(value) => push_default(alloc, answer, name, value),
+        None => Ok(()),
     }
-    Ok(())
 }
 
 fn tables_text(alloc: Global, tables: &DataTables) -> Result<String, AllocError> {
@@ -379,59 +388,59 @@ fn fault_text(alloc: Global, fault: DataFault) -> Result<String, AllocError> {
     format!(in alloc; "!{} {} {}", kind_text(fault.kind), fault.block, fault.line)
 }
 
-fn answer_text(alloc: Global, first: &str, second: &str) -> Result<String, AllocError> {
+fn loaded(alloc: Global, texts: &[Tokens<'_>]) -> Result<DataTables, LoadError> {
     let names = names(alloc)?;
     let objects = objects(alloc)?;
-    let mut texts = Vec::new(alloc);
-    texts.push(read_data_tokens(alloc, first.as_bytes(), 0)?)?;
-    texts.push(read_data_tokens(alloc, second.as_bytes(), 0)?)?;
-    match load(alloc, &names, &objects, &texts) {
+    load(alloc, &names, &objects, texts)
+}
+
+fn answer_text(alloc: Global, texts: &[Tokens<'_>]) -> Result<String, AllocError> {
+    match loaded(alloc, texts) {
         Ok(tables) => tables_text(alloc, &tables),
         Err(LoadError::Fault(fault)) => fault_text(alloc, fault),
         Err(LoadError::NoMemory) => Err(AllocError),
     }
 }
 
-fn row_text(alloc: Global, text: &str) -> Result<String, AllocError> {
-    match text.split_once(" | ") {
-        Some((first, second)) => answer_text(alloc, first, second),
-        None => answer_text(alloc, text, ""),
-    }
+fn tokens_of<'a>(
+    alloc: Global,
+    first: &'a str,
+    second: &'a str,
+) -> Result<Vec<Tokens<'a>>, AllocError> {
+    let mut texts = Vec::new(alloc);
+    texts.push(read_data_tokens(alloc, first.as_bytes(), 0)?)?;
+    texts.push(read_data_tokens(alloc, second.as_bytes(), 0)?)?;
+    Ok(texts)
 }
 
-fn check_table(rt: &impl Abort, alloc: Global, table: &str) -> Result<(), Fail> {
-    for row in table.lines() {
-        let Some((want, text)) = row.split_once(" =>") else {
-            panic!(rt; "an answer and a text: {row}");
-        };
-        let text = text.replace(alloc, "$", "\n")?;
-        let found = row_text(alloc, text.as_str())?;
-        assert_eq!(rt; found.as_str(), want, "at {row}");
-    }
-    Ok(())
+/// What the one or two texts of a row give, or their first fault.
+pub(crate) fn given_word(alloc: Global, asked: &str) -> Result<String, AllocError> {
+    let (first, second) = asked.split_once(" | ").unwrap_or((asked, ""));
+    let texts = tokens_of(alloc, first, second)?;
+    answer_text(alloc, &texts)
 }
 
 #[test]
 fn parameters(rt: HostRuntime) -> Result<(), Fail> {
-    check_table(&rt, rt.alloc(), PARAMETERS)
+    check(&rt, rt.alloc(), &Subject::Blocks, PARAMETERS)
 }
 
 #[test]
 fn sets(rt: HostRuntime) -> Result<(), Fail> {
-    check_table(&rt, rt.alloc(), SETS)
+    check(&rt, rt.alloc(), &Subject::Blocks, SETS)
 }
 
 #[test]
 fn several_parameters(rt: HostRuntime) -> Result<(), Fail> {
-    check_table(&rt, rt.alloc(), TABBING)
+    check(&rt, rt.alloc(), &Subject::Blocks, TABBING)
 }
 
 #[test]
 fn ends_of_texts(rt: HostRuntime) -> Result<(), Fail> {
-    check_table(&rt, rt.alloc(), ENDS)
+    check(&rt, rt.alloc(), &Subject::Blocks, ENDS)
 }
 
 #[test]
 fn first_faults(rt: HostRuntime) -> Result<(), Fail> {
-    check_table(&rt, rt.alloc(), FAULTS)
+    check(&rt, rt.alloc(), &Subject::Blocks, FAULTS)
 }

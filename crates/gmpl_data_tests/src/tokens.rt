@@ -1,8 +1,8 @@
 // Data texts with their tokens, or with the first place where none can stand.
+use crate::rows::{Subject, check};
 use gmpl_data_tokens::read_data_tokens;
-use gmpl_token::{LexFault, LexFaultKind, Token, TokenKind};
+use gmpl_token::{LexFault, LexFaultKind, Token, TokenKind, Tokens};
 use std::alloc::{AllocError, Global};
-use std::process::Abort;
 use std::test::Fail;
 
 // A row has its tokens and its text, in which `$` is a line feed. A bare string is `w(..)`, a number `d(..)` and a string in
@@ -28,6 +28,12 @@ w(a) !BadByte 1 1 => a=1
 w(a) !BadByte 1 2 => a / b
 !UnendedString 1 0 => 'a$'
 w(a) !UnendedComment 2 2 => a$/* b
+";
+
+// Data that begin behind so many bytes of a text: each token's line and place are those of the whole; `-` stands for no token.
+const PLACES: &str = "\
+3:13 3:17 3:19 3:22 3:23 => 12 var x;$data;$set S := a;
+- => 3 ab
 ";
 
 fn word_text(kind: TokenKind) -> &'static str {
@@ -65,13 +71,17 @@ fn push_word(answer: &mut String, word: &str) -> Result<(), AllocError> {
     answer.push_str(word)
 }
 
-fn answer_text(alloc: Global, text: &[u8]) -> Result<String, AllocError> {
-    let tokens = read_data_tokens(alloc, text, 0)?;
+fn token_words(alloc: Global, tokens: &[Token]) -> Result<String, AllocError> {
     let mut answer = String::new(alloc);
-    for token in tokens.as_slice() {
+    for token in tokens {
         let word = token_text(alloc, token)?;
         push_word(&mut answer, word.as_str())?;
     }
+    Ok(answer)
+}
+
+fn answer_text(alloc: Global, tokens: &Tokens) -> Result<String, AllocError> {
+    let mut answer = token_words(alloc, tokens.as_slice())?;
     if let Some(fault) = tokens.fault() {
         let word = fault_text(alloc, fault)?;
         push_word(&mut answer, word.as_str())?;
@@ -79,31 +89,42 @@ fn answer_text(alloc: Global, text: &[u8]) -> Result<String, AllocError> {
     Ok(answer)
 }
 
-#[test]
-fn tokens_of_texts(rt: HostRuntime) -> Result<(), Fail> {
-    let alloc = rt.alloc();
-    for row in TOKENS.lines() {
-        let Some((want, text)) = row.split_once(" => ") else {
-            panic!(rt; "tokens and a text: {row}");
-        };
-        let text = text.replace(alloc, "$", "\n")?;
-        let found = answer_text(alloc, text.as_str().as_bytes())?;
-        assert_eq!(rt; found.as_str(), want, "at {row}");
-    }
-    Ok(())
+/// The tokens of a text, with its fault.
+pub(crate) fn tokens_word(alloc: Global, text: &str) -> Result<String, AllocError> {
+    let tokens = read_data_tokens(alloc, text.as_bytes(), 0)?;
+    answer_text(alloc, &tokens)
 }
 
-// Data that begin behind a part of the text: places and lines are those of the whole.
+#[test]
+fn tokens_of_texts(rt: HostRuntime) -> Result<(), Fail> {
+    check(&rt, rt.alloc(), &Subject::Tokens, TOKENS)
+}
+
+fn place_text(alloc: Global, token: &Token) -> Result<String, AllocError> {
+    format!(in alloc; "{}:{}", token.line(), token.at())
+}
+
+fn place_words(alloc: Global, tokens: &[Token]) -> Result<String, AllocError> {
+    let mut places = String::new(alloc);
+    for token in tokens {
+        let place = place_text(alloc, token)?;
+        push_word(&mut places, place.as_str())?;
+    }
+    if places.is_empty() {
+        places.push('-')?;
+    }
+    Ok(places)
+}
+
+/// The places of the tokens behind so many bytes of a text.
+pub(crate) fn places_word(alloc: Global, asked: &str) -> Result<String, AllocError> {
+    let (start, text) = asked.split_once(' ').unwrap_or((asked, ""));
+    let start = start.parse::<usize>().unwrap_or(0);
+    let tokens = read_data_tokens(alloc, text.as_bytes(), start)?;
+    place_words(alloc, tokens.as_slice())
+}
+
 #[test]
 fn tokens_behind_a_part(rt: HostRuntime) -> Result<(), Fail> {
-    let tokens = read_data_tokens(rt.alloc(), b"var x;\ndata;\nset S := a;", 12)?;
-    let mut places = String::new(rt.alloc());
-    for token in tokens.as_slice() {
-        let place = format!(in rt.alloc(); " {}:{}", token.line(), token.at())?;
-        places.push_str(place.as_str())?;
-    }
-    assert_eq!(rt; places.as_str(), " 3:13 3:17 3:19 3:22 3:23");
-    let none = read_data_tokens(rt.alloc(), b"ab", 3)?;
-    assert!(rt; none.as_slice().is_empty());
-    Ok(())
+    check(&rt, rt.alloc(), &Subject::Places, PLACES)
 }
