@@ -4,4 +4,6 @@
 #[cfg(test)]
 mod candidates;
 #[cfg(test)]
+mod rows;
+#[cfg(test)]
 mod shapes;
