@@ -1,6 +1,7 @@
 // CSV texts with what they add to the data of a model, or with their first fault.
-use crate::texts::{bytes_of, names};
-use csv_tables::{TableError, TableFault};
+use crate::rows::{Subject, check, split};
+use crate::texts::{bytes_of, fault_text, names, number, push_tuple};
+use csv_tables::TableError;
 use fraction::Frac;
 use gmpl_data::{DataTables, Given};
 use gmpl_member_names::symbol_text;
@@ -11,7 +12,6 @@ use gmpl_text::Text;
 use gmpl_value::{SetValue, Symbol, Tuple};
 use sqlite_items::Items;
 use std::alloc::{AllocError, Global};
-use std::process::Abort;
 use std::test::Fail;
 
 // A row has the data that are wanted, the table, the data before and the text. Of data, each member stands with its subscripts
@@ -71,9 +71,9 @@ const FAULTS: &str = "\
 // ---- data that are written in a row
 
 fn symbol(alloc: Global, text: &str) -> Result<Symbol, AllocError> {
-    match Frac::read(text) {
-        Ok(number) => Ok(Symbol::Number(number)),
-        Err(_) => Ok(Symbol::Word(Text::new(alloc, text)?)),
+    match number(text) {
+        Some(number) => Ok(Symbol::Number(number)),
+        None => Ok(Symbol::Word(Text::new(alloc, text)?)),
     }
 }
 
@@ -106,18 +106,26 @@ fn value(alloc: Global, text: &str) -> Result<Value, AllocError> {
     }
 }
 
-fn with_word(alloc: Global, mut given: Given, word: &str) -> Result<Given, AllocError> {
+fn add_member(
+    alloc: Global,
+    values: &mut Members,
+    subscripts: &str,
+    text: &str,
+) -> Result<(), AllocError> {
+    let subscripts = tuple(alloc, subscripts)?;
+    let value = value(alloc, text)?;
+    values.insert(subscripts, value).ok();
+    Ok(())
+}
+
+fn add_word(alloc: Global, given: &mut Given, word: &str) -> Result<(), AllocError> {
     match word.split_once('=') {
+        Some((subscripts, text)) => add_member(alloc, &mut given.values, subscripts, text),
         None => {
             given.overfull.insert(Tuple::new(alloc)).ok();
-        }
-        Some((subscripts, text)) => {
-            let subscripts = tuple(alloc, subscripts)?;
-            let value = value(alloc, text)?;
-            given.values.insert(subscripts, value).ok();
+            Ok(())
         }
     }
-    Ok(given)
 }
 
 // What the words that begin with a name give.
@@ -129,7 +137,7 @@ fn given(alloc: Global, name: &str, words: &str) -> Result<Given, AllocError> {
     };
     for word in words.split(' ') {
         if let Some(rest) = word.strip_prefix(name) {
-            made = with_word(alloc, made, rest)?;
+            add_word(alloc, &mut made, rest)?;
         }
     }
     Ok(made)
@@ -156,49 +164,42 @@ fn place(name: &str) -> usize {
     place
 }
 
+fn column(alloc: Global, name: &str, field: &str) -> Result<InputColumn, AllocError> {
+    Ok(InputColumn {
+        parameter: place(name),
+        field: Text::new(alloc, field)?,
+    })
+}
+
 fn columns(alloc: Global, text: &str) -> Result<Items<InputColumn>, AllocError> {
     let mut made = Items::new(alloc);
     for word in text.split(' ') {
         if let Some((name, field)) = word.split_once('=') {
-            made.push(InputColumn {
-                parameter: place(name),
-                field: Text::new(alloc, field)?,
-            })?;
+            made.push(column(alloc, name, field)?)?;
         }
     }
     Ok(made)
+}
+
+// A table of any file.
+fn input(set: &str, keys: Vec<Text>, columns: Items<InputColumn>) -> TableInput {
+    TableInput {
+        file: Expr::Number(Frac::whole(0)),
+        set: if set == "-" { None } else { Some(place(set)) },
+        keys: Items::from_vec(keys),
+        columns,
+    }
 }
 
 fn table(alloc: Global, text: &str) -> Result<TableInput, AllocError> {
     let (head, columns_text) = text.split_once(" :").unwrap_or((text, ""));
     let (set, keys) = head.split_once(' ').unwrap_or((head, "-"));
     let keys = names(alloc, keys)?;
-    Ok(TableInput {
-        file: Expr::Text(Text::new(alloc, "")?),
-        set: if set == "-" { None } else { Some(place(set)) },
-        keys: Items::from_vec(keys),
-        columns: columns(alloc, columns_text)?,
-    })
+    let columns = columns(alloc, columns_text)?;
+    Ok(input(set, keys, columns))
 }
 
 // ---- answers
-
-fn push_tuple(
-    alloc: Global,
-    answer: &mut String,
-    between: char,
-    tuple: &Tuple,
-) -> Result<(), AllocError> {
-    let mut is_first = true;
-    for symbol in tuple.symbols() {
-        if !is_first {
-            answer.push(between)?;
-        }
-        is_first = false;
-        answer.push_str(symbol_text(alloc, symbol)?.as_str())?;
-    }
-    Ok(())
-}
 
 fn set_text(alloc: Global, set: &SetValue) -> Result<String, AllocError> {
     let mut made = String::new(alloc);
@@ -261,60 +262,49 @@ fn tables_text(alloc: Global, tables: &DataTables) -> Result<String, AllocError>
     Ok(answer)
 }
 
-fn fault_text(fault: TableFault) -> &'static str {
-    match fault {
-        TableFault::NoField => "!NoField",
-        TableFault::BadRecord => "!BadRecord",
-        TableFault::TwiceKey => "!TwiceKey",
-    }
+fn joined(
+    alloc: Global,
+    input: &TableInput,
+    before: &str,
+    text: &str,
+) -> Result<DataTables, TableError> {
+    let bytes = bytes_of(alloc, text)?;
+    let before = tables(alloc, before)?;
+    with_table(alloc, before, input, &bytes)
 }
 
-fn answer(alloc: Global, table_text: &str, before: &str, text: &str) -> Result<String, AllocError> {
-    let before = tables(alloc, before)?;
-    let input = table(alloc, table_text)?;
-    let bytes = bytes_of(alloc, text)?;
-    match with_table(alloc, before, &input, &bytes) {
+fn answer(
+    alloc: Global,
+    input: &TableInput,
+    before: &str,
+    text: &str,
+) -> Result<String, AllocError> {
+    match joined(alloc, input, before, text) {
         Ok(tables) => tables_text(alloc, &tables),
         Err(TableError::Fault(fault)) => fault_text(fault).to_string(alloc),
         Err(TableError::NoMemory) => Err(AllocError),
     }
 }
 
-// The data that are wanted, and those that are found.
-fn wanted_and_found(alloc: Global, row: &str) -> Result<Option<(String, String)>, AllocError> {
-    let Some((want, rest)) = row.split_once(" => ") else {
-        return Ok(None);
-    };
-    let Some((table, rest)) = rest.split_once(" => ") else {
-        return Ok(None);
-    };
-    let Some((before, text)) = rest.split_once(" => ") else {
-        return Ok(None);
-    };
-    Ok(Some((want.to_string(alloc)?, answer(alloc, table, before, text)?)))
-}
-
-fn check_rows(rt: &impl Abort, alloc: Global, rows: &str) -> Result<(), Fail> {
-    for row in rows.lines() {
-        let Some((want, found)) = wanted_and_found(alloc, row)? else {
-            panic!(rt; "data, a table, data and a text: {row}");
-        };
-        assert_eq!(rt; found.as_str(), want.as_str(), "at {row}");
-    }
-    Ok(())
+/// The data that a text gives to those before, or its fault.
+pub(crate) fn added(alloc: Global, asked: &str) -> Result<String, AllocError> {
+    let (head, rest) = split(asked);
+    let (before, text) = split(rest);
+    let input = table(alloc, head)?;
+    answer(alloc, &input, before, text)
 }
 
 #[test]
 fn given_by_tables(rt: HostRuntime) -> Result<(), Fail> {
-    check_rows(&rt, rt.alloc(), GIVEN)
+    check(&rt, rt.alloc(), &Subject::Adding, GIVEN)
 }
 
 #[test]
 fn data_before(rt: HostRuntime) -> Result<(), Fail> {
-    check_rows(&rt, rt.alloc(), BEFORE)
+    check(&rt, rt.alloc(), &Subject::Adding, BEFORE)
 }
 
 #[test]
 fn first_faults(rt: HostRuntime) -> Result<(), Fail> {
-    check_rows(&rt, rt.alloc(), FAULTS)
+    check(&rt, rt.alloc(), &Subject::Adding, FAULTS)
 }

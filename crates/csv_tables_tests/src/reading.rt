@@ -1,10 +1,9 @@
 // CSV texts with the tables that they give, or with their first fault.
-use crate::texts::{bytes_of, names};
-use csv_tables::{Table, TableError, TableFault, read_table};
-use gmpl_member_names::symbol_text;
+use crate::rows::{Subject, check, split};
+use crate::texts::{bytes_of, fault_text, names, push_tuple};
+use csv_tables::{Table, TableError, read_table};
 use gmpl_value::Tuple;
 use std::alloc::{AllocError, Global};
-use std::process::Abort;
 use std::test::Fail;
 
 // A row has the table, the fields of the key, the fields of the values and the text. A table is the rows between blanks, each the
@@ -87,28 +86,25 @@ const FAULTS: &str = "\
 1:a '1 ':b => k => v => k,v$1,a$1 ,b$
 ";
 
-fn push_symbols(alloc: Global, made: &mut String, symbols: &Tuple) -> Result<(), AllocError> {
-    let mut is_first = true;
-    for symbol in symbols.symbols() {
-        if !is_first {
-            made.push(',')?;
-        }
-        is_first = false;
-        made.push_str(symbol_text(alloc, symbol)?.as_str())?;
+fn push_row(
+    alloc: Global,
+    made: &mut String,
+    key: &Tuple,
+    values: &Tuple,
+) -> Result<(), AllocError> {
+    if !made.is_empty() {
+        made.push(' ')?;
     }
-    Ok(())
+    push_tuple(alloc, made, ',', key)?;
+    made.push(':')?;
+    push_tuple(alloc, made, ',', values)
 }
 
 fn rows_text(alloc: Global, table: &Table) -> Result<String, AllocError> {
     let mut made = String::new(alloc);
     for place in 0..table.len() {
         if let Some((key, values)) = table.row(place) {
-            if place > 0 {
-                made.push(' ')?;
-            }
-            push_symbols(alloc, &mut made, key)?;
-            made.push(':')?;
-            push_symbols(alloc, &mut made, values)?;
+            push_row(alloc, &mut made, key, values)?;
         }
     }
     if made.is_empty() {
@@ -117,66 +113,45 @@ fn rows_text(alloc: Global, table: &Table) -> Result<String, AllocError> {
     Ok(made)
 }
 
-fn fault_text(fault: TableFault) -> &'static str {
-    match fault {
-        TableFault::NoField => "!NoField",
-        TableFault::BadRecord => "!BadRecord",
-        TableFault::TwiceKey => "!TwiceKey",
-    }
-}
-
-fn answer(alloc: Global, keys: &str, values: &str, text: &str) -> Result<String, AllocError> {
+fn read(alloc: Global, keys: &str, values: &str, text: &str) -> Result<Table, TableError> {
     let keys = names(alloc, keys)?;
     let values = names(alloc, values)?;
     let bytes = bytes_of(alloc, text)?;
-    match read_table(alloc, &bytes, &keys, &values) {
+    read_table(alloc, &bytes, &keys, &values)
+}
+
+fn answer(alloc: Global, keys: &str, values: &str, text: &str) -> Result<String, AllocError> {
+    match read(alloc, keys, values, text) {
         Ok(table) => rows_text(alloc, &table),
         Err(TableError::Fault(fault)) => fault_text(fault).to_string(alloc),
         Err(TableError::NoMemory) => Err(AllocError),
     }
 }
 
-// The table that is wanted, and the one that is found.
-fn wanted_and_found(alloc: Global, row: &str) -> Result<Option<(String, String)>, AllocError> {
-    let Some((want, rest)) = row.split_once(" => ") else {
-        return Ok(None);
-    };
-    let Some((keys, rest)) = rest.split_once(" => ") else {
-        return Ok(None);
-    };
-    let Some((values, text)) = rest.split_once(" => ") else {
-        return Ok(None);
-    };
-    let want = want.replace(alloc, "$", "\n")?;
-    Ok(Some((want, answer(alloc, keys, values, text)?)))
-}
-
-fn check_rows(rt: &impl Abort, alloc: Global, rows: &str) -> Result<(), Fail> {
-    for row in rows.lines() {
-        let Some((want, found)) = wanted_and_found(alloc, row)? else {
-            panic!(rt; "a table, two lists of fields and a text: {row}");
-        };
-        assert_eq!(rt; found.as_str(), want.as_str(), "at {row}");
-    }
-    Ok(())
+/// The table that a text gives, or its fault.
+pub(crate) fn table_word(alloc: Global, asked: &str) -> Result<String, AllocError> {
+    let (keys, rest) = split(asked);
+    let (values, text) = split(rest);
+    let found = answer(alloc, keys, values, text)?;
+    found.replace(alloc, "\n", "$")
 }
 
 #[test]
 fn fields(rt: HostRuntime) -> Result<(), Fail> {
-    check_rows(&rt, rt.alloc(), FIELDS)
+    check(&rt, rt.alloc(), &Subject::Reading, FIELDS)
 }
 
 #[test]
 fn parts(rt: HostRuntime) -> Result<(), Fail> {
-    check_rows(&rt, rt.alloc(), PARTS)
+    check(&rt, rt.alloc(), &Subject::Reading, PARTS)
 }
 
 #[test]
 fn numbers(rt: HostRuntime) -> Result<(), Fail> {
-    check_rows(&rt, rt.alloc(), NUMBERS)
+    check(&rt, rt.alloc(), &Subject::Reading, NUMBERS)
 }
 
 #[test]
 fn faults(rt: HostRuntime) -> Result<(), Fail> {
-    check_rows(&rt, rt.alloc(), FAULTS)
+    check(&rt, rt.alloc(), &Subject::Reading, FAULTS)
 }

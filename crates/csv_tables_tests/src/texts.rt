@@ -1,5 +1,9 @@
 // What the rows of the tests are written in.
+use csv_tables::TableFault;
+use fraction::Frac;
+use gmpl_member_names::symbol_text;
 use gmpl_text::Text;
+use gmpl_value::Tuple;
 use std::alloc::{AllocError, Global};
 
 // `$` stands for a line feed, `^` for a carriage return, `@` for a byte order mark and `~` for a byte that UTF-8 doesn't have.
@@ -10,18 +14,11 @@ pub(crate) fn bytes_of(alloc: Global, text: &str) -> Result<Vec<u8>, AllocError>
             b'$' => made.push(b'\n')?,
             b'^' => made.push(b'\r')?,
             b'~' => made.push(0xff)?,
-            b'@' => push_mark(&mut made)?,
+            b'@' => made.extend_from_slice("\u{feff}".as_bytes())?,
             other => made.push(other)?,
         }
     }
     Ok(made)
-}
-
-fn push_mark(made: &mut Vec<u8>) -> Result<(), AllocError> {
-    made.push(0xef)?;
-    made.push(0xbb)?;
-    made.push(0xbf)?;
-    Ok(())
 }
 
 // Names between blanks, `-` for none.
@@ -34,4 +31,35 @@ pub(crate) fn names(alloc: Global, text: &str) -> Result<Vec<Text>, AllocError> 
         made.push(Text::new(alloc, name)?)?;
     }
     Ok(made)
+}
+
+// Symbols with a character between them.
+pub(crate) fn push_tuple(
+    alloc: Global,
+    answer: &mut String,
+    between: char,
+    tuple: &Tuple,
+) -> Result<(), AllocError> {
+    let mut is_first = true;
+    for symbol in tuple.symbols() {
+        if !is_first {
+            answer.push(between)?;
+        }
+        is_first = false;
+        answer.push_str(symbol_text(alloc, symbol)?.as_str())?;
+    }
+    Ok(())
+}
+
+pub(crate) fn fault_text(fault: TableFault) -> &'static str {
+    match fault {
+        TableFault::NoField => "!NoField",
+        TableFault::BadRecord => "!BadRecord",
+        TableFault::TwiceKey => "!TwiceKey",
+    }
+}
+
+// The number that `n` or `n/d` writes.
+pub(crate) fn number(digits: &str) -> Option<Frac> {
+    Frac::read_canonical(digits).ok()
 }

@@ -1,11 +1,11 @@
 // Rows of tables with their CSV texts.
-use crate::texts::{bytes_of, names};
+use crate::rows::{Subject, check, split};
+use crate::texts::{names, number};
 use csv_tables::table_text;
 use fraction::Frac;
 use gmpl_text::Text;
 use gmpl_value::{Symbol, Tuple};
 use std::alloc::{AllocError, Global};
-use std::process::Abort;
 use std::test::Fail;
 
 // A row has the text that is wanted, the names of the fields and the rows of the table, which end in `;`. Each symbol stands behind
@@ -25,81 +25,62 @@ k$ => k =>\u{20}
 \u{e4}$\u{20ac}$ => \u{e4} => |\u{20ac};
 ";
 
-// The number that `n` or `n/d` writes.
-fn number(text: &str) -> Option<Frac> {
-    match text.split_once('/') {
-        Some((above, below)) => quotient(Frac::read(above).ok()?, Frac::read(below).ok()?),
-        None => Frac::read(text).ok(),
-    }
-}
-
-fn quotient(above: Frac, below: Frac) -> Option<Frac> {
-    let (numerator, _) = below.parts();
-    if numerator == 0 {
-        return None;
-    }
-    above.div(below).ok()
-}
-
-fn symbol(alloc: Global, text: &str) -> Result<Option<Symbol>, AllocError> {
+// A number, or a string; what is no number behind `#` is 0.
+fn symbol(alloc: Global, text: &str) -> Result<Symbol, AllocError> {
     match text.strip_prefix('#') {
-        Some(digits) => match number(digits) {
-            Some(number) => Ok(Some(Symbol::Number(number))),
-            None => Ok(None),
-        },
-        None => Ok(Some(Symbol::Word(Text::new(alloc, text)?))),
+        Some(digits) => Ok(Symbol::Number(number(digits).unwrap_or(Frac::whole(0)))),
+        None => Ok(Symbol::Word(Text::new(alloc, text)?)),
     }
 }
 
-fn row(alloc: Global, text: &str) -> Result<Option<Tuple>, AllocError> {
+fn row(alloc: Global, text: &str) -> Result<Tuple, AllocError> {
     let mut made = Tuple::new(alloc);
     for part in text.split('|') {
-        match symbol(alloc, part)? {
-            Some(symbol) => made.push(symbol)?,
-            None => return Ok(None),
-        }
+        made.push(symbol(alloc, part)?)?;
     }
-    Ok(Some(made))
+    Ok(made)
 }
 
-fn rows(alloc: Global, text: &str) -> Result<Option<Vec<Tuple>>, AllocError> {
+fn rows(alloc: Global, text: &str) -> Result<Vec<Tuple>, AllocError> {
     let mut made = Vec::new(alloc);
     for part in text.split(';') {
         if let Some(symbols) = part.strip_prefix('|') {
-            match row(alloc, symbols)? {
-                Some(row) => made.push(row)?,
-                None => return Ok(None),
-            }
+            made.push(row(alloc, symbols)?)?;
         }
     }
-    Ok(Some(made))
+    Ok(made)
 }
 
-// The text that is wanted, and the one that is written.
-fn wanted_and_written(alloc: Global, line: &str) -> Result<Option<(Vec<u8>, Vec<u8>)>, AllocError> {
-    let Some((want, rest)) = line.split_once(" => ") else {
-        return Ok(None);
-    };
-    let Some((fields, rest)) = rest.split_once(" => ") else {
-        return Ok(None);
-    };
-    let breaks = rest.replace(alloc, "$", "\n")?;
-    let breaks = breaks.replace(alloc, "^", "\r")?;
-    let Some(rows) = rows(alloc, breaks.as_str())? else {
-        return Ok(None);
-    };
+// A text whose ends of lines are as the rows write them, or as a file has them.
+fn with_marks(alloc: Global, text: &str) -> Result<String, AllocError> {
+    let marked = text.replace(alloc, "\n", "$")?;
+    marked.replace(alloc, "\r", "^")
+}
+
+fn with_breaks(alloc: Global, text: &str) -> Result<String, AllocError> {
+    let broken = text.replace(alloc, "$", "\n")?;
+    broken.replace(alloc, "^", "\r")
+}
+
+fn table_of(alloc: Global, text: &str) -> Result<Vec<Tuple>, AllocError> {
+    let text = with_breaks(alloc, text)?;
+    rows(alloc, text.as_str())
+}
+
+fn bytes_written(alloc: Global, fields: &str, text: &str) -> Result<Vec<u8>, AllocError> {
     let fields = names(alloc, fields)?;
-    Ok(Some((bytes_of(alloc, want)?, table_text(alloc, &fields, &rows)?)))
+    let rows = table_of(alloc, text)?;
+    table_text(alloc, &fields, &rows)
+}
+
+/// The text that is written of a table.
+pub(crate) fn written(alloc: Global, asked: &str) -> Result<String, AllocError> {
+    let (fields, text) = split(asked);
+    let written = bytes_written(alloc, fields, text)?;
+    with_marks(alloc, str::from_utf8(&written).unwrap_or("no text"))
 }
 
 #[test]
 fn texts(rt: HostRuntime) -> Result<(), Fail> {
-    let alloc = rt.alloc();
-    for line in TEXTS.lines() {
-        let Some((want, written)) = wanted_and_written(alloc, line)? else {
-            panic!(rt; "a text, names and rows: {line}");
-        };
-        assert!(rt; written == want, "at {line}");
-    }
-    Ok(())
+    check(&rt, rt.alloc(), &Subject::Writing, TEXTS)
 }
