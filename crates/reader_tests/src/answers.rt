@@ -76,3 +76,16 @@ pub(crate) fn answer_text(
         Err(ReadError::NoMemory) => Err(AllocError),
     }
 }
+
+/// A text in which `/` is a line feed, and `~` a byte that UTF-8 doesn't have.
+pub(crate) fn bytes_of(alloc: Global, text: &str) -> Result<Vec<u8>, AllocError> {
+    let mut made = Vec::new(alloc);
+    for byte in text.as_bytes() {
+        match *byte {
+            b'/' => made.push(b'\n')?,
+            b'~' => made.push(0xff)?,
+            other => made.push(other)?,
+        }
+    }
+    Ok(made)
+}

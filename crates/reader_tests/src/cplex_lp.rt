@@ -1,11 +1,11 @@
 // Texts with the problems that they declare, or with their first faults.
 ghost use Rattle.model_text.specs.Profile.{IsWithinInstance};
 
-use crate::answers::answer_text;
+use crate::answers::{answer_text, bytes_of};
+use crate::rows::{Subject, check};
 use cplex_lp_reader::{read_lp, read_within};
-use model_text::{FaultKind, Profile, ReadError, reader_profile};
+use model_text::{Profile, reader_profile};
 use std::alloc::{AllocError, Global};
-use std::process::Abort;
 use std::test::Fail;
 
 // ---- tables: what a text declares, and the text, in which `/` is a line feed
@@ -173,67 +173,61 @@ min obj 0 | r.1 1 - 0:1 1:1 | r.2 1 -; x 0 -; y 0 - <- min/st/ x + y >= 1/ x - x
 4 TooMany <- min/st/ x + y >= 1/ c:/ x >= 1
 ";
 
+// A comment holds any bytes, as `~`, and nothing else does.
+const NO_TEXT: &str = "\
+min obj 0 0:1; x 0 - <- min x \\ ~/st/
+2 BadLine <- min x/ + ~y/st/
+";
+
 // ---- the tables are true
 
-// A text as a table writes it.
-fn written(alloc: Global, row: &str) -> Result<String, AllocError> {
-    let mut text = String::new(alloc);
-    for c in row.chars() {
-        match c {
-            '/' => text.push('\n')?,
-            c => text.push(c)?,
-        }
-    }
-    Ok(text)
-}
-
-fn check_table(rt: &impl Abort, alloc: Global, profile: &Profile, table: &str) -> Result<(), Fail>
+fn answer_within(alloc: Global, profile: &Profile, row: &str) -> Result<String, AllocError>
     requires { IsWithinInstance profile.now }
 {
-    for row in table.lines() {
-        let Some((want, text)) = row.split_once(" <- ") else {
-            panic!(rt; "an answer and a text: {row}");
-        };
-        let text = written(alloc, text)?;
-        let found = answer_text(alloc, read_within(alloc, profile, text.as_bytes()))?;
-        assert_eq!(rt; found.as_str(), want, "at {row}");
-    }
-    Ok(())
+    let text = row.replace(alloc, "/", "\n")?;
+    answer_text(alloc, read_within(alloc, profile, text.as_bytes()))
 }
 
-#[test]
-fn declared_problems(rt: HostRuntime) -> Result<(), Fail> {
-    check_table(&rt, rt.alloc(), &reader_profile(), PROBLEMS)
+pub(crate) fn lp_word(alloc: Global, row: &str) -> Result<String, AllocError> {
+    answer_within(alloc, &reader_profile(), row)
 }
 
-#[test]
-fn first_faults(rt: HostRuntime) -> Result<(), Fail> {
-    check_table(&rt, rt.alloc(), &reader_profile(), FAULTS)
-}
-
-#[test]
-fn texts_past_limits(rt: HostRuntime) -> Result<(), Fail> {
+pub(crate) fn lp_word_within_two(alloc: Global, row: &str) -> Result<String, AllocError> {
     let within_two = Profile {
         rows: 2,
         columns: 2,
         entries: 2,
         ..reader_profile()
     };
-    check_table(&rt, rt.alloc(), &within_two, WITHIN_TWO)
+    answer_within(alloc, &within_two, row)
+}
+
+pub(crate) fn lp_bytes_word(alloc: Global, row: &str) -> Result<String, AllocError> {
+    let bytes = bytes_of(alloc, row)?;
+    answer_text(alloc, read_lp(alloc, &bytes))
+}
+
+#[test]
+fn declared_problems(rt: HostRuntime) -> Result<(), Fail> {
+    check(&rt, rt.alloc(), &Subject::Lp, PROBLEMS)
+}
+
+#[test]
+fn first_faults(rt: HostRuntime) -> Result<(), Fail> {
+    check(&rt, rt.alloc(), &Subject::Lp, FAULTS)
+}
+
+#[test]
+fn texts_past_limits(rt: HostRuntime) -> Result<(), Fail> {
+    check(&rt, rt.alloc(), &Subject::LpWithinTwo, WITHIN_TWO)
 }
 
 #[test]
 fn integer_columns(rt: HostRuntime) -> Result<(), Fail> {
-    check_table(&rt, rt.alloc(), &reader_profile(), INTEGERS)
+    check(&rt, rt.alloc(), &Subject::Lp, INTEGERS)
 }
 
-// A comment holds any bytes, and nothing else does.
 #[test]
-fn bytes_that_are_no_text(rt: HostRuntime) {
-    assert!(rt; read_lp(rt.alloc(), b"min x \\ \xff\nst\n").is_ok());
-    let Err(ReadError::Fault(fault)) = read_lp(rt.alloc(), b"min x\n + \xffy\nst\n") else {
-        panic!(rt; "a fault");
-    };
-    assert_eq!(rt; fault.line, 2);
-    assert!(rt; fault.kind == FaultKind::BadLine);
+fn bytes_that_are_no_text(rt: HostRuntime) -> Result<(), Fail> {
+    check(&rt, rt.alloc(), &Subject::LpBytes, NO_TEXT)
 }

@@ -1,15 +1,24 @@
 // A fault's line, as it is printed.
+use crate::rows::{Subject, check};
 use model_text::{FaultKind, FileFault};
+use std::alloc::{AllocError, Global};
+use std::test::Fail;
 
-#[test]
-fn names_its_kind(rt: HostRuntime) {
+// The word of the kind and the line that is printed, and the number of the line.
+const LINES: &str = "\
+TooWide; file fault: line 3: TooWide <- 3
+";
+
+pub(crate) fn fault_word(alloc: Global, line: &str) -> Result<String, AllocError> {
     let fault = FileFault {
-        line: 3,
+        line: line.parse::<usize>().unwrap_or(0),
         kind: FaultKind::TooWide,
     };
-    assert!(rt; fault.kind.as_str() == "TooWide");
-    let Ok(text) = format!(in rt.alloc(); "file fault: line {}: {}", fault.line, fault.kind) else {
-        panic!(rt; "memory for a line");
-    };
-    assert!(rt; text.as_str() == "file fault: line 3: TooWide");
+    let word = fault.kind.as_str();
+    format!(in alloc; "{word}; file fault: line {}: {}", fault.line, fault.kind)
+}
+
+#[test]
+fn names_its_kind(rt: HostRuntime) -> Result<(), Fail> {
+    check(&rt, rt.alloc(), &Subject::Faults, LINES)
 }

@@ -1,11 +1,11 @@
 // Texts with the problems that they declare, and texts with their first faults.
 ghost use Rattle.model_text.specs.Profile.{IsWithinInstance};
 
-use crate::answers::answer_text;
-use model_text::{FaultKind, Profile, ReadError, reader_profile};
+use crate::answers::{answer_text, bytes_of};
+use crate::rows::{Subject, check};
+use model_text::{Profile, reader_profile};
 use mps_reader::{read_mps, read_within};
 use std::alloc::{AllocError, Global};
-use std::process::Abort;
 use std::test::Fail;
 
 // ---- faults
@@ -169,77 +169,78 @@ min z 0; x 0 1 int; y 3 4 int; v 0 6 int <- ROWS/ N z/COLUMNS/ x z 0/ y z 0/ v z
 min z 0; x - - int; y - 9 int; v 0 - <- ROWS/ N z/COLUMNS/ M 'MARKER' 'INTORG'/ x z 0/ y z 0/ M 'MARKER' 'INTEND'/ v z 0/BOUNDS/ FR b x/ MI b y/ UP b y 9/ BV c v/ LI c v 2/ENDATA/
 ";
 
+// ---- bytes that are no text, `~`
+
+// A comment holds any bytes, and no other line does.
+const NO_TEXT: &str = "\
+3 BadLine <- * ~/ROWS/ N ~/
+";
+
+// A byte order mark is no blank, so it begins a header.
+const MARK: &str = "\
+1 BadSection <- \u{feff}ROWS/
+";
+
 // ---- the tables are true
 
 // A text as a table above writes it.
 fn written(alloc: Global, row: &str) -> Result<String, AllocError> {
-    let mut text = String::new(alloc);
-    for c in row.chars() {
-        match c {
-            '/' => text.push('\n')?,
-            '@' => text.push_str(START)?,
-            c => text.push(c)?,
-        }
-    }
-    Ok(text)
+    let text = row.replace(alloc, "/", "\n")?;
+    text.replace(alloc, "@", START)
 }
 
-fn check_table(rt: &impl Abort, alloc: Global, profile: &Profile, table: &str) -> Result<(), Fail>
+fn answer_within(alloc: Global, profile: &Profile, row: &str) -> Result<String, AllocError>
     requires { IsWithinInstance profile.now }
 {
-    for row in table.lines() {
-        let Some((want, text)) = row.split_once(" <- ") else {
-            panic!(rt; "an answer and a text: {row}");
-        };
-        let text = written(alloc, text)?;
-        let found = answer_text(alloc, read_within(alloc, profile, text.as_bytes()))?;
-        assert_eq!(rt; found.as_str(), want, "at {row}");
-    }
-    Ok(())
+    let text = written(alloc, row)?;
+    answer_text(alloc, read_within(alloc, profile, text.as_bytes()))
 }
 
-#[test]
-fn first_faults(rt: HostRuntime) -> Result<(), Fail> {
-    check_table(&rt, rt.alloc(), &reader_profile(), FAULTS)
+pub(crate) fn mps_word(alloc: Global, row: &str) -> Result<String, AllocError> {
+    answer_within(alloc, &reader_profile(), row)
 }
 
-#[test]
-fn first_faults_past_limits(rt: HostRuntime) -> Result<(), Fail> {
+pub(crate) fn mps_word_within_two(alloc: Global, row: &str) -> Result<String, AllocError> {
     let within_two = Profile {
         rows: 2,
         columns: 2,
         entries: 2,
         ..reader_profile()
     };
-    check_table(&rt, rt.alloc(), &within_two, FAULTS_WITHIN_TWO)
+    answer_within(alloc, &within_two, row)
+}
+
+pub(crate) fn mps_bytes_word(alloc: Global, row: &str) -> Result<String, AllocError> {
+    let bytes = bytes_of(alloc, row)?;
+    answer_text(alloc, read_mps(alloc, &bytes))
+}
+
+#[test]
+fn first_faults(rt: HostRuntime) -> Result<(), Fail> {
+    check(&rt, rt.alloc(), &Subject::Mps, FAULTS)
+}
+
+#[test]
+fn first_faults_past_limits(rt: HostRuntime) -> Result<(), Fail> {
+    check(&rt, rt.alloc(), &Subject::MpsWithinTwo, FAULTS_WITHIN_TWO)
 }
 
 #[test]
 fn declared_problems(rt: HostRuntime) -> Result<(), Fail> {
-    check_table(&rt, rt.alloc(), &reader_profile(), PROBLEMS)
+    check(&rt, rt.alloc(), &Subject::Mps, PROBLEMS)
 }
 
 #[test]
 fn integer_columns(rt: HostRuntime) -> Result<(), Fail> {
-    check_table(&rt, rt.alloc(), &reader_profile(), INTEGERS)
+    check(&rt, rt.alloc(), &Subject::Mps, INTEGERS)
 }
 
-// A comment holds any bytes, and no other line does.
 #[test]
-fn bytes_that_are_no_text(rt: HostRuntime) {
-    let Err(ReadError::Fault(fault)) = read_mps(rt.alloc(), b"* \xff\nROWS\n N \xff\n") else {
-        panic!(rt; "a fault");
-    };
-    assert_eq!(rt; fault.line, 3);
-    assert!(rt; fault.kind == FaultKind::BadLine);
+fn bytes_that_are_no_text(rt: HostRuntime) -> Result<(), Fail> {
+    check(&rt, rt.alloc(), &Subject::MpsBytes, NO_TEXT)
 }
 
-// A byte order mark is no blank, so it begins a header.
 #[test]
-fn byte_order_mark(rt: HostRuntime) {
-    let Err(ReadError::Fault(fault)) = read_mps(rt.alloc(), b"\xef\xbb\xbfROWS\n") else {
-        panic!(rt; "a fault");
-    };
-    assert_eq!(rt; fault.line, 1);
-    assert!(rt; fault.kind == FaultKind::BadSection);
+fn byte_order_mark(rt: HostRuntime) -> Result<(), Fail> {
+    check(&rt, rt.alloc(), &Subject::MpsBytes, MARK)
 }

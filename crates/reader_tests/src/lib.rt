@@ -12,3 +12,5 @@ mod fault_text;
 mod free_mps;
 #[cfg(test)]
 mod points;
+#[cfg(test)]
+mod rows;
