@@ -5,8 +5,6 @@
 #[cfg(test)]
 mod certificates;
 #[cfg(test)]
-mod command_words;
-#[cfg(test)]
 mod cplex_lp;
 #[cfg(test)]
 mod faults;

@@ -1,5 +1,4 @@
 // The tables, row by row. One loop goes over all of them, so that a test is one call, which is proved ten times as fast as a loop.
-use crate::command_words::settings_of_row;
 use crate::faults::failing_call;
 use crate::runs::{answer_of_row, round_trip_of_row};
 use crate::tables::failing_call_of_tables;
@@ -18,7 +17,6 @@ pub(crate) enum Subject {
     FailingCalls,
     FailingCallsOfTables,
     RoundTrips,
-    Settings,
     WrittenFiles,
 }
 
@@ -38,7 +36,6 @@ fn found<T: Threads + Sync>(
         Subject::FailingCalls => failing_call(rt, alloc, row),
         Subject::FailingCallsOfTables => failing_call_of_tables(rt, alloc, row),
         Subject::RoundTrips => round_trip_of_row(rt, alloc, row),
-        Subject::Settings => settings_of_row(alloc, row),
         Subject::WrittenFiles => written_of_row(rt, alloc, row),
     }
 }

@@ -1,5 +1,4 @@
 // Words, and the settings that they ask for.
-use crate::rows::{Subject, check, split};
 use command_line::{DataFiles, Language, Settings, Task, WordsFault, read_words};
 use instance::{Direction, Name};
 use std::alloc::{AllocError, Global};
@@ -151,26 +150,36 @@ usage <- --math|f|-y|y|--display|y
 usage <- --math|f|-Y|y
 ";
 
-pub(crate) fn settings_of_row(alloc: Global, row: &str) -> Result<String, AllocError> {
-    let (_, words) = split(row);
-    let words = words_of(alloc, words)?;
-    found_of(alloc, &words)
+// What stands in front of an arrow, and behind it.
+fn split(row: &str) -> (&str, &str) {
+    row.split_once(" <- ").unwrap_or((row, ""))
+}
+
+// What is found is what stands in front of the arrow.
+fn check(rt: &impl Abort, alloc: Global, table: &str) -> Result<(), Fail> {
+    for row in table.lines() {
+        let (want, words) = split(row);
+        let found = found_of(alloc, words)?;
+        assert_eq!(rt; found.as_str(), want, "at {row}");
+    }
+    Ok(())
 }
 
 #[test]
 fn commands_are_read(rt: HostRuntime) -> Result<(), Fail> {
-    check(&rt, rt.alloc(), &Subject::Settings, COMMANDS)
+    check(&rt, rt.alloc(), COMMANDS)
 }
 
 #[test]
 fn other_words_are_no_command(rt: HostRuntime) -> Result<(), Fail> {
     assert!(rt; read_words(rt.alloc(), &[]).err() == Some(WordsFault::Usage));
-    check(&rt, rt.alloc(), &Subject::Settings, NO_COMMANDS)
+    check(&rt, rt.alloc(), NO_COMMANDS)
 }
 
 // What words ask for, in the tables' words.
-fn found_of(alloc: Global, words: &[String]) -> Result<String, AllocError> {
-    match read_words(alloc, words) {
+fn found_of(alloc: Global, words: &str) -> Result<String, AllocError> {
+    let words = words_of(alloc, words)?;
+    match read_words(alloc, &words) {
         Ok(settings) => shown(alloc, &settings),
         Err(WordsFault::Usage) => "usage".to_string(alloc),
         Err(WordsFault::NoMemory) => Err(AllocError),
