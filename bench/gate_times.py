@@ -5,8 +5,8 @@ usage: bench/gate_times.py [WORDS OF rt ci ..]       as: bench/gate_times.py --a
 
 It looks at the processes of the prover twice a second, and prints the minutes of processor time that each had used when
 it was last seen, in a table in markdown; and how long the run took. A process that forked others counts for itself, as
-they do. A proof of the crate as it stands from which its edits begin counts with them, since only edits want it. Without
---anew what earlier runs proved is not done again.
+they do. A proof of the crate as it stands from which its edits begin counts with them, since only edits want it. Under a kit
+that keeps proofs, what earlier runs proved is not done again without --anew; under another `rt ci` takes no words.
 """
 import collections
 import os

@@ -17,7 +17,7 @@ use sqlite_items::Items;
 // ---- the heads of a `for`
 
 #[tactic(auto, unfolding(crate::specs::Actions::one_head))]
-fn one_head(reader: Reader, tokens: &mut Cursor<'_, '_>) -> Result<Indexing, ParseError>
+fn one_head(reader: Reader, tokens: &mut Cursor<'_>) -> Result<Indexing, ParseError>
     ensures { Reads (spec.one_head reader.depth tokens.old) result tokens.new }
 {
     let domain = reader.indexing_expression(tokens)?;
@@ -36,7 +36,7 @@ fn is_for(beginning: Beginning) -> bool
 
 fn more_heads(
     reader: Reader,
-    tokens: &mut Cursor<'_, '_>,
+    tokens: &mut Cursor<'_>,
     most: usize,
     mut found: Items<Indexing>,
 ) -> Result<Items<Indexing>, ParseError>
@@ -53,7 +53,7 @@ fn more_heads(
 }
 
 #[tactic(auto, unfolding(crate::specs::Actions::heads))]
-fn heads(reader: Reader, tokens: &mut Cursor<'_, '_>) -> Result<Items<Indexing>, ParseError>
+fn heads(reader: Reader, tokens: &mut Cursor<'_>) -> Result<Items<Indexing>, ParseError>
     ensures { Reads (spec.heads reader.depth tokens.old) result tokens.new }
 {
     let first = list_of_one(reader.alloc, one_head(reader, tokens)?)?;
@@ -79,7 +79,7 @@ fn into_block(reader: Reader) -> Result<Reader, ParseError>
 }
 
 #[tactic(auto, unfolding(crate::specs::Actions::written_table))]
-fn written_table(reader: Reader, tokens: &mut Cursor<'_, '_>) -> Result<Action, ParseError>
+fn written_table(reader: Reader, tokens: &mut Cursor<'_>) -> Result<Action, ParseError>
     ensures { Reads (spec.written_table reader.depth tokens.old) result tokens.new }
 {
     let name = titled_name(reader.alloc, tokens)?;
@@ -89,7 +89,7 @@ fn written_table(reader: Reader, tokens: &mut Cursor<'_, '_>) -> Result<Action, 
 // An inner statement that is no `for`.
 fn simple(
     reader: Reader,
-    tokens: &mut Cursor<'_, '_>,
+    tokens: &mut Cursor<'_>,
     beginning: Beginning,
 ) -> Result<Action, ParseError>
     ensures { Reads (spec.simple_by reader.depth (spec.block reader.depth) beginning tokens.old) result tokens.new }
@@ -118,7 +118,7 @@ fn simple(
 /// A statement that a `for` may hold.
 #[cycle(actions)]
 #[tactic(auto, unfolding(crate::specs::Actions::action_with))]
-pub fn action(reader: Reader, tokens: &mut Cursor<'_, '_>) -> Result<Action, ParseError>
+pub fn action(reader: Reader, tokens: &mut Cursor<'_>) -> Result<Action, ParseError>
     ensures { Reads (spec.action reader.depth tokens.old) result tokens.new }
 {
     let beginning = begins_with(tokens.peek(), tokens.spelling());
@@ -133,7 +133,7 @@ pub fn action(reader: Reader, tokens: &mut Cursor<'_, '_>) -> Result<Action, Par
 
 #[cycle(actions)]
 #[tactic(auto, unfolding(crate::specs::Actions::looped))]
-fn looped(reader: Reader, tokens: &mut Cursor<'_, '_>) -> Result<Action, ParseError>
+fn looped(reader: Reader, tokens: &mut Cursor<'_>) -> Result<Action, ParseError>
     ensures { Reads (spec.looped reader.depth (spec.block reader.depth) tokens.old) result tokens.new }
 {
     let heads = heads(reader, tokens)?;
@@ -143,7 +143,7 @@ fn looped(reader: Reader, tokens: &mut Cursor<'_, '_>) -> Result<Action, ParseEr
 
 #[cycle(actions)]
 #[tactic(auto, unfolding(crate::specs::Actions::body, crate::specs::Actions::simple))]
-fn body(reader: Reader, tokens: &mut Cursor<'_, '_>) -> Result<Items<Action>, ParseError>
+fn body(reader: Reader, tokens: &mut Cursor<'_>) -> Result<Items<Action>, ParseError>
     ensures { Reads (spec.body reader.depth (spec.block reader.depth) tokens.old) result tokens.new }
 {
     if tokens.eat(TokenKind::OpenBrace) {
@@ -157,7 +157,7 @@ fn body(reader: Reader, tokens: &mut Cursor<'_, '_>) -> Result<Items<Action>, Pa
 
 #[cycle(actions)]
 #[tactic(auto, unfolding(crate::specs::Actions::block_in))]
-fn block(reader: Reader, tokens: &mut Cursor<'_, '_>) -> Result<Items<Action>, ParseError>
+fn block(reader: Reader, tokens: &mut Cursor<'_>) -> Result<Items<Action>, ParseError>
     ensures { Reads (spec.block reader.depth tokens.old) result tokens.new }
 {
     let inside = into_block(reader)?;
@@ -167,7 +167,7 @@ fn block(reader: Reader, tokens: &mut Cursor<'_, '_>) -> Result<Items<Action>, P
 }
 
 #[cycle(actions)]
-fn actions(reader: Reader, tokens: &mut Cursor<'_, '_>) -> Result<Items<Action>, ParseError>
+fn actions(reader: Reader, tokens: &mut Cursor<'_>) -> Result<Items<Action>, ParseError>
     ensures { Reads (spec.actions (spec.action reader.depth) tokens.old) result tokens.new }
 {
     let mut found = Items::new(reader.alloc);

@@ -12,10 +12,7 @@ use gmpl_words::is_domain;
 use sqlite_items::Items;
 
 #[tactic(auto, unfolding(crate::specs::Simple::governing_domain))]
-fn governing_domain(
-    reader: Reader,
-    tokens: &mut Cursor<'_, '_>,
-) -> Result<Option<Indexing>, ParseError>
+fn governing_domain(reader: Reader, tokens: &mut Cursor<'_>) -> Result<Option<Indexing>, ParseError>
     ensures { Reads (spec.governing_domain reader.depth tokens.old) result tokens.new }
 {
     if tokens.sees(TokenKind::OpenBrace) && is_domain(tokens.rest()) {
@@ -27,7 +24,7 @@ fn governing_domain(
 
 // A domain and a colon, each of which may be wanting.
 #[tactic(auto, unfolding(crate::specs::Simple::governed))]
-fn governed(reader: Reader, tokens: &mut Cursor<'_, '_>) -> Result<Option<Indexing>, ParseError>
+fn governed(reader: Reader, tokens: &mut Cursor<'_>) -> Result<Option<Indexing>, ParseError>
     ensures { Reads (spec.governed reader.depth tokens.old) result tokens.new }
 {
     let domain = governing_domain(reader, tokens)?;
@@ -37,7 +34,7 @@ fn governed(reader: Reader, tokens: &mut Cursor<'_, '_>) -> Result<Option<Indexi
 
 fn more_listed(
     reader: Reader,
-    tokens: &mut Cursor<'_, '_>,
+    tokens: &mut Cursor<'_>,
     mut found: Items<Expr>,
 ) -> Result<Items<Expr>, ParseError>
     ensures { Reads (further (expression reader.depth) found tokens.old) result tokens.new }
@@ -52,7 +49,7 @@ fn more_listed(
 }
 
 #[tactic(auto, unfolding(crate::specs::Simple::listed))]
-fn listed(reader: Reader, tokens: &mut Cursor<'_, '_>) -> Result<Items<Expr>, ParseError>
+fn listed(reader: Reader, tokens: &mut Cursor<'_>) -> Result<Items<Expr>, ParseError>
     ensures { Reads (spec.listed reader.depth tokens.old) result tokens.new }
 {
     let first = list_of_one(reader.alloc, reader.expression(tokens)?)?;
@@ -61,7 +58,7 @@ fn listed(reader: Reader, tokens: &mut Cursor<'_, '_>) -> Result<Items<Expr>, Pa
 
 /// What must hold.
 #[tactic(auto, unfolding(crate::specs::Simple::check))]
-pub(crate) fn check(reader: Reader, tokens: &mut Cursor<'_, '_>) -> Result<Action, ParseError>
+pub(crate) fn check(reader: Reader, tokens: &mut Cursor<'_>) -> Result<Action, ParseError>
     ensures { Reads (spec.check reader.depth tokens.old) result tokens.new }
 {
     let domain = governed(reader, tokens)?;
@@ -72,7 +69,7 @@ pub(crate) fn check(reader: Reader, tokens: &mut Cursor<'_, '_>) -> Result<Actio
 
 /// What is shown.
 #[tactic(auto, unfolding(crate::specs::Simple::display))]
-pub(crate) fn display(reader: Reader, tokens: &mut Cursor<'_, '_>) -> Result<Action, ParseError>
+pub(crate) fn display(reader: Reader, tokens: &mut Cursor<'_>) -> Result<Action, ParseError>
     ensures { Reads (spec.display reader.depth tokens.old) result tokens.new }
 {
     let domain = governed(reader, tokens)?;
@@ -83,7 +80,7 @@ pub(crate) fn display(reader: Reader, tokens: &mut Cursor<'_, '_>) -> Result<Act
 
 // The file behind `>` or `>>`.
 #[tactic(auto, unfolding(crate::specs::Simple::printed_file))]
-fn printed_file(reader: Reader, tokens: &mut Cursor<'_, '_>) -> Result<Option<Expr>, ParseError>
+fn printed_file(reader: Reader, tokens: &mut Cursor<'_>) -> Result<Option<Expr>, ParseError>
     ensures { Reads (spec.printed_file reader.depth tokens.old) result tokens.new }
 {
     if !tokens.eat(TokenKind::Above) {
@@ -95,7 +92,7 @@ fn printed_file(reader: Reader, tokens: &mut Cursor<'_, '_>) -> Result<Option<Ex
 
 /// What is printed.
 #[tactic(auto, unfolding(crate::specs::Simple::printf))]
-pub(crate) fn printf(reader: Reader, tokens: &mut Cursor<'_, '_>) -> Result<Action, ParseError>
+pub(crate) fn printf(reader: Reader, tokens: &mut Cursor<'_>) -> Result<Action, ParseError>
     ensures { Reads (spec.printf reader.depth tokens.old) result tokens.new }
 {
     let domain = governed(reader, tokens)?;

@@ -12,7 +12,7 @@ use gmpl_words::{AttributeWord, Declared, attribute_word, fits, note};
 use sqlite_items::Items;
 
 #[tactic(auto, unfolding(crate::specs::Attributes::literal))]
-fn literal(tokens: &mut Cursor<'_, '_>) -> Result<Frac, ParseError>
+fn literal(tokens: &mut Cursor<'_>) -> Result<Frac, ParseError>
     ensures { Reads (spec.literal tokens.old) result tokens.new }
 {
     match tokens.peek() {
@@ -24,7 +24,7 @@ fn literal(tokens: &mut Cursor<'_, '_>) -> Result<Frac, ParseError>
 // What stands behind an attribute's word.
 fn attribute_value(
     reader: Reader,
-    tokens: &mut Cursor<'_, '_>,
+    tokens: &mut Cursor<'_>,
     word: AttributeWord,
 ) -> Result<Attribute, ParseError>
     ensures { Reads (spec.attribute_value reader.depth word tokens.old) result tokens.new }
@@ -45,7 +45,7 @@ fn attribute_value(
 #[tactic(auto, unfolding(crate::specs::Attributes::attribute))]
 fn attribute(
     reader: Reader,
-    tokens: &mut Cursor<'_, '_>,
+    tokens: &mut Cursor<'_>,
     word: AttributeWord,
 ) -> Result<Attribute, ParseError>
     ensures { Reads (spec.attribute reader.depth word tokens.old) result tokens.new }
@@ -57,7 +57,7 @@ fn attribute(
 /// Attributes that stand together, each behind a comma or none.
 pub(crate) fn attributes(
     reader: Reader,
-    tokens: &mut Cursor<'_, '_>,
+    tokens: &mut Cursor<'_>,
     declared: Declared,
 ) -> Result<Items<Attribute>, ParseError>
     ensures { Reads (spec.attributes reader.depth declared tokens.old) result tokens.new }

@@ -15,7 +15,7 @@ use gmpl_words::{Declared, bound_relation, may_follow};
 #[tactic(auto, unfolding(crate::specs::Declarations::declaration))]
 pub fn declaration(
     reader: Reader,
-    tokens: &mut Cursor<'_, '_>,
+    tokens: &mut Cursor<'_>,
     declared: Declared,
 ) -> Result<Declaration, ParseError>
     ensures { Reads (spec.declaration reader.depth declared tokens.old) result tokens.new }
@@ -27,7 +27,7 @@ pub fn declaration(
 }
 
 #[tactic(auto, unfolding(crate::specs::Declarations::first_relation))]
-fn first_relation(tokens: &mut Cursor<'_, '_>) -> Result<Relation, ParseError>
+fn first_relation(tokens: &mut Cursor<'_>) -> Result<Relation, ParseError>
     ensures { Reads (spec.first_relation tokens.old) result tokens.new }
 {
     match bound_relation(tokens.peek()) {
@@ -41,11 +41,7 @@ fn first_relation(tokens: &mut Cursor<'_, '_>) -> Result<Relation, ParseError>
 
 // The second relation with its side.
 #[tactic(auto, unfolding(crate::specs::Declarations::last_side))]
-fn last_side(
-    reader: Reader,
-    tokens: &mut Cursor<'_, '_>,
-    first: Relation,
-) -> Result<Expr, ParseError>
+fn last_side(reader: Reader, tokens: &mut Cursor<'_>, first: Relation) -> Result<Expr, ParseError>
     ensures { Reads (spec.last_side reader.depth first tokens.old) result tokens.new }
 {
     tokens.eat(TokenKind::Comma);
@@ -59,7 +55,7 @@ fn last_side(
 #[tactic(auto, unfolding(crate::specs::Declarations::optional_last_side))]
 fn optional_last_side(
     reader: Reader,
-    tokens: &mut Cursor<'_, '_>,
+    tokens: &mut Cursor<'_>,
     first: Relation,
 ) -> Result<Option<Expr>, ParseError>
     ensures { Reads (spec.optional_last_side reader.depth first tokens.old) result tokens.new }
@@ -73,7 +69,7 @@ fn optional_last_side(
 
 // The sides of a constraint with this head.
 #[tactic(auto, unfolding(crate::specs::Declarations::sides))]
-fn sides(reader: Reader, tokens: &mut Cursor<'_, '_>, head: Head) -> Result<Constraint, ParseError>
+fn sides(reader: Reader, tokens: &mut Cursor<'_>, head: Head) -> Result<Constraint, ParseError>
     ensures { Reads (spec.sides reader.depth head tokens.old) result tokens.new }
 {
     let left = reader.expression(tokens)?;
@@ -92,7 +88,7 @@ fn sides(reader: Reader, tokens: &mut Cursor<'_, '_>, head: Head) -> Result<Cons
 
 /// A constraint.
 #[tactic(auto, unfolding(crate::specs::Declarations::constraint))]
-pub fn constraint(reader: Reader, tokens: &mut Cursor<'_, '_>) -> Result<Constraint, ParseError>
+pub fn constraint(reader: Reader, tokens: &mut Cursor<'_>) -> Result<Constraint, ParseError>
     ensures { Reads (spec.constraint reader.depth tokens.old) result tokens.new }
 {
     let head = head(reader, tokens)?;
@@ -106,7 +102,7 @@ pub fn constraint(reader: Reader, tokens: &mut Cursor<'_, '_>) -> Result<Constra
 #[tactic(auto, unfolding(crate::specs::Declarations::objective))]
 pub fn objective(
     reader: Reader,
-    tokens: &mut Cursor<'_, '_>,
+    tokens: &mut Cursor<'_>,
     direction: Direction,
 ) -> Result<Objective, ParseError>
     ensures { Reads (spec.objective reader.depth direction tokens.old) result tokens.new }

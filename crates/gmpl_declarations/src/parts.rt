@@ -12,7 +12,7 @@ use std::alloc::Global;
 
 /// N: a name that isn't reserved.
 #[tactic(auto, unfolding(crate::specs::Parts::name))]
-pub fn name(alloc: Global, tokens: &mut Cursor<'_, '_>) -> Result<Text, ParseError>
+pub fn name(alloc: Global, tokens: &mut Cursor<'_>) -> Result<Text, ParseError>
     ensures { Reads (spec.name tokens.old) result tokens.new }
 {
     match tokens.peek() {
@@ -23,7 +23,7 @@ pub fn name(alloc: Global, tokens: &mut Cursor<'_, '_>) -> Result<Text, ParseErr
 
 /// N and a string or none, which is dropped.
 #[tactic(auto, unfolding(crate::specs::Parts::titled_name))]
-pub fn titled_name(alloc: Global, tokens: &mut Cursor<'_, '_>) -> Result<Text, ParseError>
+pub fn titled_name(alloc: Global, tokens: &mut Cursor<'_>) -> Result<Text, ParseError>
     ensures { Reads (spec.titled_name tokens.old) result tokens.new }
 {
     let name = name(alloc, tokens)?;
@@ -32,10 +32,7 @@ pub fn titled_name(alloc: Global, tokens: &mut Cursor<'_, '_>) -> Result<Text, P
 }
 
 #[tactic(auto, unfolding(crate::specs::Parts::optional_domain))]
-fn optional_domain(
-    reader: Reader,
-    tokens: &mut Cursor<'_, '_>,
-) -> Result<Option<Indexing>, ParseError>
+fn optional_domain(reader: Reader, tokens: &mut Cursor<'_>) -> Result<Option<Indexing>, ParseError>
     ensures { Reads (spec.optional_domain reader.depth tokens.old) result tokens.new }
 {
     if tokens.sees(TokenKind::OpenBrace) {
@@ -47,7 +44,7 @@ fn optional_domain(
 
 /// A name with its domain.
 #[tactic(auto, unfolding(crate::specs::Parts::head))]
-pub(crate) fn head(reader: Reader, tokens: &mut Cursor<'_, '_>) -> Result<Head, ParseError>
+pub(crate) fn head(reader: Reader, tokens: &mut Cursor<'_>) -> Result<Head, ParseError>
     ensures { Reads (spec.head reader.depth tokens.old) result tokens.new }
 {
     let name = titled_name(reader.alloc, tokens)?;

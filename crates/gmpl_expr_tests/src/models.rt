@@ -57,7 +57,7 @@ pub(crate) fn asked(statements: &[Numbered]) -> Option<&Expr> {
     match &last.statement {
         Statement::Set(set) => assigned(set.attributes.as_slice()),
         Statement::Param(param) => assigned(param.attributes.as_slice()),
-        Statement::Objective(objective) => Some(&objective.form),
+        Statement::Objective(objective) => Some(&objective.get().form),
         _ => None,
     }
 }
@@ -428,8 +428,8 @@ fn domain(statement: &Statement) -> &Option<Indexing> {
     match statement {
         Statement::Set(declaration) | Statement::Param(declaration) | Statement::Var(declaration) =>
             { &declaration.head.domain }
-        Statement::Constraint(constraint) => &constraint.head.domain,
-        Statement::Objective(objective) => &objective.head.domain,
+        Statement::Constraint(constraint) => &constraint.get().head.domain,
+        Statement::Objective(objective) => &objective.get().head.domain,
     }
 }
 

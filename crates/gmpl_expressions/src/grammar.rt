@@ -33,7 +33,7 @@ fn chained(alloc: Global, first: Expr, links: Items<Link>) -> Result<Expr, Alloc
 }
 
 #[tactic(auto, unfolding(crate::specs::Grammar::suffix))]
-fn suffix(tokens: &mut Cursor<'_, '_>) -> Result<Suffix, ParseError>
+fn suffix(tokens: &mut Cursor<'_>) -> Result<Suffix, ParseError>
     ensures { Reads (spec.suffix tokens.old) result tokens.new }
 {
     match tokens.peek() {
@@ -53,7 +53,7 @@ fn suffix(tokens: &mut Cursor<'_, '_>) -> Result<Suffix, ParseError>
 impl Reader {
     #[cycle(grammar)]
     #[tactic(auto, unfolding(crate::specs::Grammar::reference))]
-    fn reference(self, tokens: &mut Cursor<'_, '_>, name: Text) -> Result<Expr, ParseError>
+    fn reference(self, tokens: &mut Cursor<'_>, name: Text) -> Result<Expr, ParseError>
         ensures { Reads (spec.reference (spec.inside self.depth) name tokens.old) result tokens.new }
     {
         let subscripts = if tokens.eat(TokenKind::OpenBracket) {
@@ -70,7 +70,7 @@ impl Reader {
 
     #[cycle(grammar)]
     #[tactic(auto, unfolding(crate::specs::Grammar::named))]
-    fn named(self, tokens: &mut Cursor<'_, '_>) -> Result<Expr, ParseError>
+    fn named(self, tokens: &mut Cursor<'_>) -> Result<Expr, ParseError>
         ensures { Reads (spec.named (spec.inside self.depth) tokens.old) result tokens.new }
     {
         let word = tokens.take();
@@ -93,7 +93,7 @@ impl Reader {
 
     #[cycle(grammar)]
     #[tactic(auto, unfolding(crate::specs::Grammar::primary))]
-    fn primary(self, tokens: &mut Cursor<'_, '_>) -> Result<Expr, ParseError>
+    fn primary(self, tokens: &mut Cursor<'_>) -> Result<Expr, ParseError>
         ensures { Reads (spec.primary (spec.inside self.depth) tokens.old) result tokens.new }
     {
         match tokens.peek() {
@@ -118,7 +118,7 @@ impl Reader {
 
     #[cycle(grammar)]
     #[tactic(auto, unfolding(crate::specs::Grammar::power))]
-    fn power(self, tokens: &mut Cursor<'_, '_>) -> Result<Expr, ParseError>
+    fn power(self, tokens: &mut Cursor<'_>) -> Result<Expr, ParseError>
         ensures { Reads (spec.power (spec.inside self.depth) tokens.old) result tokens.new }
     {
         let base = self.primary(tokens)?;
@@ -135,7 +135,7 @@ impl Reader {
 
     #[cycle(grammar)]
     #[tactic(auto, unfolding(crate::specs::Grammar::signed))]
-    fn signed(self, tokens: &mut Cursor<'_, '_>) -> Result<Expr, ParseError>
+    fn signed(self, tokens: &mut Cursor<'_>) -> Result<Expr, ParseError>
         ensures { Reads (spec.signed (spec.inside self.depth) tokens.old) result tokens.new }
     {
         match tokens.peek() {
@@ -153,7 +153,7 @@ impl Reader {
 
     #[cycle(grammar)]
     #[tactic(auto, unfolding(crate::specs::Grammar::part))]
-    fn part(self, tokens: &mut Cursor<'_, '_>, level: Level) -> Result<Expr, ParseError>
+    fn part(self, tokens: &mut Cursor<'_>, level: Level) -> Result<Expr, ParseError>
         ensures { Reads (spec.part (spec.inside self.depth) level tokens.old) result tokens.new }
     {
         match level {
@@ -169,7 +169,7 @@ impl Reader {
     }
 
     #[cycle(grammar)]
-    fn links(self, tokens: &mut Cursor<'_, '_>, level: Level) -> Result<Items<Link>, ParseError>
+    fn links(self, tokens: &mut Cursor<'_>, level: Level) -> Result<Items<Link>, ParseError>
         ensures { Reads (spec.links (operators.operator level) (spec.part (spec.inside self.depth) level) tokens.old) result tokens.new }
     {
         let mut found = Items::new(self.alloc);
@@ -188,7 +188,7 @@ impl Reader {
 
     #[cycle(grammar)]
     #[tactic(auto, unfolding(crate::specs::Grammar::chain))]
-    fn chain(self, tokens: &mut Cursor<'_, '_>, level: Level) -> Result<Expr, ParseError>
+    fn chain(self, tokens: &mut Cursor<'_>, level: Level) -> Result<Expr, ParseError>
         ensures { Reads (spec.chain (operators.operator level) (spec.part (spec.inside self.depth) level) tokens.old) result tokens.new }
     {
         let first = self.part(tokens, level)?;
@@ -198,7 +198,7 @@ impl Reader {
 
     #[cycle(grammar)]
     #[tactic(auto, unfolding(crate::specs::Grammar::range, crate::specs::Grammar::part))]
-    fn range(self, tokens: &mut Cursor<'_, '_>) -> Result<Expr, ParseError>
+    fn range(self, tokens: &mut Cursor<'_>) -> Result<Expr, ParseError>
         ensures { Reads (spec.range (spec.inside self.depth) tokens.old) result tokens.new }
     {
         let first = self.chain(tokens, Level::Join)?;
@@ -219,11 +219,7 @@ impl Reader {
     }
 
     #[cycle(grammar)]
-    fn boxed_chain(
-        self,
-        tokens: &mut Cursor<'_, '_>,
-        level: Level,
-    ) -> Result<Boxed<Expr>, ParseError>
+    fn boxed_chain(self, tokens: &mut Cursor<'_>, level: Level) -> Result<Boxed<Expr>, ParseError>
         ensures { Reads (spec.chain (operators.operator level) (spec.part (spec.inside self.depth) level) tokens.old) result tokens.new }
     {
         Ok(Boxed::new(self.alloc, self.chain(tokens, level)?)?)
@@ -233,7 +229,7 @@ impl Reader {
     #[tactic(auto, unfolding(crate::specs::Grammar::part))]
     fn compared(
         self,
-        tokens: &mut Cursor<'_, '_>,
+        tokens: &mut Cursor<'_>,
         left: Expr,
         relation: Relation,
     ) -> Result<Expr, ParseError>
@@ -250,7 +246,7 @@ impl Reader {
 
     #[cycle(grammar)]
     #[tactic(auto, unfolding(crate::specs::Grammar::not_related, crate::specs::Grammar::part))]
-    fn not_related(self, tokens: &mut Cursor<'_, '_>, left: Expr) -> Result<Expr, ParseError>
+    fn not_related(self, tokens: &mut Cursor<'_>, left: Expr) -> Result<Expr, ParseError>
         ensures { Reads (spec.not_related (spec.inside self.depth) left tokens.old) result tokens.new }
     {
         tokens.take();
@@ -262,7 +258,7 @@ impl Reader {
 
     #[cycle(grammar)]
     #[tactic(auto, unfolding(crate::specs::Grammar::related, crate::specs::Grammar::part))]
-    fn related(self, tokens: &mut Cursor<'_, '_>) -> Result<Expr, ParseError>
+    fn related(self, tokens: &mut Cursor<'_>) -> Result<Expr, ParseError>
         ensures { Reads (spec.related (spec.inside self.depth) tokens.old) result tokens.new }
     {
         let left = self.chain(tokens, Level::Union)?;
@@ -277,7 +273,7 @@ impl Reader {
 
     #[cycle(grammar)]
     #[tactic(auto, unfolding(crate::specs::Grammar::negation))]
-    fn negation(self, tokens: &mut Cursor<'_, '_>) -> Result<Expr, ParseError>
+    fn negation(self, tokens: &mut Cursor<'_>) -> Result<Expr, ParseError>
         ensures { Reads (spec.negation (spec.inside self.depth) tokens.old) result tokens.new }
     {
         match tokens.peek() {
@@ -295,7 +291,7 @@ impl Reader {
     #[tactic(auto, unfolding(crate::specs::Grammar::part))]
     fn further(
         self,
-        tokens: &mut Cursor<'_, '_>,
+        tokens: &mut Cursor<'_>,
         most: usize,
         mut found: Items<Expr>,
     ) -> Result<Items<Expr>, ParseError>
@@ -312,7 +308,7 @@ impl Reader {
 
     #[cycle(grammar)]
     #[tactic(auto, unfolding(crate::specs::Grammar::group, crate::specs::Grammar::part))]
-    fn group(self, tokens: &mut Cursor<'_, '_>) -> Result<Items<Expr>, ParseError>
+    fn group(self, tokens: &mut Cursor<'_>) -> Result<Items<Expr>, ParseError>
         ensures { Reads ((spec.inside self.depth).group tokens.old) result tokens.new }
     {
         let inside = self.deeper()?;
@@ -324,7 +320,7 @@ impl Reader {
 
     #[cycle(grammar)]
     #[tactic(auto, unfolding(crate::specs::Grammar::subscripts, crate::specs::Grammar::part))]
-    fn subscripts(self, tokens: &mut Cursor<'_, '_>) -> Result<Items<Expr>, ParseError>
+    fn subscripts(self, tokens: &mut Cursor<'_>) -> Result<Items<Expr>, ParseError>
         ensures { Reads ((spec.inside self.depth).subscripts tokens.old) result tokens.new }
     {
         let inside = self.deeper()?;
@@ -338,7 +334,7 @@ impl Reader {
     #[tactic(auto, unfolding(crate::specs::Grammar::some_arguments, crate::specs::Grammar::part))]
     fn some_arguments(
         self,
-        tokens: &mut Cursor<'_, '_>,
+        tokens: &mut Cursor<'_>,
         function: Function,
     ) -> Result<Items<Expr>, ParseError>
         ensures { Reads (spec.some_arguments (spec.inside self.depth) function tokens.old) result tokens.new }
@@ -355,7 +351,7 @@ impl Reader {
     #[cycle(grammar)]
     fn arguments(
         self,
-        tokens: &mut Cursor<'_, '_>,
+        tokens: &mut Cursor<'_>,
         function: Function,
     ) -> Result<Items<Expr>, ParseError>
         ensures { Reads ((spec.inside self.depth).arguments function tokens.old) result tokens.new }
@@ -375,7 +371,7 @@ impl Reader {
 
     #[cycle(grammar)]
     #[tactic(auto, unfolding(crate::specs::Grammar::part))]
-    fn entry_over(self, tokens: &mut Cursor<'_, '_>, index: Expr) -> Result<Entry, ParseError>
+    fn entry_over(self, tokens: &mut Cursor<'_>, index: Expr) -> Result<Entry, ParseError>
         ensures { Reads (spec.entry_over (spec.inside self.depth) index tokens.old) result tokens.new }
     {
         tokens.take();
@@ -388,7 +384,7 @@ impl Reader {
 
     #[cycle(grammar)]
     #[tactic(auto, unfolding(crate::specs::Grammar::entry, crate::specs::Grammar::part))]
-    fn entry(self, tokens: &mut Cursor<'_, '_>) -> Result<Entry, ParseError>
+    fn entry(self, tokens: &mut Cursor<'_>) -> Result<Entry, ParseError>
         ensures { Reads (spec.entry (spec.inside self.depth) tokens.old) result tokens.new }
     {
         let first = self.chain(tokens, Level::Union)?;
@@ -410,7 +406,7 @@ impl Reader {
     #[cycle(grammar)]
     fn entries(
         self,
-        tokens: &mut Cursor<'_, '_>,
+        tokens: &mut Cursor<'_>,
         mut found: Items<Entry>,
     ) -> Result<Items<Entry>, ParseError>
         ensures { Reads (further (spec.entry (spec.inside self.depth)) found tokens.old) result tokens.new }
@@ -426,7 +422,7 @@ impl Reader {
 
     #[cycle(grammar)]
     #[tactic(auto, unfolding(crate::specs::Grammar::part))]
-    fn condition(self, tokens: &mut Cursor<'_, '_>) -> Result<Option<Boxed<Expr>>, ParseError>
+    fn condition(self, tokens: &mut Cursor<'_>) -> Result<Option<Boxed<Expr>>, ParseError>
         ensures { Reads (spec.condition (spec.inside self.depth) tokens.old) result tokens.new }
     {
         if tokens.eat(TokenKind::Colon) {
@@ -438,7 +434,7 @@ impl Reader {
 
     #[cycle(grammar)]
     #[tactic(auto, unfolding(crate::specs::Grammar::indexing))]
-    fn entries_and_condition(self, tokens: &mut Cursor<'_, '_>) -> Result<Indexing, ParseError>
+    fn entries_and_condition(self, tokens: &mut Cursor<'_>) -> Result<Indexing, ParseError>
         ensures { Reads (spec.indexing (spec.inside self.depth) tokens.old) result tokens.new }
     {
         let first = list_of_one(self.alloc, self.entry(tokens)?)?;
@@ -449,7 +445,7 @@ impl Reader {
     }
 
     #[cycle(grammar)]
-    fn indexing(self, tokens: &mut Cursor<'_, '_>) -> Result<Indexing, ParseError>
+    fn indexing(self, tokens: &mut Cursor<'_>) -> Result<Indexing, ParseError>
         ensures { Reads ((spec.inside self.depth).indexing tokens.old) result tokens.new }
     {
         self.deeper()?.entries_and_condition(tokens)
@@ -457,7 +453,7 @@ impl Reader {
 
     #[cycle(grammar)]
     #[tactic(auto, unfolding(crate::specs::Grammar::braces))]
-    fn braces(self, tokens: &mut Cursor<'_, '_>) -> Result<Indexing, ParseError>
+    fn braces(self, tokens: &mut Cursor<'_>) -> Result<Indexing, ParseError>
         ensures { Reads ((spec.inside self.depth).braces tokens.old) result tokens.new }
     {
         let inside = self.deeper()?;
@@ -473,11 +469,7 @@ impl Reader {
 
     #[cycle(grammar)]
     #[tactic(auto, unfolding(crate::specs::Grammar::part))]
-    fn integrand(
-        self,
-        tokens: &mut Cursor<'_, '_>,
-        iteration: Iteration,
-    ) -> Result<Expr, ParseError>
+    fn integrand(self, tokens: &mut Cursor<'_>, iteration: Iteration) -> Result<Expr, ParseError>
         ensures { Reads (spec.integrand (spec.inside self.depth) iteration tokens.old) result tokens.new }
     {
         match iteration {
@@ -490,7 +482,7 @@ impl Reader {
 
     #[cycle(grammar)]
     #[tactic(auto, unfolding(crate::specs::Grammar::iterated))]
-    fn iterated(self, tokens: &mut Cursor<'_, '_>, iteration: Iteration) -> Result<Expr, ParseError>
+    fn iterated(self, tokens: &mut Cursor<'_>, iteration: Iteration) -> Result<Expr, ParseError>
         ensures { Reads ((spec.inside self.depth).iterated iteration tokens.old) result tokens.new }
     {
         let inside = self.deeper()?;
@@ -502,7 +494,7 @@ impl Reader {
 
     #[cycle(grammar)]
     #[tactic(auto, unfolding(crate::specs::Grammar::conditional, crate::specs::Grammar::part))]
-    fn conditional(self, tokens: &mut Cursor<'_, '_>) -> Result<Expr, ParseError>
+    fn conditional(self, tokens: &mut Cursor<'_>) -> Result<Expr, ParseError>
         ensures { Reads ((spec.inside self.depth).conditional tokens.old) result tokens.new }
     {
         let inside = self.deeper()?;
@@ -519,7 +511,7 @@ impl Reader {
 
     #[cycle(grammar)]
     #[tactic(auto, unfolding(crate::specs::Grammar::with_sign))]
-    fn with_sign(self, tokens: &mut Cursor<'_, '_>, sign: Sign) -> Result<Expr, ParseError>
+    fn with_sign(self, tokens: &mut Cursor<'_>, sign: Sign) -> Result<Expr, ParseError>
         ensures { Reads ((spec.inside self.depth).with_sign sign tokens.old) result tokens.new }
     {
         let part = self.deeper()?.signed(tokens)?;
@@ -528,7 +520,7 @@ impl Reader {
 
     #[cycle(grammar)]
     #[tactic(auto, unfolding(crate::specs::Grammar::negated))]
-    fn negated(self, tokens: &mut Cursor<'_, '_>) -> Result<Expr, ParseError>
+    fn negated(self, tokens: &mut Cursor<'_>) -> Result<Expr, ParseError>
         ensures { Reads ((spec.inside self.depth).negated tokens.old) result tokens.new }
     {
         let part = self.deeper()?.negation(tokens)?;
@@ -536,7 +528,7 @@ impl Reader {
     }
 
     #[cycle(grammar)]
-    fn exponent(self, tokens: &mut Cursor<'_, '_>) -> Result<Expr, ParseError>
+    fn exponent(self, tokens: &mut Cursor<'_>) -> Result<Expr, ParseError>
         ensures { Reads ((spec.inside self.depth).exponent tokens.old) result tokens.new }
     {
         self.deeper()?.signed(tokens)
@@ -548,7 +540,7 @@ impl Reader {
 impl Reader {
     /// E: an expression of numbers, symbols or sets.
     #[tactic(auto, unfolding(crate::specs::Grammar::expression, crate::specs::Grammar::part))]
-    pub fn expression(self, tokens: &mut Cursor<'_, '_>) -> Result<Expr, ParseError>
+    pub fn expression(self, tokens: &mut Cursor<'_>) -> Result<Expr, ParseError>
         ensures { Reads (spec.expression self.depth tokens.old) result tokens.new }
     {
         self.chain(tokens, Level::Union)
@@ -556,7 +548,7 @@ impl Reader {
 
     /// L: an expression that may be logical.
     #[tactic(auto, unfolding(crate::specs::Grammar::logical_expression, crate::specs::Grammar::part))]
-    pub fn logical_expression(self, tokens: &mut Cursor<'_, '_>) -> Result<Expr, ParseError>
+    pub fn logical_expression(self, tokens: &mut Cursor<'_>) -> Result<Expr, ParseError>
         ensures { Reads (spec.logical_expression self.depth tokens.old) result tokens.new }
     {
         self.chain(tokens, Level::Or)
@@ -564,7 +556,7 @@ impl Reader {
 
     /// dom: an indexing expression in braces.
     #[tactic(auto, unfolding(crate::specs::Grammar::indexing_expression))]
-    pub fn indexing_expression(self, tokens: &mut Cursor<'_, '_>) -> Result<Indexing, ParseError>
+    pub fn indexing_expression(self, tokens: &mut Cursor<'_>) -> Result<Indexing, ParseError>
         ensures { Reads (spec.indexing_expression self.depth tokens.old) result tokens.new }
     {
         tokens.expect(TokenKind::OpenBrace)?;

@@ -10,7 +10,7 @@ use std::alloc::{AllocError, Global};
 
 /// A number.
 #[tactic(auto, unfolding(crate::specs::Literals::number))]
-pub fn number(tokens: &mut Cursor<'_, '_>) -> Result<Frac, ParseError>
+pub fn number(tokens: &mut Cursor<'_>) -> Result<Frac, ParseError>
     ensures { Reads (spec.number tokens.old) result tokens.new }
 {
     match Frac::read(tokens.spelling()) {
@@ -77,7 +77,7 @@ fn string_text(alloc: Global, text: &str) -> Result<Option<Text>, AllocError>
 
 /// A string.
 #[tactic(auto, unfolding(crate::specs::Literals::string))]
-pub fn string(alloc: Global, tokens: &mut Cursor<'_, '_>) -> Result<Text, ParseError>
+pub fn string(alloc: Global, tokens: &mut Cursor<'_>) -> Result<Text, ParseError>
     ensures { Reads (spec.string tokens.old) result tokens.new }
 {
     match string_text(alloc, tokens.spelling())? {

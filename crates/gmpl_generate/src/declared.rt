@@ -44,8 +44,8 @@ fn declared_by(alloc: Global, statement: &Statement) -> Result<Declared, AllocEr
         Statement::Set(set) => declared_as(alloc, &set.head, false),
         Statement::Param(param) => declared_as(alloc, &param.head, false),
         Statement::Var(var) => declared_as(alloc, &var.head, is_whole(var.attributes.as_slice())),
-        Statement::Constraint(constraint) => declared_as(alloc, &constraint.head, false),
-        Statement::Objective(objective) => declared_as(alloc, &objective.head, false),
+        Statement::Constraint(constraint) => declared_as(alloc, &constraint.get().head, false),
+        Statement::Objective(objective) => declared_as(alloc, &objective.get().head, false),
     }
 }
 

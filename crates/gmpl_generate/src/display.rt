@@ -108,8 +108,8 @@ fn head_of(statement: &Statement) -> &Head
         Statement::Set(declaration) => &declaration.head,
         Statement::Param(declaration) => &declaration.head,
         Statement::Var(declaration) => &declaration.head,
-        Statement::Constraint(constraint) => &constraint.head,
-        Statement::Objective(objective) => &objective.head,
+        Statement::Constraint(constraint) => &constraint.get().head,
+        Statement::Objective(objective) => &objective.get().head,
     }
 }
 

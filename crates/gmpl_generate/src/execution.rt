@@ -112,10 +112,10 @@ pub(crate) fn executed(
 {
     match statement {
         Statement::Constraint(constraint) => {
-            constraint_executed(alloc, model, context, place, constraint, draft)
+            constraint_executed(alloc, model, context, place, constraint.get(), draft)
         }
         Statement::Objective(objective) => {
-            objective_executed(alloc, model, context, place, objective, draft)
+            objective_executed(alloc, model, context, place, objective.get(), draft)
         }
         _ => Ok(draft),
     }

@@ -1,5 +1,5 @@
 // A place among the tokens.
-ghost use Rattle.std.specs.Prelude.{◌≡◌, length};
+ghost use Rattle.std.specs.Prelude.{◌≡◌, ◌+◌, ◌<◌, ◌^◌, drop, length};
 ghost use Rattle.gmpl_input.specs.Input as spec;
 ghost use Rattle.gmpl_input.specs.Rules as rules;
 ghost use Rattle.gmpl_input.specs.Rules.{Reads};
@@ -20,41 +20,71 @@ pub fn is_kind(wanted: TokenKind, found: Option<TokenKind>) -> bool
     }
 }
 
-/// The tokens that are left, and why there are no more behind them.
+// The tokens behind so many.
+fn behind<'s, 'a>(tokens: &'s [Token<'a>], count: usize) -> &'s [Token<'a>]
+    ensures { result.now ≡ drop count tokens.now }
+{
+    if count <= tokens.len() {
+        &tokens[count..]
+    } else {
+        &[]
+    }
+}
+
+/// The tokens that are left, and why there are no more behind them. It owns the tokens, so that the memory of those that it has gone
+/// behind can be given back.
 #[derive(Drop)]
-pub struct Cursor<'s, 'a> {
-    rest: &'s [Token<'a>],
+pub struct Cursor<'a> {
+    tokens: Vec<Token<'a>>,
+    // how many of them stand before the next
+    at: usize,
     end: SyntaxFaultKind,
 }
 
-impl<'s, 'a> Model for Cursor<'s, 'a> {
+impl<'a> Model for Cursor<'a> {
+    ghost use Rattle.std.specs.Prelude.{drop};
     ghost use Rattle.gmpl_input.specs.Input.{Input};
 
     ghost Value = { Input };
 
-    ghost view = { λ c. record { rest = c.rest.now; end = c.end } };
+    ghost view = { λ c. record { rest = drop c.at c.tokens.items; end = c.end } };
 }
 
-impl<'s, 'a> Cursor<'s, 'a> {
+impl<'a> Cursor<'a> {
     /// Before these tokens, behind which stands no other for the given cause.
-    pub fn new(rest: &'s [Token<'a>], end: SyntaxFaultKind) -> Self
-        ensures { result ≡ record { rest = rest.now; end = end } }
+    pub fn new(tokens: Vec<Token<'a>>, end: SyntaxFaultKind) -> Self
+        ensures { result ≡ record { rest = tokens.entry.items; end = end } }
     {
-        Cursor { rest, end }
+        Cursor { tokens, at: 0, end }
     }
 
     /// The tokens that are left.
-    pub fn rest(&self) -> &'s [Token<'a>]
+    pub fn rest(&self) -> &[Token<'a>]
         ensures { result.now ≡ self.now.rest }
     {
-        self.rest
+        behind(&self.tokens, self.at)
     }
 
-    /// How many tokens are left.
+    /// How many tokens are left: so many that one more can be counted.
     pub fn left(&self) -> usize
-        ensures { result ≡ length self.now.rest }
+        ensures count { result ≡ length self.now.rest }
+        ensures countable { result + 1 < 2 ^ 64 }
     {
-        self.rest.len()
+        self.rest().len()
+    }
+
+    /// Gives back the memory of the tokens that it has gone behind, where they are at least half of all.
+    pub fn give_back(&mut self)
+        ensures { self.new ≡ self.old }
+    {
+        let left = self.left();
+        if self.at < left || self.tokens.len() < self.at {
+            return;
+        }
+        self.tokens.rotate_left(self.at);
+        self.tokens.truncate(left);
+        self.tokens.shrink_to_fit();
+        self.at = 0;
     }
 
     /// The kind of the next token.
@@ -62,7 +92,7 @@ impl<'s, 'a> Cursor<'s, 'a> {
     pub fn peek(&self) -> Option<TokenKind>
         ensures { result ≡ spec.kind self.now }
     {
-        match self.rest {
+        match self.rest() {
             [] => None,
             [first, ..] => Some(first.kind()),
         }
@@ -73,7 +103,7 @@ impl<'s, 'a> Cursor<'s, 'a> {
     pub fn peek_second(&self) -> Option<TokenKind>
         ensures { result ≡ spec.kind (spec.next self.now) }
     {
-        match self.rest {
+        match self.rest() {
             [_, second, ..] => Some(second.kind()),
             _ => None,
         }
@@ -84,7 +114,7 @@ impl<'s, 'a> Cursor<'s, 'a> {
     pub fn spelling(&self) -> &'a str
         ensures { result.now ≡ spec.spelling self.now }
     {
-        match self.rest {
+        match self.rest() {
             [] => "",
             [first, ..] => first.text(),
         }
@@ -103,7 +133,7 @@ impl<'s, 'a> Cursor<'s, 'a> {
     pub fn refuse(&self) -> ParseError
         ensures { result ≡ ParseError.Fault (spec.refusal self.now) }
     {
-        match self.rest {
+        match self.rest() {
             [] => ParseError::Fault(self.end),
             [_, ..] => ParseError::Fault(SyntaxFaultKind::NotAStatement),
         }
@@ -115,13 +145,11 @@ impl<'s, 'a> Cursor<'s, 'a> {
         ensures text { result.now ≡ spec.spelling self.old }
         ensures next { self.new ≡ spec.next self.old }
     {
-        match self.rest {
-            [] => "",
-            [first, rest @ ..] => {
-                self.rest = rest;
-                first.text()
-            }
+        let text = self.spelling();
+        if self.at < self.tokens.len() {
+            self.at += 1;
         }
+        text
     }
 
     /// Goes behind the next token if it is of this kind, and tells whether it is.

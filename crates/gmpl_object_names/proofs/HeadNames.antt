@@ -1,5 +1,5 @@
 -- The names in the heads of statements are texts of name tokens.
-use Rattle.std.proofs.Common.{ℕ, zero, suc, ◌==◌, ◌||◌, Bool, true, false, if◌then◌else◌, List, [], ◌∷◌, ◌++◌, length, Option, Some, Ok, Err, IfOk}
+use Rattle.std.proofs.Common.{ℕ, zero, suc, ◌+◌, ◌==◌, ◌||◌, Bool, true, false, if◌then◌else◌, List, [], ◌∷◌, ◌++◌, length, Option, Some, Ok, Err, IfOk}
 use Rattle.gmpl_token.specs.declared.kind.TokenKind.{TokenKind}
 use Rattle.gmpl_token.specs.declared.kind.TokenKind.TheVariants as k
 use Rattle.gmpl_token.specs.declared.token.LexFault.{LexFault}
@@ -19,7 +19,6 @@ use Rattle.gmpl_syntax.specs.declared.statement.Action.{Action}
 use Rattle.gmpl_syntax.specs.declared.statement.Action.TheVariants as a
 use Rattle.gmpl_syntax.specs.declared.statement.Statement.{Statement}
 use Rattle.gmpl_syntax.specs.declared.statement.Statement.TheVariants as s
-use Rattle.gmpl_syntax.specs.declared.statement.Numbered.{Numbered}
 use Rattle.gmpl_syntax.specs.declared.statement.Statements.{Statements}
 use Rattle.gmpl_input.specs.Input.{Input, kind, spelling, next, sees}
 use Rattle.gmpl_input.specs.Rules.{Outcome, Rule, and_then, pure, after, expect}
@@ -39,14 +38,14 @@ use Rattle.gmpl_declarations.specs.Declarations.{declaration, first_relation, la
 use Rattle.gmpl_tables.specs.Tables.{input_word, table_input, table_output}
 use Rattle.gmpl_actions.specs.Actions.{action}
 use Rattle.gmpl_statements.specs.Statement.{subject_by, subject, read_table, table_by, table, solve, statement_by, statement}
-use Rattle.gmpl_statements.specs.Statements.{end_of, line_at, is_last, is_solve, with_data, with_statement, statements_from, statements_of}
+use Rattle.gmpl_statements.specs.Statements.{end_of, line_at, is_last, is_solve, with_statement, statements_from, statements_of}
 use Rattle.gmpl_rows.specs.Premises.{IsName}
 use Rattle.gmpl_object_names.proofs.NamedTokens.{HasText, AreNamed}
 use Rattle.gmpl_object_names.proofs.KeptTokens.{Kept, Left, Keeps, then_left, made_left, next_kept, after_kept, either_rule, either_left, given_left, expect_keeps, optional_keeps}
 use Rattle.gmpl_object_names.proofs.ExpressionTokens.{number_keeps, expression_keeps, indexing_expression_keeps}
 use Rattle.gmpl_object_names.proofs.TableTokens.{titled_name_keeps, table_input_keeps, input_word_keeps, table_output_keeps}
 use Rattle.gmpl_object_names.proofs.ActionTokens.{action_keeps}
-use Rattle.gmpl_object_names.proofs.Heads.{HeadThen, HeadsThen, heads_then, heads_more}
+use Rattle.gmpl_object_names.proofs.Heads.{HeadThen, HeadsThen, head_then}
 
 -- ---- a value of which something holds, with names behind it that are names
 
@@ -300,29 +299,20 @@ either_list : (b : Bool) (first second : Statements) → AreHeads first → AreH
 either_list true first second h g = h
 either_list false first second h g = g
 
--- what stands behind them is of no concern
-heads_alone : (found : List Numbered) (i : Input) → HeadsThen IsName found (Kept i) → HeadsThen IsName found (Unit {0})
-heads_alone found i h = heads_then IsName found (Kept i) (Unit {0}) (λ _. tt) h
+one_more : (number line : ℕ) (outcome : Outcome Statement) (go : Statement → Input → Statements) → IsRead outcome
+    → ((x : Statement) (j : Input) → Kept j → AreHeads (go x j)) → AreHeads (with_statement number line outcome go)
+one_more number line (Ok r) go read then_all = head_then IsName r.0 (Kept r.1) (AreHeads (go r.0 r.1)) (then_all r.0 r.1) read
+one_more number line (Err kind) go read then_all = tt
 
-data_is_read : (found : List Numbered) (i : Input) → HeadsThen IsName found (Kept i) → AreHeads (with_data found i.rest)
-data_is_read found i h = heads_more IsName found (record { line = line_at i.rest; statement = s.Data }) (Unit {0}) (heads_alone found i h)
-
-one_more : (found : List Numbered) (line : ℕ) (i : Input) (outcome : Outcome Statement) (go : Statement → List Numbered → Input → Statements) → (Kept i → IsRead outcome) → HeadsThen IsName found (Kept i)
-    → ((x : Statement) (more : List Numbered) (j : Input) → HeadsThen IsName more (Kept j) → AreHeads (go x more j)) → AreHeads (with_statement found line outcome go)
-one_more found line i (Ok r) go read h then_all =
-    let x : Numbered = record { line = line; statement = r.0 } in
-    then_all r.0 (found ++ x ∷ []) r.1 (heads_more IsName found x (Kept r.1) (heads_then IsName found (Kept i) (HeadThen IsName r.0 (Kept r.1)) read h))
-one_more found line i (Err kind) go read h then_all = heads_alone found i h
-
-heads_from : (fault : Option LexFault) (n : ℕ) (solved : Bool) (found : List Numbered) (i : Input) → HeadsThen IsName found (Kept i) → AreHeads (statements_from fault n solved found i)
+heads_from : (fault : Option LexFault) (n : ℕ) (solved : Bool) (number : ℕ) (i : Input) → Kept i → AreHeads (statements_from fault n solved number i)
 unfolding statements_from
-heads_from fault zero solved found i h = heads_alone found i h
-heads_from fault (suc n) solved found i h =
-    either_list (length i.rest == 0) _ _ (heads_alone found i h)
-    (either_list (is_last is_end i) _ _ (heads_alone found i h)
-    (either_list (is_last is_data i) _ _ (data_is_read found i h)
-    (one_more found (line_at i.rest) i (statement solved i) (λ x more j. statements_from fault n (solved || is_solve x) more j) (statement_is_read solved i) h (λ x more j read. heads_from fault n (solved || is_solve x) more j read))))
+heads_from fault zero solved number i h = tt
+heads_from fault (suc n) solved number i h =
+    either_list (length i.rest == 0) _ _ tt
+    (either_list (is_last is_end i) _ _ tt
+    (either_list (is_last is_data i) _ _ tt
+    (one_more number (line_at i.rest) (statement solved i) (λ x j. statements_from fault n (solved || is_solve x) (number + 1) j) (statement_is_read solved i h) (λ x j kept. heads_from fault n (solved || is_solve x) (number + 1) j kept))))
 
 pub statements_named : (tokens : Tokens) → AreNamed tokens.items → HeadsThen IsName (statements_of tokens).items (Unit {0})
 unfolding statements_of
-statements_named tokens h = heads_from tokens.fault (length tokens.items) false [] (record { rest = tokens.items; end = end_of tokens.fault }) h
+statements_named tokens h = heads_from tokens.fault (length tokens.items) false 1 (record { rest = tokens.items; end = end_of tokens.fault }) h

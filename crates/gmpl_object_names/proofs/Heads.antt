@@ -1,5 +1,5 @@
 -- What holds of the names in the heads of statements, as far as statements declare.
-use Rattle.std.proofs.Common.{ℕ, List, [], ◌∷◌, ◌++◌}
+use Rattle.std.proofs.Common.{ℕ, List, [], ◌∷◌}
 use Rattle.gmpl_syntax.specs.declared.statement.Statement.{Statement}
 use Rattle.gmpl_syntax.specs.declared.statement.Statement.TheVariants as s
 use Rattle.gmpl_syntax.specs.declared.statement.Numbered.{Numbered}
@@ -25,12 +25,3 @@ module _ (P : List ℕ → Type 0) where
   head_then (s.Constraint constraint) A B f h = (h.0, f h.1)
   head_then (s.Objective objective) A B f h = (h.0, f h.1)
   head_then _ A B f h = f h
-
-  pub heads_then : (xs : List Numbered) (A B : Type 0) → (A → B) → HeadsThen xs A → HeadsThen xs B
-  heads_then [] A B f h = f h
-  heads_then (x ∷ xs) A B f h = head_then x.statement (HeadsThen xs A) (HeadsThen xs B) (heads_then xs A B f) h
-
-  -- one more statement
-  pub heads_more : (xs : List Numbered) (x : Numbered) (behind : Type 0) → HeadsThen xs (HeadThen x.statement behind) → HeadsThen (xs ++ x ∷ []) behind
-  heads_more [] x behind h = h
-  heads_more (y ∷ ys) x behind h = head_then y.statement (HeadsThen ys (HeadThen x.statement behind)) (HeadsThen (ys ++ x ∷ []) behind) (heads_more ys x behind) h

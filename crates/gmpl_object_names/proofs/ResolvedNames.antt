@@ -185,13 +185,13 @@ module _ (P : List ℕ → Type 0) where
   one_more found objects number line rest (Ok r) go same named declares then_all = one_statement found objects number line rest r.0 r.1.0 r.1.1 go same named declares then_all
   one_more found objects number line rest (Err kind) go same named declares then_all = named
 
-  all_named : (found : ResolvedStatements) (count : ℕ) (objects tables : List Name) (xs : List Numbered) (fault : Option SyntaxFault) → names_of found.items ≡ objects → HaveNames P found.items → HeadsThen P xs (Unit {0})
-      → HaveNames P (statements_from found count objects tables xs fault).items
-  all_named found count objects tables [] fault same named heads = named
-  all_named found count objects tables (x ∷ xs) fault same named heads =
-      one_more found objects (count + 1) x.line (HeadsThen P xs (Unit {0})) (judged x.statement objects tables) (λ more os ts. statements_from more (count + 1) os ts xs fault) same named
+  all_named : (found : ResolvedStatements) (number : ℕ) (objects tables : List Name) (xs : List Numbered) (fault : Option SyntaxFault) → names_of found.items ≡ objects → HaveNames P found.items → HeadsThen P xs (Unit {0})
+      → HaveNames P (statements_from found number objects tables xs fault).items
+  all_named found number objects tables [] fault same named heads = named
+  all_named found number objects tables (x ∷ xs) fault same named heads =
+      one_more found objects number x.line (HeadsThen P xs (Unit {0})) (judged x.statement objects tables) (λ more os ts. statements_from more (number + 1) os ts xs fault) same named
       (judged_behind (Declares P (HeadsThen P xs (Unit {0})) objects) (statement x.statement objects) (tables_behind objects x.statement tables) (statement_declares P (HeadsThen P xs (Unit {0})) objects x.statement heads))
-      (λ more os ts same_names now left. all_named more (count + 1) os ts xs fault same_names now left)
+      (λ more os ts same_names now left. all_named more (number + 1) os ts xs fault same_names now left)
 
-  pub resolved_named : (xs : List Numbered) (fault : Option SyntaxFault) → HeadsThen P xs (Unit {0}) → HaveNames P (statements_from none 0 [] [] xs fault).items
-  resolved_named xs fault heads = all_named none 0 [] [] xs fault refl (record { names = tt; differ = tt }) heads
+  pub resolved_named : (xs : List Numbered) (fault : Option SyntaxFault) → HeadsThen P xs (Unit {0}) → HaveNames P (statements_from none 1 [] [] xs fault).items
+  resolved_named xs fault heads = all_named none 1 [] [] xs fault refl (record { names = tt; differ = tt }) heads

@@ -1,5 +1,6 @@
 -- A pass's own fault comes before that of the passes before it.
-use Rattle.std.proofs.Common.{◌≡◌, ◌∙◌, ℕ, ◌+◌, Bool, false, List, [], ◌∷◌, ◌++◌, Option, Some, None, Result, Ok, Err, refl, ap}
+use Rattle.std.proofs.Common.{◌≡◌, ◌∙◌, ℕ, ◌+◌, Bool, false, List, [], ◌∷◌, ◌++◌, Option, Some, None, Result, Ok, Err, refl, ap, sym}
+use Rattle.std.proofs.lemmas.Option.{none-some}
 use Rattle.gmpl_syntax.specs.declared.fault.SyntaxFault.{SyntaxFault}
 use Rattle.gmpl_syntax.specs.declared.statement.Numbered.{Numbered}
 use Rattle.gmpl_syntax.specs.declared.statement.Statements.{Statements}
@@ -29,11 +30,19 @@ names-step : (fault : Option SyntaxFault) (found : ResolvedStatements) (number l
 names-step fault found number line (Ok r) go alone h = h _ _ _
 names-step fault found number line (Err kind) go alone h = refl
 
-names-first : (fault : Option SyntaxFault) (found : ResolvedStatements) (count : ℕ) (objects tables : List Name) (xs : List Numbered) → (statements_from found count objects tables xs fault).fault ≡ or_else (statements_from found count objects tables xs None).fault fault
-names-first fault found count objects tables [] = refl
-names-first fault found count objects tables (x ∷ xs) =
-    names-step fault found (count + 1) x.line (judged x.statement objects tables) (λ more os ts. statements_from more (count + 1) os ts xs fault) (λ more os ts. statements_from more (count + 1) os ts xs None)
-    (λ more os ts. names-first fault more (count + 1) os ts xs)
+names-first : (fault : Option SyntaxFault) (found : ResolvedStatements) (number : ℕ) (objects tables : List Name) (xs : List Numbered) → (statements_from found number objects tables xs fault).fault ≡ or_else (statements_from found number objects tables xs None).fault fault
+names-first fault found number objects tables [] = refl
+names-first fault found number objects tables (x ∷ xs) =
+    names-step fault found number x.line (judged x.statement objects tables) (λ more os ts. statements_from more (number + 1) os ts xs fault) (λ more os ts. statements_from more (number + 1) os ts xs None)
+    (λ more os ts. names-first fault more (number + 1) os ts xs)
+
+-- where nothing is bad, the pass before found nothing
+none-first : (own fault : Option SyntaxFault) → or_else own fault ≡ None → fault ≡ None
+none-first None fault h = h
+none-first (Some x) fault h = absurd (none-some x (sym h))
+
+pub good_before : (whole : ResolvedStatements) → (judgement whole).fault ≡ None → whole.fault ≡ None
+good_before whole good = none-first (judged_from [] false whole.items whole.steps None).fault whole.fault (sym (kinds-first whole.fault [] false whole.items whole.steps) ∙ good)
 
 fault-of : (fault : Option SyntaxFault) (model : Model) → fault_of (unless_bad fault model) ≡ fault
 fault-of None model = refl
@@ -43,4 +52,4 @@ pub first_bad : (found : Statements) → fault_of (model_of found) ≡ or_else (
 first_bad found =
     fault-of (judgement (statements found)).fault (record { statements = (statements found).items; steps = (statements found).steps; objects = (judgement (statements found)).objects; data_at = found.data_at })
     ∙ kinds-first (statements found).fault [] false (statements found).items (statements found).steps
-    ∙ ap (or_else (own_of_kinds found)) (names-first found.fault none 0 [] [] found.items)
+    ∙ ap (or_else (own_of_kinds found)) (names-first found.fault none 1 [] [] found.items)

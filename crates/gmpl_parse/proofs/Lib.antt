@@ -1,1 +1,3 @@
 pub mod FirstFaults
+pub mod Judged
+pub mod OneByOne

@@ -1,9 +1,10 @@
 -- The model that statements make, or the first fault. Each pass goes over the statements before the first bad one of the pass
 -- before it, so the first bad statement is the third pass's where that has one, else the second's, else the first's.
-use Rattle.std.specs.Prelude.{◌≡◌, false, [], Option, Some, None, Result, Ok, Err}
+use Rattle.std.specs.Prelude.{◌≡◌, ℕ, false, [], Option, Some, None, Result, Ok, Err}
 use Rattle.gmpl_syntax.specs.declared.fault.SyntaxFault.{SyntaxFault}
 use Rattle.gmpl_token.specs.Token.{Tokens}
 use Rattle.gmpl_syntax.specs.declared.statement.Statements.{Statements}
+use Rattle.gmpl_resolved.specs.declared.statement.Statements.{Statements as ResolvedStatements}
 use Rattle.gmpl_statements.specs.Statements.{statements_of}
 use Rattle.gmpl_statement_names.specs.Statements.{none, statements, statements_from}
 use Rattle.gmpl_statement_kinds.specs.StatementKinds.{judgement, judged_from}
@@ -23,6 +24,11 @@ model_of found = unless_bad (judgement (statements found)).fault (record { state
 abbrev pub parsed : Tokens → Result Model SyntaxFault
 parsed tokens = model_of (statements_of tokens)
 
+-- what the first two passes make together, statement by statement; where a statement is bad, no data section is looked for
+pub record IsResolved (found : ResolvedStatements) (data_at : Option ℕ) (whole : Statements) : Type 0 where
+  pub resolved : found ≡ statements whole
+  pub data_at_is : found.fault ≡ None → data_at ≡ whole.data_at
+
 -- ---- the first fault, pass by pass
 
 abbrev pub or_else : Option SyntaxFault → Option SyntaxFault → Option SyntaxFault
@@ -35,7 +41,7 @@ fault_of (Err fault) = Some fault
 
 -- the fault that the second pass finds among the statements before the first bad one of the first pass
 abbrev pub own_of_names : Statements → Option SyntaxFault
-own_of_names found = (statements_from none 0 [] [] found.items None).fault
+own_of_names found = (statements_from none 1 [] [] found.items None).fault
 
 -- the fault that the third pass finds among the statements before the first bad one of the second pass
 abbrev pub own_of_kinds : Statements → Option SyntaxFault

@@ -8,5 +8,4 @@ mod reading;
 
 pub use laws::first_bad_statement_decides;
 pub use model::{Model, ParseError};
-pub use passes::model_of;
-pub use reading::parse;
+pub use passes::parse;

@@ -1,20 +1,51 @@
-// From tokens to a model.
-ghost use Rattle.gmpl_parse.specs.Models as spec;
-ghost use Rattle.gmpl_parse.specs.Models.{IsOutcome};
+// The first two passes, statement by statement.
+ghost use Rattle.std.specs.Prelude.{◌≡◌, IfOk};
+ghost use Rattle.gmpl_statements.specs.Statements.{statements_of};
+ghost use Rattle.gmpl_statement_names.specs.Statements.{stopped};
+ghost use Rattle.gmpl_parse.specs.Models.{IsResolved};
 
-use crate::model::{Model, ParseError};
-use crate::passes::model_of;
-use gmpl_statements::read_statements;
+use gmpl_resolved::Statements;
+use gmpl_statement_names::Resolver;
+use gmpl_statements::{Next, StatementReader};
+use gmpl_syntax::SyntaxFault;
 use gmpl_token::Tokens;
-use std::alloc::Global;
+use std::alloc::{AllocError, Global};
 
-/// The model that these tokens of a text make, or its first fault. The tokens are given up as soon as the statements are there.
-/// Errors: `Fault` with the number, the line and the kind of the first bad statement; `NoMemory`.
-pub fn parse(alloc: Global, tokens: Tokens<'_>) -> Result<Model, ParseError>
-    ensures { IsOutcome (spec.parsed tokens.entry) result }
+/// The statements of a model whose names are resolved, up to the first bad one, and where its data section begins: behind the
+/// semicolon at this place of the text.
+#[derive(Drop)]
+pub(crate) struct Found {
+    pub(crate) statements: Statements,
+    pub(crate) data_at: Option<usize>,
+}
+
+/// The statements that these tokens make, with their names resolved. Each is resolved as soon as it is read, and its tokens and its
+/// first tree are given up.
+pub(crate) fn resolved(alloc: Global, tokens: Tokens<'_>) -> Result<Found, AllocError>
+    ensures { IfOk result (λ found. IsResolved found.statements found.data_at (statements_of tokens.entry)) }
 {
-    let statements = read_statements(alloc, &tokens)?;
-    // the statements hold nothing of the tokens, which take as much memory
-    std::mem::drop(tokens);
-    model_of(alloc, &statements)
+    let mut reader = StatementReader::new(tokens);
+    let mut resolver = Resolver::new(alloc);
+    let turns = reader.left();
+    for turn in 0..turns {
+        match reader.next(alloc, turn + 1)? {
+            Next::Statement(one) => match resolver.add(alloc, turn + 1, &one)? {
+                None => {}
+                Some(own) => return Ok(ended(resolver, Some(own), None)),
+            },
+            Next::Data { at, .. } => return Ok(ended(resolver, None, Some(at))),
+            Next::End(fault) => return Ok(ended(resolver, fault, None)),
+        }
+    }
+    let fault = reader.end(turns + 1);
+    Ok(ended(resolver, fault, None))
+}
+
+fn ended(resolver: Resolver, fault: Option<SyntaxFault>, data_at: Option<usize>) -> Found
+    ensures { result ≡ record { statements = stopped resolver.made fault; data_at = data_at } }
+{
+    Found {
+        statements: resolver.finish(fault),
+        data_at,
+    }
 }

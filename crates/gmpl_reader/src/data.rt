@@ -95,8 +95,8 @@ fn name_of(numbered: &Numbered) -> &str
         Statement::Set(declaration) => declaration.head.name.as_str(),
         Statement::Param(declaration) => declaration.head.name.as_str(),
         Statement::Var(declaration) => declaration.head.name.as_str(),
-        Statement::Constraint(constraint) => constraint.head.name.as_str(),
-        Statement::Objective(objective) => objective.head.name.as_str(),
+        Statement::Constraint(constraint) => constraint.get().head.name.as_str(),
+        Statement::Objective(objective) => objective.get().head.name.as_str(),
     }
 }
 

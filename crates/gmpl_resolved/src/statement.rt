@@ -4,7 +4,7 @@ use crate::expression::{Expr, Indexing};
 use fraction::Frac;
 use gmpl_syntax::{Direction, Relation, SyntaxFault};
 use gmpl_text::Text;
-use sqlite_items::Items;
+use sqlite_items::{Boxed, Items};
 
 /// The name that a statement declares, with the domain of its subscripts where it has one. The indices of the domain are in
 /// scope in the rest of the statement.
@@ -58,14 +58,15 @@ pub struct Objective {
     pub form: Expr,
 }
 
-/// A statement that declares an object.
+/// A statement that declares an object. A constraint and an objective stand apart, so that a declaration takes no more memory
+/// than it wants.
 #[derive(Drop)]
 pub enum Statement {
     Set(Declaration),
     Param(Declaration),
     Var(Declaration),
-    Constraint(Constraint),
-    Objective(Objective),
+    Constraint(Boxed<Constraint>),
+    Objective(Boxed<Objective>),
 }
 
 /// A field that a table writes: an expression, and the field's name.

@@ -84,8 +84,8 @@ fn object_of(objects: &[Object], solved: bool, whole: &Statement) -> Result<Obje
         Statement::Set(whole) => set_object(objects, solved, whole),
         Statement::Param(whole) => value_object(objects, solved, Sort::Param, whole),
         Statement::Var(whole) => value_object(objects, solved, Sort::Var, whole),
-        Statement::Constraint(whole) => constraint_object(objects, whole),
-        Statement::Objective(whole) => objective_object(objects, whole),
+        Statement::Constraint(whole) => constraint_object(objects, whole.get()),
+        Statement::Objective(whole) => objective_object(objects, whole.get()),
     }
 }
 

@@ -358,14 +358,36 @@ abbrev pub behind : ResolvedStatements → ℕ → ℕ → JudgedBoth Resolved �
 behind all number line (Ok r) go = go (with_statement all number line r.0) r.1.0 r.1.1
 behind all number line (Err kind) go = stopped all (Some (record { statement = number; line = line; kind = kind }))
 
--- behind those that were gone over, so many; behind all of them stands what the first pass found
+-- from the statement of this number on, behind those that were gone over; behind all of them stands what the first pass found
 abbrev pub statements_from : ResolvedStatements → ℕ → List Name → List Name → List Numbered → Option SyntaxFault → ResolvedStatements
-statements_from all count objects tables [] fault = stopped all fault
-statements_from all count objects tables (x ∷ xs) fault =
-    behind all (count + 1) x.line (judged x.statement objects tables) (λ more os ts. statements_from more (count + 1) os ts xs fault)
+statements_from all number objects tables [] fault = stopped all fault
+statements_from all number objects tables (x ∷ xs) fault =
+    behind all number x.line (judged x.statement objects tables) (λ more os ts. statements_from more (number + 1) os ts xs fault)
 
 abbrev pub statements : Statements → ResolvedStatements
-statements whole = statements_from none 0 [] [] whole.items whole.fault
+statements whole = statements_from none 1 [] [] whole.items whole.fault
+
+-- ---- the same, one by one
+
+-- what was resolved so far, and the names that it declares of objects and of tables
+pub record Resolving : Type 0 where
+  pub made : ResolvedStatements
+  pub objects : List Name
+  pub tables : List Name
+
+abbrev pub nothing_resolved : Resolving
+nothing_resolved = record { made = none; objects = []; tables = [] }
+
+abbrev pub with_resolved : Resolving → ℕ → ℕ → Resolved → Resolving
+with_resolved r number line x = record { made = with_statement r.made number line x; objects = r.objects; tables = r.tables }
+
+abbrev pub resolved_behind : Resolving → ℕ → List Numbered → Option SyntaxFault → ResolvedStatements
+resolved_behind r number xs fault = statements_from r.made number r.objects r.tables xs fault
+
+-- behind a statement of this number: it ends there at a fault of its own
+abbrev pub goes_on : Option SyntaxFault → Resolving → ℕ → List Numbered → Option SyntaxFault → ResolvedStatements
+goes_on None r number xs fault = resolved_behind r (number + 1) xs fault
+goes_on (Some own) r number xs fault = stopped r.made (Some own)
 
 -- ---- the code and the definition go the same way; want of memory is free
 

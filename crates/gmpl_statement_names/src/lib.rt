@@ -7,8 +7,9 @@
 mod actions;
 mod parts;
 mod resolved;
+mod resolver;
 mod statements;
 mod table_names;
 mod tables;
 
-pub use statements::resolve_statements;
+pub use resolver::Resolver;

@@ -1,20 +1,17 @@
-// The names of statements, resolved.
-ghost use Rattle.std.specs.Prelude.{◌≡◌, IfOk};
+// The names of a statement, resolved.
 ghost use Rattle.gmpl_statement_names.specs.Statements as spec;
 ghost use Rattle.gmpl_statement_names.specs.Statements.{Judges, JudgesBoth};
 
 use crate::actions::action;
 use crate::parts::{constraint, declaration, objective};
-use crate::resolved::{Resolved, none, stopped, with_statement};
+use crate::resolved::Resolved;
 use crate::table_names::{declare, tables_behind};
 use crate::tables::table_input;
 use gmpl_names::{Names, NamesError};
 use gmpl_resolved as resolved;
-use gmpl_syntax::{
-    Action, Constraint, Declaration, Objective, Statement, Statements, SyntaxFault,
-    SyntaxFaultKind, TableInput,
-};
-use std::alloc::{AllocError, Global};
+use gmpl_syntax::{Action, Constraint, Declaration, Objective, Statement, TableInput};
+use sqlite_items::Boxed;
+use std::alloc::Global;
 
 fn declared(
     alloc: Global,
@@ -32,24 +29,26 @@ fn declared_constraint(
     alloc: Global,
     objects: &mut Names,
     whole: &Constraint,
-) -> Result<resolved::Constraint, NamesError>
+) -> Result<Boxed<resolved::Constraint>, NamesError>
     ensures { Judges (spec.declared_constraint whole.now objects.old) result objects.new }
 {
     declare(alloc, objects, &whole.head.name)?;
     let mut scope = Names::new(alloc);
-    constraint(alloc, objects, &mut scope, whole)
+    let made = constraint(alloc, objects, &mut scope, whole)?;
+    Ok(Boxed::new(alloc, made)?)
 }
 
 fn declared_objective(
     alloc: Global,
     objects: &mut Names,
     whole: &Objective,
-) -> Result<resolved::Objective, NamesError>
+) -> Result<Boxed<resolved::Objective>, NamesError>
     ensures { Judges (spec.declared_objective whole.now objects.old) result objects.new }
 {
     declare(alloc, objects, &whole.head.name)?;
     let mut scope = Names::new(alloc);
-    objective(alloc, objects, &mut scope, whole)
+    let made = objective(alloc, objects, &mut scope, whole)?;
+    Ok(Boxed::new(alloc, made)?)
 }
 
 fn read(alloc: Global, objects: &Names, whole: &TableInput) -> Result<Resolved, NamesError>
@@ -94,7 +93,8 @@ fn statement(alloc: Global, objects: &mut Names, whole: &Statement) -> Result<Re
     }
 }
 
-fn judged(
+/// What becomes of the next statement, behind these names of objects and of tables; those that it declares are added.
+pub(crate) fn judged(
     alloc: Global,
     objects: &mut Names,
     tables: &mut Names,
@@ -104,32 +104,4 @@ fn judged(
 {
     tables_behind(alloc, objects, tables, whole)?;
     statement(alloc, objects, whole)
-}
-
-/// The statements with their names resolved before the first bad one, with its fault: one of its names, or what the first
-/// pass found.
-pub fn resolve_statements(
-    alloc: Global,
-    whole: &Statements,
-) -> Result<resolved::Statements, AllocError>
-    ensures { IfOk result (λ made. made ≡ spec.statements whole.now) }
-{
-    let mut objects = Names::new(alloc);
-    let mut tables = Names::new(alloc);
-    let mut made = none(alloc);
-    for (place, one) in whole.items.as_slice().iter().enumerate() {
-        match judged(alloc, &mut objects, &mut tables, &one.statement) {
-            Ok(statement) => made = with_statement(alloc, made, place + 1, one.line, statement)?,
-            Err(NamesError::NoMemory) => return Err(AllocError),
-            Err(NamesError::Fault(kind)) => {
-                let fault = SyntaxFault {
-                    statement: place + 1,
-                    line: one.line,
-                    kind,
-                };
-                return Ok(stopped(made, Some(fault)));
-            }
-        }
-    }
-    Ok(stopped(made, whole.fault))
 }

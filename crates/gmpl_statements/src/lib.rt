@@ -1,7 +1,8 @@
-//! The statements of a MathProg model, from tokens to trees, up to the first bad one.
+//! The statements of a MathProg model, from tokens to trees, one by one up to the first bad one.
 #![tactic(auto)]
 
+mod ahead;
+mod reader;
 mod statement;
-mod statements;
 
-pub use statements::read_statements;
+pub use reader::{Next, StatementReader};

@@ -15,7 +15,7 @@ use gmpl_words::{Beginning, Declared, begins_with, is_to};
 use std::alloc::Global;
 
 #[tactic(auto, unfolding(crate::specs::Statement::subject))]
-fn subject(reader: Reader, tokens: &mut Cursor<'_, '_>) -> Result<Constraint, ParseError>
+fn subject(reader: Reader, tokens: &mut Cursor<'_>) -> Result<Constraint, ParseError>
     ensures { Reads (spec.subject reader.depth tokens.old) result tokens.new }
 {
     match tokens.peek() {
@@ -34,7 +34,7 @@ fn subject(reader: Reader, tokens: &mut Cursor<'_, '_>) -> Result<Constraint, Pa
 #[tactic(auto, unfolding(crate::specs::Statement::read_table))]
 fn read_table(
     reader: Reader,
-    tokens: &mut Cursor<'_, '_>,
+    tokens: &mut Cursor<'_>,
     solved: bool,
     name: Text,
 ) -> Result<Statement, ParseError>
@@ -45,7 +45,7 @@ fn read_table(
 }
 
 #[tactic(auto, unfolding(crate::specs::Statement::table))]
-fn table(reader: Reader, tokens: &mut Cursor<'_, '_>, solved: bool) -> Result<Statement, ParseError>
+fn table(reader: Reader, tokens: &mut Cursor<'_>, solved: bool) -> Result<Statement, ParseError>
     ensures { Reads (spec.table reader.depth solved tokens.old) result tokens.new }
 {
     let name = titled_name(reader.alloc, tokens)?;
@@ -59,7 +59,7 @@ fn table(reader: Reader, tokens: &mut Cursor<'_, '_>, solved: bool) -> Result<St
 }
 
 #[tactic(auto, unfolding(crate::specs::Statement::solve))]
-fn solve(tokens: &mut Cursor<'_, '_>) -> Result<Statement, ParseError>
+fn solve(tokens: &mut Cursor<'_>) -> Result<Statement, ParseError>
     ensures { Reads (spec.solve tokens.old) result tokens.new }
 {
     tokens.expect(TokenKind::Semicolon)?;
@@ -70,7 +70,7 @@ fn solve(tokens: &mut Cursor<'_, '_>) -> Result<Statement, ParseError>
 #[tactic(auto, unfolding(crate::specs::Statement::statement_by))]
 fn statement_by(
     reader: Reader,
-    tokens: &mut Cursor<'_, '_>,
+    tokens: &mut Cursor<'_>,
     solved: bool,
     beginning: Beginning,
 ) -> Result<Statement, ParseError>
@@ -125,7 +125,7 @@ fn statement_by(
 #[tactic(auto, unfolding(crate::specs::Statement::statement))]
 pub(crate) fn statement(
     alloc: Global,
-    tokens: &mut Cursor<'_, '_>,
+    tokens: &mut Cursor<'_>,
     solved: bool,
 ) -> Result<Statement, ParseError>
     ensures { Reads (spec.statement solved tokens.old) result tokens.new }

@@ -17,7 +17,7 @@ use std::alloc::Global;
 // ---- the driver and the file
 
 #[tactic(auto, unfolding(crate::specs::Tables::driver))]
-fn driver(alloc: Global, tokens: &mut Cursor<'_, '_>) -> Result<Text, ParseError>
+fn driver(alloc: Global, tokens: &mut Cursor<'_>) -> Result<Text, ParseError>
     ensures { Reads (spec.driver tokens.old) result tokens.new }
 {
     match tokens.peek() {
@@ -27,7 +27,7 @@ fn driver(alloc: Global, tokens: &mut Cursor<'_, '_>) -> Result<Text, ParseError
 }
 
 #[tactic(auto, unfolding(crate::specs::Tables::driver_and_file))]
-fn driver_and_file(reader: Reader, tokens: &mut Cursor<'_, '_>) -> Result<(Text, Expr), ParseError>
+fn driver_and_file(reader: Reader, tokens: &mut Cursor<'_>) -> Result<(Text, Expr), ParseError>
     ensures { Reads (spec.driver_and_file reader.depth tokens.old) result tokens.new }
 {
     let driver = driver(reader.alloc, tokens)?;
@@ -37,7 +37,7 @@ fn driver_and_file(reader: Reader, tokens: &mut Cursor<'_, '_>) -> Result<(Text,
 }
 
 #[tactic(auto, unfolding(crate::specs::Tables::optional_field))]
-fn optional_field(alloc: Global, tokens: &mut Cursor<'_, '_>) -> Result<Option<Text>, ParseError>
+fn optional_field(alloc: Global, tokens: &mut Cursor<'_>) -> Result<Option<Text>, ParseError>
     ensures { Reads (spec.optional_field tokens.old) result tokens.new }
 {
     if tokens.eat(TokenKind::Tilde) {
@@ -50,7 +50,7 @@ fn optional_field(alloc: Global, tokens: &mut Cursor<'_, '_>) -> Result<Option<T
 // ---- a table that is read
 
 #[tactic(auto, unfolding(crate::specs::Tables::optional_set))]
-fn optional_set(alloc: Global, tokens: &mut Cursor<'_, '_>) -> Result<Option<Text>, ParseError>
+fn optional_set(alloc: Global, tokens: &mut Cursor<'_>) -> Result<Option<Text>, ParseError>
     ensures { Reads (spec.optional_set tokens.old) result tokens.new }
 {
     match tokens.peek() {
@@ -65,7 +65,7 @@ fn optional_set(alloc: Global, tokens: &mut Cursor<'_, '_>) -> Result<Option<Tex
 
 fn further_names(
     alloc: Global,
-    tokens: &mut Cursor<'_, '_>,
+    tokens: &mut Cursor<'_>,
     mut found: Items<Text>,
 ) -> Result<Items<Text>, ParseError>
     ensures { Reads (further parts.name found tokens.old) result tokens.new }
@@ -80,7 +80,7 @@ fn further_names(
 }
 
 #[tactic(auto, unfolding(crate::specs::Tables::keys))]
-fn keys(alloc: Global, tokens: &mut Cursor<'_, '_>) -> Result<Items<Text>, ParseError>
+fn keys(alloc: Global, tokens: &mut Cursor<'_>) -> Result<Items<Text>, ParseError>
     ensures { Reads (spec.keys tokens.old) result tokens.new }
 {
     tokens.expect(TokenKind::OpenBracket)?;
@@ -91,7 +91,7 @@ fn keys(alloc: Global, tokens: &mut Cursor<'_, '_>) -> Result<Items<Text>, Parse
 }
 
 #[tactic(auto, unfolding(crate::specs::Tables::input_column))]
-fn input_column(alloc: Global, tokens: &mut Cursor<'_, '_>) -> Result<InputColumn, ParseError>
+fn input_column(alloc: Global, tokens: &mut Cursor<'_>) -> Result<InputColumn, ParseError>
     ensures { Reads (spec.input_column tokens.old) result tokens.new }
 {
     let parameter = name(alloc, tokens)?;
@@ -99,10 +99,7 @@ fn input_column(alloc: Global, tokens: &mut Cursor<'_, '_>) -> Result<InputColum
     Ok(InputColumn { parameter, field })
 }
 
-fn input_columns(
-    alloc: Global,
-    tokens: &mut Cursor<'_, '_>,
-) -> Result<Items<InputColumn>, ParseError>
+fn input_columns(alloc: Global, tokens: &mut Cursor<'_>) -> Result<Items<InputColumn>, ParseError>
     ensures { Reads (further spec.input_column [] tokens.old) result tokens.new }
 {
     let mut found = Items::new(alloc);
@@ -119,7 +116,7 @@ fn input_columns(
 #[tactic(auto, unfolding(crate::specs::Tables::table_input))]
 pub fn table_input(
     reader: Reader,
-    tokens: &mut Cursor<'_, '_>,
+    tokens: &mut Cursor<'_>,
     name: Text,
 ) -> Result<TableInput, ParseError>
     ensures { Reads (spec.table_input reader.depth name tokens.old) result tokens.new }
@@ -141,7 +138,7 @@ pub fn table_input(
 
 /// `IN`, where it is not refused.
 #[tactic(auto, unfolding(crate::specs::Tables::input_word))]
-pub fn input_word(tokens: &mut Cursor<'_, '_>, is_refused: bool) -> Result<(), ParseError>
+pub fn input_word(tokens: &mut Cursor<'_>, is_refused: bool) -> Result<(), ParseError>
     ensures { Reads (spec.input_word is_refused tokens.old) result tokens.new }
 {
     match tokens.peek() {
@@ -160,7 +157,7 @@ pub fn input_word(tokens: &mut Cursor<'_, '_>, is_refused: bool) -> Result<(), P
 // ---- a table that is written
 
 #[tactic(auto, unfolding(crate::specs::Tables::output_word))]
-fn output_word(tokens: &mut Cursor<'_, '_>) -> Result<(), ParseError>
+fn output_word(tokens: &mut Cursor<'_>) -> Result<(), ParseError>
     ensures { Reads (spec.output_word tokens.old) result tokens.new }
 {
     match tokens.peek() {
@@ -180,7 +177,7 @@ fn output_word(tokens: &mut Cursor<'_, '_>) -> Result<(), ParseError>
 #[tactic(auto, unfolding(crate::specs::Tables::output_field))]
 fn output_field(
     alloc: Global,
-    tokens: &mut Cursor<'_, '_>,
+    tokens: &mut Cursor<'_>,
     is_name: bool,
 ) -> Result<Option<Text>, ParseError>
     ensures { Reads (spec.output_field is_name tokens.old) result tokens.new }
@@ -193,7 +190,7 @@ fn output_field(
 }
 
 #[tactic(auto, unfolding(crate::specs::Tables::output_column))]
-fn output_column(reader: Reader, tokens: &mut Cursor<'_, '_>) -> Result<OutputColumn, ParseError>
+fn output_column(reader: Reader, tokens: &mut Cursor<'_>) -> Result<OutputColumn, ParseError>
     ensures { Reads (spec.output_column reader.depth tokens.old) result tokens.new }
 {
     let value = reader.expression(tokens)?;
@@ -203,7 +200,7 @@ fn output_column(reader: Reader, tokens: &mut Cursor<'_, '_>) -> Result<OutputCo
 
 fn further_columns(
     reader: Reader,
-    tokens: &mut Cursor<'_, '_>,
+    tokens: &mut Cursor<'_>,
     mut found: Items<OutputColumn>,
 ) -> Result<Items<OutputColumn>, ParseError>
     ensures { Reads (further (spec.output_column reader.depth) found tokens.old) result tokens.new }
@@ -220,7 +217,7 @@ fn further_columns(
 #[tactic(auto, unfolding(crate::specs::Tables::output_columns))]
 fn output_columns(
     reader: Reader,
-    tokens: &mut Cursor<'_, '_>,
+    tokens: &mut Cursor<'_>,
 ) -> Result<Items<OutputColumn>, ParseError>
     ensures { Reads (spec.output_columns reader.depth tokens.old) result tokens.new }
 {
@@ -232,7 +229,7 @@ fn output_columns(
 #[tactic(auto, unfolding(crate::specs::Tables::table_output))]
 pub fn table_output(
     reader: Reader,
-    tokens: &mut Cursor<'_, '_>,
+    tokens: &mut Cursor<'_>,
     name: Text,
 ) -> Result<TableOutput, ParseError>
     ensures { Reads (spec.table_output reader.depth name tokens.old) result tokens.new }

@@ -1,7 +1,7 @@
 // Model texts with their statements, or with the first bad one.
 use crate::rows::{Subject, check, split};
 use gmpl_lexer::read_tokens;
-use gmpl_statements::read_statements;
+use gmpl_statements::{Next, StatementReader};
 use gmpl_syntax::{
     Action, Attribute, Constraint, Declaration, Head, Indexing, Relation, Statement, SyntaxFault,
     SyntaxFaultKind,
@@ -565,17 +565,40 @@ fn push_word(answer: &mut String, word: &str) -> Result<(), AllocError> {
     answer.push_str(word)
 }
 
+// The word of what comes next, and whether more may come behind it.
+fn push_next(
+    alloc: Global,
+    reader: &mut StatementReader<'_>,
+    number: usize,
+    answer: &mut String,
+) -> Result<bool, AllocError> {
+    match reader.next(alloc, number)? {
+        Next::Statement(numbered) => {
+            let word = statement_text(alloc, &numbered.statement)?;
+            push_word(answer, word.as_str())?;
+            Ok(true)
+        }
+        Next::Data { .. } => {
+            push_word(answer, "data")?;
+            Ok(false)
+        }
+        Next::End(Some(fault)) => {
+            let word = fault_text(alloc, fault)?;
+            push_word(answer, word.as_str())?;
+            Ok(false)
+        }
+        Next::End(None) => Ok(false),
+    }
+}
+
 fn answer_text(alloc: Global, text: &str) -> Result<String, AllocError> {
     let tokens = read_tokens(alloc, text.as_bytes())?;
-    let statements = read_statements(alloc, &tokens)?;
+    let mut reader = StatementReader::new(tokens);
     let mut answer = String::new(alloc);
-    for numbered in statements.items.as_slice() {
-        let word = statement_text(alloc, &numbered.statement)?;
-        push_word(&mut answer, word.as_str())?;
-    }
-    if let Some(fault) = statements.fault {
-        let word = fault_text(alloc, fault)?;
-        push_word(&mut answer, word.as_str())?;
+    for turn in 0..reader.left() + 1 {
+        if !push_next(alloc, &mut reader, turn + 1, &mut answer)? {
+            break;
+        }
     }
     if answer.is_empty() {
         answer.push('-')?;

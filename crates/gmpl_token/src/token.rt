@@ -116,6 +116,14 @@ impl<'a> Tokens<'a> {
         &self.items
     }
 
+    /// The tokens, without the fault. It takes no memory.
+    pub fn into_vec(self) -> Vec<Token<'a>>
+        ensures { result.items ≡ self.entry.items }
+    {
+        let Tokens { items, .. } = self;
+        items
+    }
+
     /// Why there are no more; none where the text is at its end.
     pub fn fault(&self) -> Option<LexFault>
         ensures { result ≡ self.now.fault }

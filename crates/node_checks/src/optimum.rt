@@ -15,7 +15,8 @@ use search_tree::optimal_points;
 
 /// Whether the point is one of the relaxation of the node below these splits, and the weights show that none is better: it
 /// is then an optimal one. A fault is the first operation on the way that does not fit: of the test of the point, of the
-/// sum of the objective's form there, or of the test of the weights. It takes no memory.
+/// sum of the objective's form there, or of the test of the weights. Memory is taken as in `check` of cert_check: without
+/// it the answer is the same, and takes longer.
 pub fn is_optimal(
     problem: &Instance,
     cuts: &DerivedRows,

@@ -67,8 +67,8 @@ impl Path {
         Ok(Path { tree })
     }
 
-    /// Whether the weights show that the node has no point, or the first operation on the way that does not fit. It takes
-    /// no memory.
+    /// Whether the weights show that the node has no point, or the first operation on the way that does not fit. Memory is
+    /// taken as in `check` of cert_check: without it the answer is the same, and takes longer.
     pub fn shows_no_point(
         &self,
         problem: &Instance,
@@ -82,7 +82,7 @@ impl Path {
     }
 
     /// Whether the weights show that the node has no point with a better value of the objective's form than this one, or
-    /// the first operation on the way that does not fit. It takes no memory.
+    /// the first operation on the way that does not fit. Memory is taken as in `shows_no_point`.
     pub fn shows_none_better(
         &self,
         problem: &Instance,
