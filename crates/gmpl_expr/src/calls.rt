@@ -15,7 +15,7 @@ use crate::variables::bounds_by;
 use fraction::Frac;
 use gmpl_data::LoadedModel;
 use gmpl_fault::EvalFault;
-use gmpl_forms::{Amount, Form};
+use gmpl_forms::{Amount, Form, Variable};
 use gmpl_kept::Kept;
 use gmpl_meaning::{Bounds, Walk};
 use gmpl_operations::Value;
@@ -188,25 +188,58 @@ pub fn elements_of(
     elements_by(alloc, context.model, &mut context.kept, domain, bindings)
 }
 
+// The bounds of a variable's member, which are kept.
+fn bounds_in(
+    alloc: Global,
+    model: &LoadedModel,
+    kept: &mut Kept,
+    variable: &Variable,
+) -> Result<Bounds, EvalFault>
+    requires right { AreRight model.now kept.old }
+    ensures right { AreRight model.now kept.new }
+    ensures value { Gives result (bounds_at model.now variable.now.statement variable.now.subscripts) }
+{
+    match kept.bounds(variable) {
+        Some(bounds) => Ok(*bounds),
+        None => {
+            let bounds = bounds_anew(alloc, model, kept, variable)?;
+            kept.remember_bounds(alloc, variable, &bounds)?;
+            Ok(bounds)
+        }
+    }
+}
+
+fn bounds_anew(
+    alloc: Global,
+    model: &LoadedModel,
+    kept: &mut Kept,
+    variable: &Variable,
+) -> Result<Bounds, EvalFault>
+    requires right { AreRight model.now kept.old }
+    ensures right { AreRight model.now kept.new }
+    ensures value { Gives result (bounds_at model.now variable.now.statement variable.now.subscripts) }
+{
+    bounds_by(
+        alloc,
+        model,
+        kept,
+        MOST_HEIGHT - 1,
+        ROOM,
+        variable.statement as usize,
+        &variable.subscripts,
+    )
+}
+
 /// The bounds of a variable's member.
 pub fn bounds_of(
     alloc: Global,
     context: &mut Context<'_>,
-    place: usize,
-    subscripts: &Tuple,
+    variable: &Variable,
 ) -> Result<Bounds, EvalFault>
-    ensures value { Gives result (bounds_at context.old place subscripts.now) }
+    ensures value { Gives result (bounds_at context.old variable.now.statement variable.now.subscripts) }
     ensures same { context.new ≡ context.old }
 {
-    bounds_by(
-        alloc,
-        context.model,
-        &mut context.kept,
-        MOST_HEIGHT - 1,
-        ROOM,
-        place,
-        subscripts,
-    )
+    bounds_in(alloc, context.model, &mut context.kept, variable)
 }
 
 fn member_by(

@@ -7,6 +7,7 @@ use gmpl_expr::{
     Context, bounds_of, elements_of, eval_bool, eval_form, eval_num, eval_set, eval_sym,
 };
 use gmpl_fault::EvalFault;
+use gmpl_forms::Variable;
 use gmpl_lexer::read_tokens;
 use gmpl_meaning::Walk;
 use gmpl_members::{Members, Value};
@@ -416,9 +417,12 @@ fn both_bounds(
 
 // The bounds of the member with the subscript 1 of the first statement.
 fn bounds_word(alloc: Global, model: &LoadedModel) -> Result<String, AllocError> {
-    let subscripts = tuple_of(alloc, "1")?;
+    let variable = Variable {
+        statement: 0,
+        subscripts: tuple_of(alloc, "1")?,
+    };
     let mut context = Context::new(alloc, model);
-    match bounds_of(alloc, &mut context, 0, &subscripts) {
+    match bounds_of(alloc, &mut context, &variable) {
         Ok(bounds) => both_bounds(alloc, bounds.lower, bounds.upper),
         Err(fault) => fault_word(alloc, fault),
     }

@@ -12,7 +12,7 @@ use gmpl_expr::{
     Context, elements_over, eval_bool, eval_form, eval_num, eval_sym, eval_value, member_value,
 };
 use gmpl_fault::EvalFault;
-use gmpl_forms::Form;
+use gmpl_forms::{Form, Variable};
 use gmpl_meaning::{Bounds, Walk};
 use gmpl_operations::Value;
 use gmpl_resolved::{Expr, Indexing};
@@ -83,14 +83,13 @@ pub(crate) fn bounds_of(
     alloc: Global,
     model: &LoadedModel,
     context: &mut Context<'_>,
-    place: usize,
-    subscripts: &Tuple,
+    variable: &Variable,
 ) -> Result<Bounds, EvalFault>
     requires of { context.old ≡ model.now }
     ensures of { context.new ≡ model.now }
-    ensures value { Gives result (members.bounds_at model.now place subscripts.now) }
+    ensures value { Gives result (members.bounds_at model.now variable.now.statement variable.now.subscripts) }
 {
-    gmpl_expr::bounds_of(alloc, context, place, subscripts)
+    gmpl_expr::bounds_of(alloc, context, variable)
 }
 
 /// The symbol that an expression comes to, where the indices in scope have these values.

@@ -33,8 +33,7 @@ fn term_of(
     ensures of { context.new ≡ model.now }
     ensures value { Gives result (spec.term_of model.now (variable.now, coefficient)) }
 {
-    let place = variable.statement as usize;
-    let bounds = bounds_of(alloc, model, context, place, &variable.subscripts)?;
+    let bounds = bounds_of(alloc, model, context, variable)?;
     Ok(Term {
         variable: variable.copied(alloc)?,
         bounds: term_bounds(bounds),

@@ -1,52 +1,58 @@
 // What is kept.
-ghost use Rattle.std.specs.Prelude.{◌≡◌, [], None, Ok, IfOk, IfSome, OnOk, OnErr, option_copied};
+ghost use Rattle.std.specs.Prelude.{◌≡◌, None, Ok, IfOk, IfSome, OnOk, OnErr, option_copied};
 ghost use Rattle.std.specs.Map.{lookup};
-ghost use Rattle.indexmap.specs.IndexMap.{insert_entry};
 ghost use Rattle.gmpl_data.specs.declared.tables.LoadedModel.{LoadedModel};
 ghost use Rattle.gmpl_meaning.specs.Members.{member};
-ghost use Rattle.gmpl_kept.specs.Right.{AreRight, IsRight, anew, asked_eq, value_seen};
+ghost use Rattle.gmpl_forms.specs.Linear.{variable_eq};
+ghost use Rattle.gmpl_kept.specs.Right.{AreRight, HasBounds, IsRight, anew, asked_eq, nothing_kept, value_seen, with_bounds, with_value};
 
 use crate::asked::Asked;
 use crate::value::{KeptValue, again};
+use gmpl_forms::Variable;
+use gmpl_meaning::Bounds;
 use gmpl_operations::Value;
 use gmpl_value::Tuple;
 use indexmap::IndexMap;
 use std::alloc::{AllocError, Global};
 use std::marker::Model;
 
-// How many elements of sets, and symbols, are kept at most.
+// How many elements of sets, symbols, forms and bounds are kept at most.
 const MOST_KEPT: usize = 3_000_000;
 
-/// What is kept of a model, by what was asked for. Clauses see the list of pairs.
+/// What is kept of a model, by what was asked for: values, and the bounds of variables' members. Clauses see the lists of pairs.
 #[derive(Drop)]
 pub struct Kept {
     values: IndexMap<Asked, KeptValue>,
+    bounds: IndexMap<Variable, Bounds>,
     room: usize,
 }
 
 impl Model for Kept {
-    ghost use Rattle.gmpl_meaning.specs.Members.{member};
     ghost use Rattle.gmpl_kept.specs.Right.{Table};
 
     ghost Value = { Table };
 
-    ghost view = { λ k. k.values.entries };
+    ghost view = { λ k. record { values = k.values.entries; bounds = k.bounds.entries } };
 }
 
 impl Kept {
     /// Nothing kept.
     pub fn new(alloc: Global) -> Kept
-        ensures { result ≡ [] }
+        ensures nothing { result ≡ nothing_kept }
+        ensures right { (model : LoadedModel) → AreRight model result }
     {
         Kept {
             values: IndexMap::new(alloc),
+            bounds: IndexMap::new(alloc),
             room: MOST_KEPT,
         }
     }
 
+    // ---- values
+
     // What is kept of this.
     fn get(&self, asked: &Asked) -> Option<&KeptValue>
-        ensures { option_copied result ≡ lookup (asked_eq asked.now) self.now }
+        ensures { option_copied result ≡ lookup (asked_eq asked.now) self.now.values }
     {
         self.values.get(asked)
     }
@@ -59,7 +65,7 @@ impl Kept {
     }
 
     fn insert(&mut self, asked: Asked, value: KeptValue) -> Result<(), AllocError>
-        ensures ok { OnOk result (self.new ≡ insert_entry asked_eq self.old asked value) }
+        ensures ok { OnOk result (self.new ≡ with_value self.old asked value) }
         ensures err { OnErr result (self.new ≡ self.old) }
     {
         match self.values.insert(asked, value) {
@@ -138,5 +144,48 @@ impl Kept {
         }
         self.room = self.room - size;
         self.insert(asked, value)
+    }
+
+    // ---- bounds
+
+    // What is kept of this member's bounds.
+    fn get_bounds(&self, variable: &Variable) -> Option<&Bounds>
+        ensures { option_copied result ≡ lookup (variable_eq variable.now) self.now.bounds }
+    {
+        self.bounds.get(variable)
+    }
+
+    /// The bounds that are kept of a variable's member.
+    pub fn bounds(&self, variable: &Variable) -> Option<&Bounds>
+        ensures { (model : LoadedModel) → AreRight model self.now → IfSome result (λ bounds. HasBounds model (variable.now, bounds.now)) }
+    {
+        self.get_bounds(variable)
+    }
+
+    fn insert_bounds(&mut self, variable: Variable, bounds: Bounds) -> Result<(), AllocError>
+        ensures ok { OnOk result (self.new ≡ with_bounds self.old variable bounds) }
+        ensures err { OnErr result (self.new ≡ self.old) }
+    {
+        match self.bounds.insert(variable, bounds) {
+            Ok(_) => Ok(()),
+            Err(_) => Err(AllocError),
+        }
+    }
+
+    /// Keeps the bounds of a variable's member, where there is room for them.
+    pub fn remember_bounds(
+        &mut self,
+        alloc: Global,
+        variable: &Variable,
+        bounds: &Bounds,
+    ) -> Result<(), AllocError>
+        ensures { (model : LoadedModel) → AreRight model self.old → HasBounds model (variable.now, bounds.now) → AreRight model self.new }
+    {
+        if self.room == 0 {
+            return Ok(());
+        }
+        self.room = self.room - 1;
+        let variable = variable.copied(alloc)?;
+        self.insert_bounds(variable, *bounds)
     }
 }

@@ -1,11 +1,15 @@
 // Values that are kept.
-ghost use Rattle.std.specs.Prelude.{◌≡◌, IfOk, IfSome};
+ghost use Rattle.std.specs.Prelude.{◌≡◌, [], ◌∷◌, IfOk, IfSome};
+ghost use Rattle.rational.specs.Rational.{one_ℚ, zero_ℚ};
 ghost use Rattle.gmpl_fault.specs.Outcome.{GivesAs};
+ghost use Rattle.gmpl_forms.specs.Linear.{linear};
 ghost use Rattle.gmpl_kept.specs.Right.{value_seen};
 ghost use Rattle.gmpl_operations.specs.Values.{set_in};
 ghost use Rattle.gmpl_operations.specs.declared.value.Value.TheVariants as values;
 
+use fraction::Frac;
 use gmpl_fault::EvalFault;
+use gmpl_forms::{Form, Variable};
 use gmpl_operations::Value;
 use gmpl_value::{SetValue, Symbol};
 use sqlite_items::Boxed;
@@ -17,7 +21,9 @@ use std::rc::Rc;
 pub enum KeptValue {
     Scalar(Symbol),
     Elements(Rc<SetValue>),
-    /// What is not kept: the form of a variable's member.
+    /// The form of a variable's member: the member with the coefficient 1.
+    Variable(Variable),
+    /// A value as it was made. Where it is the form of a variable's member it is kept as that, and else not.
     Other(Boxed<Value>),
 }
 
@@ -40,6 +46,7 @@ impl KeptValue {
         match self {
             KeptValue::Scalar(symbol) => Ok(Value::Scalar(symbol)),
             KeptValue::Elements(set) => Ok(Value::Elements(set.copied(alloc)?)),
+            KeptValue::Variable(variable) => Ok(Value::Linear(Form::variable(alloc, variable)?)),
             KeptValue::Other(value) => Ok(value.into_inner()),
         }
     }
@@ -51,6 +58,7 @@ impl KeptValue {
         match self {
             KeptValue::Scalar(_symbol) => Err(EvalFault::NotANumber),
             KeptValue::Elements(set) => Ok(set),
+            KeptValue::Variable(_variable) => Err(EvalFault::NotANumber),
             KeptValue::Other(value) => Ok(Rc::new(alloc, value.into_inner().into_set()?)?),
         }
     }
@@ -71,7 +79,8 @@ pub(crate) fn again(alloc: Global, value: &KeptValue) -> Option<KeptValue>
     match value {
         KeptValue::Scalar(symbol) => symbol_again(alloc, symbol),
         KeptValue::Elements(set) => set_again(set),
-        KeptValue::Other(_) => None,
+        KeptValue::Variable(variable) => variable_again(alloc, variable),
+        KeptValue::Other(value) => other_again(alloc, value.get()),
     }
 }
 
@@ -85,4 +94,33 @@ fn set_again(set: &Rc<SetValue>) -> Option<KeptValue>
     ensures { IfSome result (λ made. value_seen made ≡ values.Elements set.now.value) }
 {
     Some(KeptValue::Elements(set.clone().ok()?))
+}
+
+fn variable_again(alloc: Global, variable: &Variable) -> Option<KeptValue>
+    ensures { IfSome result (λ made. value_seen made ≡ values.Linear (linear ((variable.now, one_ℚ) ∷ []) zero_ℚ)) }
+{
+    Some(KeptValue::Variable(variable.copied(alloc).ok()?))
+}
+
+// Of all other values the form of a variable's member alone.
+fn other_again(alloc: Global, value: &Value) -> Option<KeptValue>
+    ensures { IfSome result (λ made. value_seen made ≡ value.now) }
+{
+    match value {
+        Value::Linear(form) => variable_again(alloc, only_variable(form)?),
+        _ => None,
+    }
+}
+
+// The member whose form this is, where it is one's.
+fn only_variable(form: &Form) -> Option<&Variable>
+    ensures { IfSome result (λ variable. form.now ≡ linear ((variable.now, one_ℚ) ∷ []) zero_ℚ) }
+{
+    if form.len() != 1 || !form.constant().is_zero() {
+        return None;
+    }
+    match form.term(0) {
+        Some((variable, coefficient)) if *coefficient == Frac::one() => Some(variable),
+        _ => None,
+    }
 }
