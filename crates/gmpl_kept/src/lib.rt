@@ -1,4 +1,4 @@
-//! What is kept of a model once it is evaluated: members, and ranges of numbers.
+//! What is kept of a model once it is evaluated: members, ranges of numbers, and the bounds of members of variables.
 #![tactic(auto)]
 
 mod asked;
