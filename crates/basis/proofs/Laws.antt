@@ -1,23 +1,23 @@
 -- The laws of bases, of runs of Bland's rule and of what their ends show that other crates cite.
 
 -- places in a basis, and how an exchange changes them
-pub use Rattle.basis.proofs.Places.{basic_after, basic_known, below, enters_basic, leaves_rests, length-exchanged, other_place, rests_or, stays_basic}
+pub use Rattle.basis.proofs.Places.{basic_after, basic_known, below, enters_basic, is_basic_or, leaves_rests, length-exchanged, other_place, rests_or, stays_basic}
 pub use Rattle.basis.proofs.Coefs.{not_resting}
 -- the start, a pivot, and the points that they lead to
-pub use Rattle.basis.proofs.Rays.{arrives}
+pub use Rattle.basis.proofs.Rays.{arrives, direction_solves, direction_value}
 pub use Rattle.basis.proofs.Start.{extended_satisfies, same_below, start_is_dictionary, start_is_point}
-pub use Rattle.basis.proofs.Unique.{same_gains}
+pub use Rattle.basis.proofs.Unique.{same_gains, same_place, same_point, value_same-resting}
 pub use Rattle.basis.proofs.Pivot.{pivot_keeps}
-pub use Rattle.basis.proofs.Points.{point_after}
-pub use Rattle.basis.proofs.StepLemmas.{improve_exchanges, mend_exchanges}
+pub use Rattle.basis.proofs.Points.{after, point_after, value-after}
+pub use Rattle.basis.proofs.StepLemmas.{HasAll, improve_exchanges, mend_exchanges, step_has}
 -- lists of numbers, and two lists one after the other
 pub use Rattle.basis.proofs.Lists.{length-numbers, numbers-below, slice_get_left, slice_get_right}
 -- the system of a node: its forms and bounds
 pub use Rattle.basis.proofs.NodeSystems.{derived_form, length-columns, node_size, row_form}
 pub use Rattle.basis.proofs.NodeTerms.{derived-lower, row-lower, row-upper}
 -- tests of numbers against bounds
-pub use Rattle.basis.proofs.Order.{above_some, below_some, neg_above, neg_below, not_le, zero_numerator}
-pub use Rattle.basis.proofs.Bounds.{none_outside_inside}
+pub use Rattle.basis.proofs.Order.{above_some, below_some, le_or_less, neg_above, neg_below, not_le, not_less, signs_of, zero_numerator}
+pub use Rattle.basis.proofs.Bounds.{none_outside_inside, resting_inside}
 -- what the end of a run shows of its node
 pub use Rattle.basis.proofs.Blocked.{infeasible_shows, refutes_leaf}
 pub use Rattle.basis.proofs.Leaves.{infeasible_proves, optimal_is_best, optimal_passes, optimal_proves, unbounded_proves}

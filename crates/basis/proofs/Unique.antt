@@ -75,7 +75,7 @@ module _ (s : System) (b : List Place) (d e : Dictionary) (h : IsDictionary s b 
 
 -- ---- the point of a basis
 
-same_place : (s : System) (p : Place) (v : ℕ) (a c : Rational) → p ≢ Basic → RestsAt s p v a → RestsAt s p v c → a ≡ c
+pub same_place : (s : System) (p : Place) (v : ℕ) (a c : Rational) → p ≢ Basic → RestsAt s p v a → RestsAt s p v c → a ≡ c
 same_place s Basic v a c n h k = absurd (n refl)
 same_place s AtLower v a c n h k = same_Some _ _ (sym h ∙ k)
 same_place s AtUpper v a c n h k = same_Some _ _ (sym h ∙ k)
@@ -84,7 +84,7 @@ same_place s AtZero v a c n h k = h.2 ∙ sym k.2
 pub same_resting : (s : System) (b : List Place) (x y : ℕ → Rational) → IsBasicPoint s b x → IsBasicPoint s b y → (v : ℕ) → IsResting b v → x v ≡ y v
 same_resting s b x y h k v r = same_place s (place_of b v) v (x v) (y v) r.not_basic (h.rests v r.known) (k.rests v r.known)
 
-value_same-resting : (b : List Place) (x y : ℕ → Rational) (f : List Entry) → ((v : ℕ) → IsResting b v → x v ≡ y v) → AllResting b f → value_at x f ≡ value_at y f
+pub value_same-resting : (b : List Place) (x y : ℕ → Rational) (f : List Entry) → ((v : ℕ) → IsResting b v → x v ≡ y v) → AllResting b f → value_at x f ≡ value_at y f
 value_same-resting b x y [] h k = refl
 value_same-resting b x y (e ∷ f) h k = ap₂ (λ t u. e.coefficient *ℚ t +ℚ u) (h e.column k.0) (value_same-resting b x y f h k.1)
 

@@ -37,7 +37,7 @@ pub enum Candidate {
 }
 
 /// Looks for a verdict on the linear program that the problem is below these splits, its columns taken as continuous. It
-/// starts at the basis `start`, or at that of the rows, and takes at most `steps` steps. It may give up at any time.
+/// starts at the basis `start`, or at that of the rows, and takes at most `steps` steps, or a million where that is 0. It may give up at any time.
 pub fn propose(
     alloc: Global,
     problem: &Instance,
@@ -52,6 +52,11 @@ pub fn propose(
     }
 }
 
+// This search can go in a circle, so it gives up in the end where it has no limit, too.
+fn most_steps(steps: u32) -> u32 {
+    if steps == 0 { 1_000_000 } else { steps }
+}
+
 fn searched(
     alloc: Global,
     problem: &Instance,
@@ -64,7 +69,7 @@ fn searched(
         return Err(Stop::NoFit);
     }
     let start = start_of(alloc, &model, start)?;
-    let mut state = State::at_basis(alloc, model, start, steps)?;
+    let mut state = State::at_basis(alloc, model, start, most_steps(steps))?;
     match run(&mut state, alloc)? {
         End::Optimal => optimum(alloc, &state),
         End::Infeasible(blocked) => contradiction(alloc, &state, &blocked),

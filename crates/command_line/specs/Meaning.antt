@@ -114,9 +114,9 @@ limit_by least greatest absent (Some word) = limit_of least greatest word
 abbrev pub split_limit_in : List Row → Option ℕ
 split_limit_in rows = limit_by 0 1000000 10000 (first_of (codes "nodlim") rows)
 
--- the most steps of the simplex method at a node: the value of `--pivlim`, or 100,000
+-- the most steps of the simplex method at a node: the value of `--pivlim`, of which 0 is no limit, or 100,000
 abbrev pub pivot_limit_in : List Row → Option ℕ
-pivot_limit_in rows = limit_by 1 1000000 100000 (first_of (codes "pivlim") rows)
+pivot_limit_in rows = limit_by 0 1000000 100000 (first_of (codes "pivlim") rows)
 
 -- what the options ask for: each part must be there
 abbrev pub settings_in : List Row → Option Settings

@@ -190,11 +190,14 @@ fn split_limit_in(matches: &ArgMatches<'_>) -> Option<u32>
     }
 }
 
+// What `--pivlim` says for a run of any length.
+const NO_LIMIT: u32 = 0;
+
 fn pivot_limit_in(matches: &ArgMatches<'_>) -> Option<u32>
     ensures { result ≡ pivot_limit_in (given_in matches.now) }
 {
     match value_in(matches, "pivlim") {
-        Some(word) => limit_of(1, 1_000_000, word),
+        Some(word) => limit_of(NO_LIMIT, 1_000_000, word),
         None => Some(100_000),
     }
 }

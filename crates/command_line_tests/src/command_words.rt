@@ -108,7 +108,7 @@ usage <- --freemps|f|--check|--checkcert|c
 usage <- --freemps|f|--checkcert|c|--cert|d
 usage <- --freemps|f|--checkcert
 usage <- --freemps|f|--checkcert|c|--checkcert|c
-usage <- --freemps|f|--pivlim|0
+mps f, own direction, at most 0 steps, solve, no cert <- --freemps|f|--pivlim|0
 usage <- --freemps|f|--pivlim|1000001
 usage <- --freemps|f|--pivlim|99999999999
 usage <- --freemps|f|--pivlim|+1

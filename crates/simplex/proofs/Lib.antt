@@ -6,6 +6,7 @@ mod StateLemmas
 mod Crossing
 mod WeightItems
 mod PointNumbers
+mod RunLengths
 mod RayNumbers
 mod Narrowing
 mod NodeEnds

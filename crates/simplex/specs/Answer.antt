@@ -53,6 +53,12 @@ IsStuck p ds node limit (S.NoFit site) = IsSiteOf p ds node site
 IsStuck p ds node limit (S.PivotLimit bases) = IsLimited (system_of p ds (sides_of node.splits)) limit bases
 IsStuck p ds node limit S.NoMemory = Unit {0}
 
+-- it is not a limit of steps that stopped the work
+abbrev pub IsUnlimited : Stuck → Type 0
+IsUnlimited (S.NoFit site) = Unit {0}
+IsUnlimited (S.PivotLimit bases) = ⊥
+IsUnlimited S.NoMemory = Unit {0}
+
 -- a fault beside the run, as one of the run
 abbrev pub stop_of : Fault → RunFault
 stop_of (F.NoFit f) = R.NoFit f

@@ -1,5 +1,5 @@
 -- Runs of Bland's rule: their states and how they end.
-use Rattle.std.specs.Prelude.{ℕ, ◌≡◌, List, ◌∷◌, length}
+use Rattle.std.specs.Prelude.{ℕ, ◌≡◌, ◌≢◌, List, ◌∷◌, length}
 use Rattle.rational.specs.Rational.{Rational}
 use Rattle.milp.specs.Form.{number_at}
 use Rattle.basis.specs.System.{System, size}
@@ -41,14 +41,15 @@ pub record IsRunFault (s : System) (e : NoFit) : Type 0 where
   pub operation : IsRunOperation s e.a (operation_of e.op) e.b
   pub not_fit : DoesNotFit e
 
--- bases are all that a run of `limit` steps went through, the latest first, and one more step leads on
+-- bases are all that a run of `limit` steps went through, the latest first, and one more step leads on; a limit of 0 is none
 pub record IsLimited (s : System) (limit : ℕ) (bases : List (List Place)) : Type 0 where
+  pub some : limit ≢ 0
   pub last : List Place
   pub before : List (List Place)
   pub all : bases ≡ last ∷ before
   pub is_limit : IsPivotLimit s limit last before
 
--- a run of at most `limit` steps fails so
+-- a run of at most `limit` steps, or of any number where the limit is 0, fails so
 abbrev pub IsFaultOf : System → ℕ → RunFault → Type 0
 IsFaultOf s limit (NotFitting e) = IsRunFault s e
 IsFaultOf s limit (PivotLimit bases) = IsLimited s limit bases

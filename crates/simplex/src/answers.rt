@@ -8,7 +8,7 @@ ghost use Rattle.basis.specs.Node.{system_of, IsOverColumns};
 ghost use Rattle.basis.specs.Weights.{IsContradictory};
 ghost use Rattle.simplex.specs.Rays.{IsFault};
 ghost use Rattle.simplex.specs.Run.{IsEnded, IsFaultOf};
-ghost use Rattle.simplex.specs.Answer.{IsRelaxed, IsNodeFault, IsNodeStop, IsStuck, source_of, stop_of};
+ghost use Rattle.simplex.specs.Answer.{IsRelaxed, IsNodeFault, IsNodeStop, IsStuck, IsUnlimited, source_of, stop_of};
 ghost use Rattle.simplex.specs.declared.runs.End.TheVariants as EndOf;
 
 use crate::contradiction::{contradiction, contradiction_weights};
@@ -57,7 +57,7 @@ pub enum Relaxed {
 /// have to be over the instance's columns, and the splits on them.
 ///
 /// `NoFit` tells of an operation of the work at the node whose result really does not fit, `PivotLimit` that the run has
-/// more than `pivot_limit` steps.
+/// more than `pivot_limit` steps. A limit of 0 is none: each run ends, and `PivotLimit` never comes.
 pub fn relax(
     alloc: Global,
     instance: &Instance,
@@ -68,6 +68,7 @@ pub fn relax(
     requires columns { IsOverColumns instance.now derived.now (sides_of node.now.splits) }
     ensures relaxed { IfOk result (IsRelaxed instance.now derived.now (sides_of node.now.splits)) }
     ensures stuck { IfErr result (IsStuck instance.now derived.now node.now pivot_limit) }
+    ensures unlimited { pivot_limit ≡ 0 → IfErr result IsUnlimited }
 {
     match from_system(alloc, instance, node, derived, pivot_limit) {
         Ok(found) => Ok(found),

@@ -1,5 +1,5 @@
 // Runs of Bland's rule.
-ghost use Rattle.std.specs.Prelude.{ℕ, length, ◌≡◌, ◌+◌, IfOk, IfErr};
+ghost use Rattle.std.specs.Prelude.{ℕ, length, ◌≡◌, ◌≢◌, ◌+◌, IfOk, IfErr};
 ghost use Rattle.basis.specs.System.{AreBoundsInOrder};
 ghost use Rattle.simplex.specs.Run.{IsEnded, IsFaultOf};
 ghost use Rattle.simplex.specs.Steps.{IsAt, IsProgress};
@@ -66,12 +66,15 @@ pub(crate) enum Progress {
     Over(Ended),
 }
 
-/// The run of Bland's rule from its start, of at most `limit` steps.
+/// The run of Bland's rule from its start, of at most `limit` steps, or to its end where the limit is 0.
 pub(crate) fn run(alloc: Global, system: &System, limit: u32) -> Result<Ended, RunFault>
     requires in_order { AreBoundsInOrder system.now }
     ensures ended { IfOk result (λ e. IsEnded system.now e.dictionary e.values.items e.end) }
     ensures fault { IfErr result (IsFaultOf system.now limit) }
 {
+    if limit == 0 {
+        return run_to_end(alloc, system);
+    }
     let mut state = State::start(alloc, system)?;
     for _step in 0..limit {
         match proceed(alloc, system, state)? {
@@ -80,6 +83,21 @@ pub(crate) fn run(alloc: Global, system: &System, limit: u32) -> Result<Ended, R
         }
     }
     finish(system, state)
+}
+
+// The whole run: it never comes to one basis twice, so it is shorter than there are bases.
+fn run_to_end(alloc: Global, system: &System) -> Result<Ended, RunFault>
+    requires in_order { AreBoundsInOrder system.now }
+    ensures ended { IfOk result (λ e. IsEnded system.now e.dictionary e.values.items e.end) }
+    ensures fault { (limit : ℕ) → IfErr result (IsFaultOf system.now limit) }
+{
+    let mut state = State::start(alloc, system)?;
+    loop {
+        match proceed(alloc, system, state)? {
+            Progress::On(next) => state = next,
+            Progress::Over(ended) => return Ok(ended),
+        }
+    }
 }
 
 // One step, where the rule leads on.
@@ -98,7 +116,7 @@ fn proceed(alloc: Global, system: &System, state: State) -> Result<Progress, Run
 fn finish(system: &System, state: State) -> Result<Ended, RunFault>
     requires { IsAt system.now state }
     ensures ended { IfOk result (λ e. IsEnded system.now e.dictionary e.values.items e.end) }
-    ensures fault { (limit : ℕ) → length state.bases ≡ limit + 1 → IfErr result (IsFaultOf system.now limit) }
+    ensures fault { (limit : ℕ) → limit ≢ 0 → length state.bases ≡ limit + 1 → IfErr result (IsFaultOf system.now limit) }
 {
     match decide(system, &state)? {
         Choice::Next(_) => Err(RunFault::PivotLimit(state.bases)),

@@ -22,8 +22,10 @@ use std::test::Fail;
 const MODEL: &str =
     "ROWS| N cost|COLUMNS| x cost 1| y cost 0|BOUNDS| LO b x 2| UP b x 5| UP b y 1|ENDATA|";
 
-// A point that is not best, one outside, and ones with too few and too many numbers: the candidate is refused, and Bland's run decides.
+// A point that is not best, one outside, and ones with too few and too many numbers: the candidate is refused, and Bland's run decides,
+// with a limit of steps or, where that is 0, without.
 const WRONG_POINTS: &str = "\
+cert 1|size 0 2|verdict optimal|value 2|point 2 0|derived 0|tree|bound c1:1|end| => 0 optimal 3 0
 cert 1|size 0 2|verdict optimal|value 2|point 2 0|derived 0|tree|bound c1:1|end| => 9 optimal 3 0
 cert 1|size 0 2|verdict optimal|value 2|point 2 0|derived 0|tree|bound c1:1|end| => 9 optimal 1 0
 cert 1|size 0 2|verdict optimal|value 2|point 2 0|derived 0|tree|bound c1:1|end| => 9 optimal 2
@@ -45,9 +47,9 @@ const NO_FIT: &str = "\
 cert 1|size 0 1|verdict optimal|value 6|point 3|derived 0|tree|bound c1:2|end| => 9 optimal 170141183460469231731687303715884105727 => ROWS| N cost|COLUMNS| x cost 2|BOUNDS| LO b x 3|ENDATA|
 ";
 
-// A candidate that the checker accepts is the answer, even where no step of the run is allowed: here another best point.
+// A candidate that the checker accepts is the answer, even where one step of the run is allowed: here another best point.
 const RIGHT: &str = "\
-cert 1|size 0 2|verdict optimal|value 2|point 2 1|derived 0|tree|bound c1:1|end| => 0 optimal 2 1
+cert 1|size 0 2|verdict optimal|value 2|point 2 1|derived 0|tree|bound c1:1|end| => 1 optimal 2 1
 ";
 
 /// The problem without integer columns that a free MPS text declares.
