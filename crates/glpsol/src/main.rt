@@ -13,16 +13,16 @@ fn main(rt: HostRuntime) -> ExitCode {
     let mut out = RealSink::new(&rt);
     // a file that is made must not get the place of a closed output
     if !out.is_open() {
-        return ExitCode::from(closed().code());
+        return ExitCode::from(code_of(closed()));
     }
-    let answer = match words(&rt, alloc) {
+    let code = match words(&rt, alloc) {
         Ok(words) => {
             let mut files = RealStore::new(&rt, alloc);
-            run(&rt, alloc, words, &mut files, &mut out)
+            code_of(run(&rt, alloc, words, &mut files, &mut out))
         }
-        Err(_) => out_of_memory(alloc, &mut out),
+        Err(_) => code_of(out_of_memory(alloc, &mut out)),
     };
-    ExitCode::from(answer.code())
+    ExitCode::from(code)
 }
 
 // The answer where the output is closed.
@@ -53,4 +53,9 @@ fn words_of<R: Env + Alloc<A = Global>>(rt: &R, alloc: Global) -> io::Result<Vec
         words.push(word)?;
     }
     Ok(words)
+}
+
+// The status of an answer, which is let go here: a function that drops an answer is dear to prove.
+fn code_of(answer: Answer) -> u8 {
+    answer.code()
 }

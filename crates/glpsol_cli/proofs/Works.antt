@@ -97,12 +97,12 @@ module _ (s : Settings) (text : List ℕ) (data_texts tables : List (List ℕ)) 
   reads_so before r (Err e) h of = tt
 
 -- behind a table
-pub reads_on : {E : Type 0} (s : Settings) (table printed : List ℕ) (pending : Pending) (r : Reading) (made : Result Executed E)
-    → ((text : List ℕ) (data_texts tables : List (List ℕ)) (before : List TableFile) → making_of_math_prog text data_texts tables ≡ Some (record { printed = printed; files = before }) → IsPending text data_texts tables pending → IsReading before text data_texts (tables ++ table ∷ []) r)
+pub reads_on : {E : Type 0} (s : Settings) (table printed : List ℕ) (pending taken : Pending) → taken ≡ pending → (r : Reading) (made : Result Executed E)
+    → ((text : List ℕ) (data_texts tables : List (List ℕ)) (before : List TableFile) → making_of_math_prog text data_texts tables ≡ Some (record { printed = printed; files = before }) → IsPending text data_texts tables taken → IsReading before text data_texts (tables ++ table ∷ []) r)
     → IfOk made (IsOfReading s r)
     → IfOk made (λ e. (text : List ℕ) (data_texts tables : List (List ℕ)) (files : List TableFile) → s.language ≡ MathProg → making_of_math_prog text data_texts tables ≡ Some (record { printed = printed; files = files }) → IsPending text data_texts tables pending → IsExecutionOf (file_pieces files) s text data_texts (tables ++ table ∷ []) e)
-reads_on s table printed pending r (Ok e) read of = λ text data_texts tables files is making pends. reads s text data_texts (tables ++ table ∷ []) is files r e (read text data_texts tables files making pends) of
-reads_on s table printed pending r (Err e) read of = tt
+reads_on s table printed pending taken same r (Ok e) read of = λ text data_texts tables files is making pends. reads s text data_texts (tables ++ table ∷ []) is files r e (read text data_texts tables files making (subst (IsPending text data_texts tables) (sym same) pends)) of
+reads_on s table printed pending taken same r (Err e) read of = tt
 
 -- ---- all texts
 

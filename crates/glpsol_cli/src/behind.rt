@@ -69,7 +69,7 @@ fn at_point(
         → (meaning_in settings.now text data_texts tables).behind point.now ≡ behind_in b) }
 {
     let Later { printed, rest } = later;
-    let after = after_solve(alloc, rest, problem, point)?;
+    let after = after_solve(alloc, rest.into_inner(), problem, point)?;
     let Afterwards {
         printed: more,
         files,

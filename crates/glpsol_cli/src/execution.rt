@@ -16,6 +16,7 @@ use gmpl_reader::{MathProgFault, Pending, Reading, ReadingEnd, Rest, read_math_p
 use instance::{Direction, Instance};
 use model_text::ReadError;
 use mps_reader::read_mps;
+use sqlite_items::Boxed;
 use std::alloc::{AllocError, Global};
 
 // What the execution of texts comes to.
@@ -43,7 +44,7 @@ pub enum Halt {
 pub struct Waiting {
     // what was printed before
     pub printed: String,
-    pub pending: Pending,
+    pub pending: Boxed<Pending>,
 }
 
 #[derive(Drop)]
@@ -59,7 +60,7 @@ pub enum ExecutionEnd {
 pub struct Later {
     // what was printed before
     pub printed: String,
-    pub rest: Rest,
+    pub rest: Boxed<Rest>,
 }
 
 /// Executes the texts up to `solve` or to the first table that is to be read, the model's first and then those of the data files. The
@@ -91,7 +92,7 @@ pub fn execute_on(
         → IsPending text data_texts tables waiting.pending → IsExecutionOf (file_pieces files) settings.now text data_texts (tables ++ table_text.now ∷ []) e) }
 {
     let Waiting { printed, pending } = waiting;
-    let reading = read_on(alloc, pending, printed, table_text)?;
+    let reading = read_on(alloc, pending.into_inner(), printed, table_text)?;
     of_reading(alloc, settings, reading)
 }
 

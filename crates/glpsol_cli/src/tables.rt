@@ -147,7 +147,7 @@ fn read_table<S: Store>(
 fn table_name(alloc: Global, waiting: &Waiting) -> Result<Name, AllocError>
     ensures { IfOk result (λ name. name ≡ waiting.now.pending.pause.name) }
 {
-    Name::new(alloc, waiting.pending.pause.name.as_str())
+    Name::new(alloc, waiting.pending.get().pause.name.as_str())
 }
 
 // The run with the text of one more table.

@@ -1,6 +1,7 @@
 // Statements that declare, behind their words.
 ghost use Rattle.std.specs.Prelude.{◌≡◌};
 ghost use Rattle.gmpl_input.specs.Rules.{Reads};
+ghost use Rattle.gmpl_expressions.specs.Grammar as expressions;
 ghost use Rattle.gmpl_declarations.specs.Declarations as spec;
 
 use crate::attributes::attributes;
@@ -10,6 +11,7 @@ use gmpl_input::{Cursor, ParseError};
 use gmpl_syntax::{Constraint, Declaration, Direction, Expr, Head, Objective, Relation};
 use gmpl_token::TokenKind;
 use gmpl_words::{Declared, bound_relation, may_follow};
+use sqlite_items::Boxed;
 
 /// A set, a parameter or a variable.
 #[tactic(auto, unfolding(crate::specs::Declarations::declaration))]
@@ -67,23 +69,42 @@ fn optional_last_side(
     }
 }
 
+// An expression in a `Boxed`, where others are read before it is used: a function that owns a tree by value is dear to prove.
+fn boxed_expression(reader: Reader, tokens: &mut Cursor<'_>) -> Result<Boxed<Expr>, ParseError>
+    ensures { Reads (expressions.expression reader.depth tokens.old) result tokens.new }
+{
+    let made = reader.expression(tokens)?;
+    Ok(Boxed::new(reader.alloc, made)?)
+}
+
 // The sides of a constraint with this head.
 #[tactic(auto, unfolding(crate::specs::Declarations::sides))]
 fn sides(reader: Reader, tokens: &mut Cursor<'_>, head: Head) -> Result<Constraint, ParseError>
     ensures { Reads (spec.sides reader.depth head tokens.old) result tokens.new }
 {
-    let left = reader.expression(tokens)?;
+    let left = boxed_expression(reader, tokens)?;
     tokens.eat(TokenKind::Comma);
     let relation = first_relation(tokens)?;
-    let right = reader.expression(tokens)?;
+    let right = boxed_expression(reader, tokens)?;
     let last = optional_last_side(reader, tokens, relation)?;
     Ok(Constraint {
         head,
-        left,
+        left: left.into_inner(),
         relation,
-        right,
+        right: right.into_inner(),
         last,
     })
+}
+
+fn boxed_sides(
+    reader: Reader,
+    tokens: &mut Cursor<'_>,
+    head: Head,
+) -> Result<Boxed<Constraint>, ParseError>
+    ensures { Reads (spec.sides reader.depth head tokens.old) result tokens.new }
+{
+    let made = sides(reader, tokens, head)?;
+    Ok(Boxed::new(reader.alloc, made)?)
 }
 
 /// A constraint.
@@ -93,9 +114,9 @@ pub fn constraint(reader: Reader, tokens: &mut Cursor<'_>) -> Result<Constraint,
 {
     let head = head(reader, tokens)?;
     tokens.expect(TokenKind::Colon)?;
-    let constraint = sides(reader, tokens, head)?;
+    let constraint = boxed_sides(reader, tokens, head)?;
     tokens.expect(TokenKind::Semicolon)?;
-    Ok(constraint)
+    Ok(constraint.into_inner())
 }
 
 /// An objective.
@@ -109,11 +130,11 @@ pub fn objective(
 {
     let head = head(reader, tokens)?;
     tokens.expect(TokenKind::Colon)?;
-    let form = reader.expression(tokens)?;
+    let form = boxed_expression(reader, tokens)?;
     tokens.expect(TokenKind::Semicolon)?;
     Ok(Objective {
         direction,
         head,
-        form,
+        form: form.into_inner(),
     })
 }

@@ -123,11 +123,8 @@ impl Reader {
     {
         let base = self.primary(tokens)?;
         if tokens.eat(TokenKind::Power) {
-            let exponent = self.exponent(tokens)?;
-            Ok(Expr::Power(
-                Boxed::new(self.alloc, base)?,
-                Boxed::new(self.alloc, exponent)?,
-            ))
+            let base = Boxed::new(self.alloc, base)?;
+            Ok(Expr::Power(base, self.exponent(tokens)?))
         } else {
             Ok(base)
         }
@@ -205,17 +202,14 @@ impl Reader {
         if !tokens.eat(TokenKind::DotDot) {
             return Ok(first);
         }
-        let last = self.chain(tokens, Level::Join)?;
+        let first = Boxed::new(self.alloc, first)?;
+        let last = self.boxed_chain(tokens, Level::Join)?;
         let step = if tokens.eat(TokenKind::By) {
             Some(self.boxed_chain(tokens, Level::Join)?)
         } else {
             None
         };
-        Ok(Expr::Range(
-            Boxed::new(self.alloc, first)?,
-            Boxed::new(self.alloc, last)?,
-            step,
-        ))
+        Ok(Expr::Range(first, last, step))
     }
 
     #[cycle(grammar)]
@@ -230,23 +224,19 @@ impl Reader {
     fn compared(
         self,
         tokens: &mut Cursor<'_>,
-        left: Expr,
+        left: Boxed<Expr>,
         relation: Relation,
     ) -> Result<Expr, ParseError>
         ensures { Reads (spec.compared (spec.inside self.depth) left (Some relation) tokens.old) result tokens.new }
     {
         tokens.take();
-        let right = self.chain(tokens, Level::Union)?;
-        Ok(Expr::Compared(
-            relation,
-            Boxed::new(self.alloc, left)?,
-            Boxed::new(self.alloc, right)?,
-        ))
+        let right = self.boxed_chain(tokens, Level::Union)?;
+        Ok(Expr::Compared(relation, left, right))
     }
 
     #[cycle(grammar)]
     #[tactic(auto, unfolding(crate::specs::Grammar::not_related, crate::specs::Grammar::part))]
-    fn not_related(self, tokens: &mut Cursor<'_>, left: Expr) -> Result<Expr, ParseError>
+    fn not_related(self, tokens: &mut Cursor<'_>, left: Boxed<Expr>) -> Result<Expr, ParseError>
         ensures { Reads (spec.not_related (spec.inside self.depth) left tokens.old) result tokens.new }
     {
         tokens.take();
@@ -263,9 +253,9 @@ impl Reader {
     {
         let left = self.chain(tokens, Level::Union)?;
         match relation(tokens.peek()) {
-            Some(relation) => self.compared(tokens, left, relation),
+            Some(relation) => self.compared(tokens, Boxed::new(self.alloc, left)?, relation),
             None => match tokens.peek() {
-                Some(TokenKind::Not) => self.not_related(tokens, left),
+                Some(TokenKind::Not) => self.not_related(tokens, Boxed::new(self.alloc, left)?),
                 _ => Ok(left),
             },
         }
@@ -375,9 +365,10 @@ impl Reader {
         ensures { Reads (spec.entry_over (spec.inside self.depth) index tokens.old) result tokens.new }
     {
         tokens.take();
+        let index = index_components(self.alloc, index)?;
         let set = self.chain(tokens, Level::Union)?;
         Ok(Entry {
-            index: Some(index_components(self.alloc, index)?),
+            index: Some(index),
             set,
         })
     }
@@ -528,10 +519,11 @@ impl Reader {
     }
 
     #[cycle(grammar)]
-    fn exponent(self, tokens: &mut Cursor<'_>) -> Result<Expr, ParseError>
+    fn exponent(self, tokens: &mut Cursor<'_>) -> Result<Boxed<Expr>, ParseError>
         ensures { Reads ((spec.inside self.depth).exponent tokens.old) result tokens.new }
     {
-        self.deeper()?.signed(tokens)
+        let part = self.deeper()?.signed(tokens)?;
+        Ok(Boxed::new(self.alloc, part)?)
     }
 }
 

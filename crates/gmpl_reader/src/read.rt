@@ -22,6 +22,7 @@ use gmpl_parse::{Model, ParseError, parse};
 use gmpl_solution::Member;
 use instance::{Instance, Point};
 use model_text::ReadError;
+use sqlite_items::Boxed;
 use std::alloc::{AllocError, Global};
 
 /// What the execution of a text comes to, up to where it stops.
@@ -38,8 +39,8 @@ pub struct Reading {
 /// statement that cannot be executed.
 #[derive(Drop)]
 pub enum ReadingEnd {
-    Problem(Instance, Rest),
-    Table(Pending),
+    Problem(Instance, Boxed<Rest>),
+    Table(Boxed<Pending>),
     Fault(ModelFault),
 }
 
@@ -91,7 +92,9 @@ pub fn read_on(
         → IsPending text data_texts tables pending → IsReading before text data_texts (tables ++ table_text.now ∷ []) r) }
 {
     let Pending { model, pause } = pending;
-    Ok(reading_of(resume(alloc, model, pause, printed, table_text)?))
+    let executed = resume(alloc, model, pause, printed, table_text)?;
+    let reading = reading_of(alloc, executed)?;
+    Ok(reading)
 }
 
 // The model that a text is.
@@ -164,26 +167,29 @@ fn executed(alloc: Global, model: LoadedModel) -> Result<Reading, AllocError>
     requires { AreObjects (all_declared model) }
     ensures { IfOk result (spec.IsReadingOf (execution model)) }
 {
-    Ok(reading_of(generate(alloc, model)?))
+    let executed = generate(alloc, model)?;
+    let reading = reading_of(alloc, executed)?;
+    Ok(reading)
 }
 
-fn reading_of(executed: Executed) -> Reading
-    ensures { (run : Executing) → IsExecuted run executed → spec.IsReadingOf run result }
+fn reading_of(alloc: Global, executed: Executed) -> Result<Reading, AllocError>
+    ensures { IfOk result (λ reading. (run : Executing) → IsExecuted run executed → spec.IsReadingOf run reading) }
 {
     let Executed {
         printed,
         files,
         end,
     } = executed;
-    Reading {
+    let end = reading_end(alloc, end)?;
+    Ok(Reading {
         printed,
         files,
-        end: reading_end(end),
-    }
+        end,
+    })
 }
 
-fn reading_end(end: End) -> ReadingEnd
-    ensures { spec.IsSameEnd end result }
+fn reading_end(alloc: Global, end: End) -> Result<ReadingEnd, AllocError>
+    ensures { IfOk result (spec.IsSameEnd end) }
 {
     match end {
         End::Problem(model, made) => {
@@ -197,10 +203,14 @@ fn reading_end(end: End) -> ReadingEnd
                 columns,
                 rows,
             };
-            ReadingEnd::Problem(problem, rest)
+            let rest = Boxed::new(alloc, rest)?;
+            Ok(ReadingEnd::Problem(problem, rest))
         }
-        End::Table(model, pause) => ReadingEnd::Table(Pending { model, pause }),
-        End::Fault(fault) => ReadingEnd::Fault(fault),
+        End::Table(model, pause) => {
+            let pending = Boxed::new(alloc, Pending { model, pause })?;
+            Ok(ReadingEnd::Table(pending))
+        }
+        End::Fault(fault) => Ok(ReadingEnd::Fault(fault)),
     }
 }
 

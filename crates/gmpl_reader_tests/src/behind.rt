@@ -9,6 +9,7 @@ use fraction::Frac;
 use gmpl_generate::ModelFault;
 use gmpl_reader::{Afterwards, MathProgFault, Reading, ReadingEnd, Rest, TableFile, after_solve};
 use instance::{Instance, Point, activity};
+use sqlite_items::Boxed;
 use std::alloc::{AllocError, Global};
 use std::test::Fail;
 
@@ -86,7 +87,7 @@ fn after_word(alloc: Global, after: Afterwards) -> Result<String, AllocError> {
 fn at_point(
     alloc: Global,
     problem: &Instance,
-    rest: Rest,
+    rest: Boxed<Rest>,
     point: &Point,
 ) -> Result<String, AllocError> {
     if point.as_slice().len() != problem.columns().len() {
@@ -95,7 +96,7 @@ fn at_point(
     if !all_fit(problem, point) {
         return "a row that doesn't fit".to_string(alloc);
     }
-    let after = after_solve(alloc, rest, problem, point)?;
+    let after = after_solve(alloc, rest.into_inner(), problem, point)?;
     after_word(alloc, after)
 }
 

@@ -2,6 +2,7 @@
 use crate::rows::{Subject, check, split};
 use crate::words::{end_word, read, with_lines};
 use gmpl_reader::{Pending, Reading, ReadingEnd, TableFile, read_on};
+use sqlite_items::Boxed;
 use std::alloc::{AllocError, Global};
 use std::test::Fail;
 
@@ -65,22 +66,22 @@ fn push_name(alloc: Global, told: &mut String, name: &str) -> Result<(), AllocEr
 
 fn read_further(
     alloc: Global,
-    pending: Pending,
+    pending: Boxed<Pending>,
     printed: String,
     text: &str,
 ) -> Result<Reading, AllocError> {
     let text = with_lines(alloc, text, "|")?;
-    read_on(alloc, pending, printed, &text)
+    read_on(alloc, pending.into_inner(), printed, &text)
 }
 
 fn behind_table(
     alloc: Global,
     told: &mut String,
-    pending: Pending,
+    pending: Boxed<Pending>,
     printed: String,
     text: &str,
 ) -> Result<Reading, AllocError> {
-    push_name(alloc, told, pending.pause.name.as_str())?;
+    push_name(alloc, told, pending.get().pause.name.as_str())?;
     let reading = read_further(alloc, pending, printed, text)?;
     push_files(alloc, told, &reading.files)?;
     Ok(reading)

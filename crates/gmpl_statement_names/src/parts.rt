@@ -1,11 +1,12 @@
 // The names of the parts of statements, resolved.
 ghost use Rattle.gmpl_names.specs.Expressions.{Follows};
+ghost use Rattle.gmpl_names.specs.Expressions as names;
 ghost use Rattle.gmpl_statement_names.specs.Statements as spec;
 
 use gmpl_names::{Names, NamesError, resolve_expr, resolve_indexing, room_for};
 use gmpl_resolved as resolved;
 use gmpl_syntax::{Attribute, Constraint, Declaration, Expr, Head, Indexing, Objective};
-use sqlite_items::Items;
+use sqlite_items::{Boxed, Items};
 use std::alloc::Global;
 
 pub(crate) fn optional_indexing(
@@ -20,6 +21,19 @@ pub(crate) fn optional_indexing(
         None => Ok(None),
         Some(whole) => Ok(Some(resolve_indexing(alloc, objects, scope, whole)?)),
     }
+}
+
+// A resolved part is held in a `Boxed` while others are resolved, since a function that owns a tree by value is dear to prove.
+pub(crate) fn boxed_expr(
+    alloc: Global,
+    objects: &Names,
+    scope: &mut Names,
+    whole: &Expr,
+) -> Result<Boxed<resolved::Expr>, NamesError>
+    ensures { Follows (names.expr objects.now whole.now scope.old) result scope.new }
+{
+    let made = resolve_expr(alloc, objects, scope, whole)?;
+    Ok(Boxed::new(alloc, made)?)
 }
 
 pub(crate) fn optional_side(
@@ -115,14 +129,14 @@ pub(crate) fn constraint(
     ensures { Follows (spec.constraint objects.now whole.now scope.old) result scope.new }
 {
     let head = head(alloc, objects, scope, &whole.head)?;
-    let left = resolve_expr(alloc, objects, scope, &whole.left)?;
-    let right = resolve_expr(alloc, objects, scope, &whole.right)?;
+    let left = boxed_expr(alloc, objects, scope, &whole.left)?;
+    let right = boxed_expr(alloc, objects, scope, &whole.right)?;
     let last = optional_side(alloc, objects, scope, &whole.last)?;
     Ok(resolved::Constraint {
         head,
-        left,
+        left: left.into_inner(),
         relation: whole.relation,
-        right,
+        right: right.into_inner(),
         last,
     })
 }

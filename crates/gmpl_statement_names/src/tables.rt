@@ -3,11 +3,12 @@ ghost use Rattle.std.specs.Prelude.{◌≡◌, IfOk};
 ghost use Rattle.gmpl_names.specs.Expressions.{Follows, Gives};
 ghost use Rattle.gmpl_statement_names.specs.Statements as spec;
 
+use crate::parts::boxed_expr;
 use gmpl_names::{Names, NamesError, resolve_expr, resolve_indexing, room_for};
 use gmpl_resolved as resolved;
 use gmpl_syntax::{Expr, InputColumn, OutputColumn, SyntaxFaultKind, TableInput, TableOutput};
 use gmpl_text::Text;
-use sqlite_items::Items;
+use sqlite_items::{Boxed, Items};
 use std::alloc::{AllocError, Global};
 
 fn driver(scope: &Names, name: &Text) -> Result<(), NamesError>
@@ -149,9 +150,12 @@ fn output_column(
 ) -> Result<resolved::OutputColumn, NamesError>
     ensures { Follows (spec.output_column objects.now whole.now scope.old) result scope.new }
 {
-    let value = resolve_expr(alloc, objects, scope, &whole.value)?;
+    let value = boxed_expr(alloc, objects, scope, &whole.value)?;
     let field = written_field(alloc, &whole.value, &whole.field)?;
-    Ok(resolved::OutputColumn { value, field })
+    Ok(resolved::OutputColumn {
+        value: value.into_inner(),
+        field,
+    })
 }
 
 fn output_columns(
@@ -175,7 +179,7 @@ fn records(
     alloc: Global,
     objects: &Names,
     scope: &mut Names,
-    file: resolved::Expr,
+    file: Boxed<resolved::Expr>,
     whole: &TableOutput,
 ) -> Result<resolved::Action, NamesError>
     ensures { Follows (spec.records objects.now file whole.now scope.old) result scope.new }
@@ -185,7 +189,7 @@ fn records(
     let columns = output_columns(alloc, objects, scope, whole.columns.as_slice())?;
     scope.truncate(before);
     Ok(resolved::Action::TableOutput(resolved::TableOutput {
-        file,
+        file: file.into_inner(),
         domain,
         columns,
     }))
@@ -202,6 +206,6 @@ pub(crate) fn table_output(
     ensures { Follows (spec.table_output objects.now whole.now scope.old) result scope.new }
 {
     driver(scope, &whole.driver)?;
-    let file = resolve_expr(alloc, objects, scope, &whole.file)?;
+    let file = boxed_expr(alloc, objects, scope, &whole.file)?;
     records(alloc, objects, scope, file, whole)
 }

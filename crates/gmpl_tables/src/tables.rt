@@ -2,6 +2,7 @@
 ghost use Rattle.std.specs.Prelude.{◌≡◌, []};
 ghost use Rattle.gmpl_input.specs.Rules.{Reads, further, further_from};
 ghost use Rattle.gmpl_declarations.specs.Parts as parts;
+ghost use Rattle.gmpl_expressions.specs.Grammar as expressions;
 ghost use Rattle.gmpl_tables.specs.Tables as spec;
 
 use gmpl_declarations::name;
@@ -11,7 +12,7 @@ use gmpl_syntax::{Expr, InputColumn, OutputColumn, TableInput, TableOutput};
 use gmpl_text::Text;
 use gmpl_token::TokenKind;
 use gmpl_words::{is_input, is_output};
-use sqlite_items::Items;
+use sqlite_items::{Boxed, Items};
 use std::alloc::Global;
 
 // ---- the driver and the file
@@ -26,12 +27,23 @@ fn driver(alloc: Global, tokens: &mut Cursor<'_>) -> Result<Text, ParseError>
     }
 }
 
+// A function that owns a tree by value across other reads is dear to prove.
+fn boxed_expression(reader: Reader, tokens: &mut Cursor<'_>) -> Result<Boxed<Expr>, ParseError>
+    ensures { Reads (expressions.expression reader.depth tokens.old) result tokens.new }
+{
+    let made = reader.expression(tokens)?;
+    Ok(Boxed::new(reader.alloc, made)?)
+}
+
 #[tactic(auto, unfolding(crate::specs::Tables::driver_and_file))]
-fn driver_and_file(reader: Reader, tokens: &mut Cursor<'_>) -> Result<(Text, Expr), ParseError>
+fn driver_and_file(
+    reader: Reader,
+    tokens: &mut Cursor<'_>,
+) -> Result<(Text, Boxed<Expr>), ParseError>
     ensures { Reads (spec.driver_and_file reader.depth tokens.old) result tokens.new }
 {
     let driver = driver(reader.alloc, tokens)?;
-    let file = reader.expression(tokens)?;
+    let file = boxed_expression(reader, tokens)?;
     tokens.expect(TokenKind::Colon)?;
     Ok((driver, file))
 }
@@ -129,7 +141,7 @@ pub fn table_input(
     Ok(TableInput {
         name,
         driver,
-        file,
+        file: file.into_inner(),
         set,
         keys,
         columns,
@@ -193,9 +205,12 @@ fn output_field(
 fn output_column(reader: Reader, tokens: &mut Cursor<'_>) -> Result<OutputColumn, ParseError>
     ensures { Reads (spec.output_column reader.depth tokens.old) result tokens.new }
 {
-    let value = reader.expression(tokens)?;
-    let field = output_field(reader.alloc, tokens, is_name(&value))?;
-    Ok(OutputColumn { value, field })
+    let value = boxed_expression(reader, tokens)?;
+    let field = output_field(reader.alloc, tokens, is_name(value.get()))?;
+    Ok(OutputColumn {
+        value: value.into_inner(),
+        field,
+    })
 }
 
 fn further_columns(
@@ -243,7 +258,7 @@ pub fn table_output(
         name,
         domain,
         driver,
-        file,
+        file: file.into_inner(),
         columns,
     })
 }

@@ -41,6 +41,9 @@ is_of_time text = bytes_eq text (codes "gmtime") || (bytes_eq text (codes "str2t
 abbrev pub is_left_out : List ℕ → Bool
 is_left_out text = is_inexact text || (is_random text || is_of_time text)
 
+abbrev pub left_out : List ℕ → Option Function
+left_out text = if is_left_out text then Some f.LeftOut else None
+
 abbrev pub function_word : List ℕ → Option Function
 function_word text =
     if bytes_eq text (codes "abs") then Some f.Abs
@@ -53,8 +56,7 @@ function_word text =
     else if bytes_eq text (codes "card") then Some f.Card
     else if bytes_eq text (codes "length") then Some f.Length
     else if bytes_eq text (codes "substr") then Some f.Substr
-    else if is_left_out text then Some f.LeftOut
-    else None
+    else left_out text
 
 -- how many arguments a function takes behind the first, at least
 abbrev pub fewest_more : Function → ℕ

@@ -8,46 +8,56 @@ use gmpl_syntax::{Function, Iteration, Suffix};
 pub fn iteration_word(text: &str) -> Option<Iteration>
     ensures { result ≡ spec.iteration_word text.now }
 {
-    if text == "sum" {
-        Some(Iteration::Sum)
-    } else if text == "prod" {
-        Some(Iteration::Prod)
-    } else if text == "min" {
-        Some(Iteration::Min)
-    } else if text == "max" {
-        Some(Iteration::Max)
-    } else if text == "setof" {
-        Some(Iteration::Setof)
-    } else if text == "forall" {
-        Some(Iteration::Forall)
-    } else if text == "exists" {
-        Some(Iteration::Exists)
-    } else {
-        None
+    match text {
+        "sum" => Some(Iteration::Sum),
+        "prod" => Some(Iteration::Prod),
+        "min" => Some(Iteration::Min),
+        "max" => Some(Iteration::Max),
+        "setof" => Some(Iteration::Setof),
+        "forall" => Some(Iteration::Forall),
+        "exists" => Some(Iteration::Exists),
+        _ => None,
     }
 }
 
 fn is_inexact(text: &str) -> bool
     ensures { result ≡ spec.is_inexact text.now }
 {
-    text == "atan"
-        || (text == "cos"
-            || (text == "exp"
-                || (text == "log"
-                    || (text == "log10" || (text == "sin" || (text == "sqrt" || text == "tan"))))))
+    match text {
+        "atan" => true,
+        "cos" => true,
+        "exp" => true,
+        "log" => true,
+        "log10" => true,
+        "sin" => true,
+        "sqrt" => true,
+        "tan" => true,
+        _ => false,
+    }
 }
 
 fn is_random(text: &str) -> bool
     ensures { result ≡ spec.is_random text.now }
 {
-    text == "Irand224"
-        || (text == "Uniform01" || (text == "Uniform" || (text == "Normal01" || text == "Normal")))
+    match text {
+        "Irand224" => true,
+        "Uniform01" => true,
+        "Uniform" => true,
+        "Normal01" => true,
+        "Normal" => true,
+        _ => false,
+    }
 }
 
 fn is_of_time(text: &str) -> bool
     ensures { result ≡ spec.is_of_time text.now }
 {
-    text == "gmtime" || (text == "str2time" || text == "time2str")
+    match text {
+        "gmtime" => true,
+        "str2time" => true,
+        "time2str" => true,
+        _ => false,
+    }
 }
 
 fn is_left_out(text: &str) -> bool
@@ -56,34 +66,32 @@ fn is_left_out(text: &str) -> bool
     is_inexact(text) || (is_random(text) || is_of_time(text))
 }
 
+fn left_out(text: &str) -> Option<Function>
+    ensures { result ≡ spec.left_out text.now }
+{
+    if is_left_out(text) {
+        Some(Function::LeftOut)
+    } else {
+        None
+    }
+}
+
 /// The function that a name before `(` means.
 pub fn function_word(text: &str) -> Option<Function>
     ensures { result ≡ spec.function_word text.now }
 {
-    if text == "abs" {
-        Some(Function::Abs)
-    } else if text == "ceil" {
-        Some(Function::Ceil)
-    } else if text == "floor" {
-        Some(Function::Floor)
-    } else if text == "trunc" {
-        Some(Function::Trunc)
-    } else if text == "round" {
-        Some(Function::Round)
-    } else if text == "max" {
-        Some(Function::Max)
-    } else if text == "min" {
-        Some(Function::Min)
-    } else if text == "card" {
-        Some(Function::Card)
-    } else if text == "length" {
-        Some(Function::Length)
-    } else if text == "substr" {
-        Some(Function::Substr)
-    } else if is_left_out(text) {
-        Some(Function::LeftOut)
-    } else {
-        None
+    match text {
+        "abs" => Some(Function::Abs),
+        "ceil" => Some(Function::Ceil),
+        "floor" => Some(Function::Floor),
+        "trunc" => Some(Function::Trunc),
+        "round" => Some(Function::Round),
+        "max" => Some(Function::Max),
+        "min" => Some(Function::Min),
+        "card" => Some(Function::Card),
+        "length" => Some(Function::Length),
+        "substr" => Some(Function::Substr),
+        _ => left_out(text),
     }
 }
 
@@ -113,17 +121,12 @@ pub fn most_more(function: Function, left: usize) -> usize
 pub fn suffix_word(text: &str) -> Option<Suffix>
     ensures { result ≡ spec.suffix_word text.now }
 {
-    if text == "val" {
-        Some(Suffix::Value)
-    } else if text == "lb" {
-        Some(Suffix::LowerBound)
-    } else if text == "ub" {
-        Some(Suffix::UpperBound)
-    } else if text == "status" {
-        Some(Suffix::LeftOut)
-    } else if text == "dual" {
-        Some(Suffix::LeftOut)
-    } else {
-        None
+    match text {
+        "val" => Some(Suffix::Value),
+        "lb" => Some(Suffix::LowerBound),
+        "ub" => Some(Suffix::UpperBound),
+        "status" => Some(Suffix::LeftOut),
+        "dual" => Some(Suffix::LeftOut),
+        _ => None,
     }
 }

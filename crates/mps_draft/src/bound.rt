@@ -27,26 +27,17 @@ impl BoundKind {
     pub fn of_word(word: &str) -> Option<BoundKind>
         ensures { result ≡ bound_kind_of word.now }
     {
-        if word == "LO" {
-            Some(BoundKind::Lower)
-        } else if word == "UP" {
-            Some(BoundKind::Upper)
-        } else if word == "FX" {
-            Some(BoundKind::Fixed)
-        } else if word == "LI" {
-            Some(BoundKind::IntegerLower)
-        } else if word == "UI" {
-            Some(BoundKind::IntegerUpper)
-        } else if word == "FR" {
-            Some(BoundKind::Unbounded)
-        } else if word == "MI" {
-            Some(BoundKind::NoLower)
-        } else if word == "PL" {
-            Some(BoundKind::NoUpper)
-        } else if word == "BV" {
-            Some(BoundKind::Binary)
-        } else {
-            None
+        match word {
+            "LO" => Some(BoundKind::Lower),
+            "UP" => Some(BoundKind::Upper),
+            "FX" => Some(BoundKind::Fixed),
+            "LI" => Some(BoundKind::IntegerLower),
+            "UI" => Some(BoundKind::IntegerUpper),
+            "FR" => Some(BoundKind::Unbounded),
+            "MI" => Some(BoundKind::NoLower),
+            "PL" => Some(BoundKind::NoUpper),
+            "BV" => Some(BoundKind::Binary),
+            _ => None,
         }
     }
 

@@ -12,16 +12,18 @@ use crate::row::DeclaredRow;
 use fraction::Frac;
 use instance::{Builder, Direction, Entries, Instance, MAX_ENTRIES, MAX_ROWS, Name};
 use model_text::{add_columns, add_row};
+use sqlite_items::Boxed;
 use std::alloc::{AllocError, Global};
 
 /// The problem of a declaration. The entries of its rows are moved, and all else of it is let go before that.
 pub fn finish(alloc: Global, draft: Draft) -> Result<Instance, AllocError>
     ensures { IfOk result (λ problem. problem ≡ problem_of draft.entry) }
 {
+    let draft = Boxed::new(alloc, draft)?;
     let mut builder = Builder::new(alloc)?;
-    add_columns(alloc, &mut builder, draft.columns())?;
-    let direction = draft.direction();
-    let (objective, rows) = draft.into_rows();
+    add_columns(alloc, &mut builder, draft.get().columns())?;
+    let direction = draft.get().direction();
+    let (objective, rows) = draft.into_inner().into_rows();
     add_rows(alloc, &mut builder, rows)?;
     match objective {
         Some(objective) => set_objective(alloc, &mut builder, direction, objective)?,

@@ -26,16 +26,12 @@ impl RowKind {
     pub fn of_word(word: &str) -> Option<RowKind>
         ensures { result ≡ row_kind_of word.now }
     {
-        if word == "N" {
-            Some(RowKind::Free)
-        } else if word == "L" {
-            Some(RowKind::AtMost)
-        } else if word == "G" {
-            Some(RowKind::AtLeast)
-        } else if word == "E" {
-            Some(RowKind::Exactly)
-        } else {
-            None
+        match word {
+            "N" => Some(RowKind::Free),
+            "L" => Some(RowKind::AtMost),
+            "G" => Some(RowKind::AtLeast),
+            "E" => Some(RowKind::Exactly),
+            _ => None,
         }
     }
 

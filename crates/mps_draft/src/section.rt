@@ -24,24 +24,16 @@ impl Section {
     pub fn of_word(word: &str) -> Option<Section>
         ensures { result ≡ section_of word.now }
     {
-        if word == "NAME" {
-            Some(Section::NameLine)
-        } else if word == "OBJSENSE" {
-            Some(Section::SenseAwaited)
-        } else if word == "ROWS" {
-            Some(Section::Rows)
-        } else if word == "COLUMNS" {
-            Some(Section::Columns)
-        } else if word == "RHS" {
-            Some(Section::Rhs)
-        } else if word == "RANGES" {
-            Some(Section::Ranges)
-        } else if word == "BOUNDS" {
-            Some(Section::Bounds)
-        } else if word == "ENDATA" {
-            Some(Section::Ended)
-        } else {
-            None
+        match word {
+            "NAME" => Some(Section::NameLine),
+            "OBJSENSE" => Some(Section::SenseAwaited),
+            "ROWS" => Some(Section::Rows),
+            "COLUMNS" => Some(Section::Columns),
+            "RHS" => Some(Section::Rhs),
+            "RANGES" => Some(Section::Ranges),
+            "BOUNDS" => Some(Section::Bounds),
+            "ENDATA" => Some(Section::Ended),
+            _ => None,
         }
     }
 

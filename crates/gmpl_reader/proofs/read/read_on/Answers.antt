@@ -6,5 +6,5 @@ use Rattle.gmpl_reader.proofs.read.read_on.Goals as goal
 
 pub returns : goal.returns
 returns c =
-    reads_on c.args.pending (string_bytes c.args.printed) c.args.table_text.now c.reading_of.result
-    (c.reading_of.ensures (resumed c.args.pending.model c.args.pending.pause (string_bytes c.args.printed) c.args.table_text.now) c.in_ok-resume.ensures)
+    reads_on c.args.pending (string_bytes c.args.printed) c.args.table_text.now c.in_ok-reading.reading
+    (c.in_ok-reading.ensures (resumed c.args.pending.model c.args.pending.pause (string_bytes c.args.printed) c.args.table_text.now) c.in_ok-executed.ensures)
