@@ -1,7 +1,6 @@
 -- What it says where a search finds no verdict.
 use Rattle.std.specs.Prelude.{ℕ, ◌≤◌, ◌≡◌, ◌⊎◌, List, []}
 use Rattle.milp.specs.Problem.{Problem}
-use Rattle.milp.specs.Points.{IsImprovingRay}
 use Rattle.verdicts.specs.Certificate.{Side, Derived}
 use Rattle.basis.specs.Node.{system_of}
 use Rattle.simplex.specs.Run.{IsLimited}
@@ -15,6 +14,8 @@ use Rattle.search_tree.specs.Board.{Board, value_of}
 use Rattle.search_tree.specs.Honest.{IsHonestWay}
 use Rattle.search_tree.specs.Finished.{IsFinished, IsThere}
 use Rattle.search_tree.specs.Kept.{IsKept, closed_node}
+use Rattle.node_work.specs.Treatment.{IsEndless}
+use Rattle.branch_search.specs.declared.fault.EndlessAt.{EndlessAt}
 use Rattle.branch_search.specs.declared.fault.SearchFault.{SearchFault}
 use Rattle.branch_search.specs.declared.fault.SearchFault.TheVariants.{NoFit, PivotLimit, SplitLimit, Unbounded, NoMemory}
 
@@ -41,9 +42,14 @@ pub record IsOutOfSplits (p : Problem) (ds : List Derived) (splits : ℕ) : Type
   pub leaves : AllLeaves (λ sides leaf. IsThere (closed_node leaf) ⊎ IsTreated p ds sides (value_of board)) [] board.tree
   pub unfinished : ¬ (IsFinished board)
 
+-- the relaxation of a node on an honest way is unbounded by the last basis of Bland's run there, which gives the ray
+pub record IsEndlessAt (p : Problem) (ds : List Derived) (splits : ℕ) (e : EndlessAt) : Type 0 where
+  pub way : IsHonestWay p ds splits (sides_of e.node.splits)
+  pub endless : IsEndless p ds (sides_of e.node.splits) e.endless
+
 abbrev pub IsFault : Problem → List Derived → ℕ → ℕ → SearchFault → Type 0
 IsFault p ds splits pivots (NoFit site) = IsStuckAt p ds splits site
 IsFault p ds splits pivots (PivotLimit bases) = IsRunTooLong p ds splits pivots bases
 IsFault p ds splits pivots SplitLimit = IsOutOfSplits p ds splits
-IsFault p ds splits pivots (Unbounded endless) = IsImprovingRay p endless.ray
+IsFault p ds splits pivots (Unbounded endless) = IsEndlessAt p ds splits endless
 IsFault p ds splits pivots NoMemory = Unit {0}

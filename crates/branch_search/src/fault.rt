@@ -2,9 +2,16 @@
 ghost use Rattle.std.specs.Prelude.{◌≡◌};
 ghost use Rattle.branch_search.specs.declared.fault.SearchFault.TheVariants.{NoMemory};
 
-use search_node::{Bases, Site};
+use search_node::{Bases, Node, Site};
 use simplex::Endless;
 use std::alloc::AllocError;
+
+/// A node whose relaxation is unbounded, and the ray there that improves the problem without end.
+#[derive(Drop)]
+pub struct EndlessAt {
+    pub node: Node,
+    pub endless: Endless,
+}
 
 /// Why a search finds no verdict.
 #[derive(Drop)]
@@ -16,7 +23,7 @@ pub enum SearchFault {
     /// All splits that are allowed were made, and nodes are left that are to be split.
     SplitLimit,
     /// A ray improves the problem without end, where it has a feasible point.
-    Unbounded(Endless),
+    Unbounded(EndlessAt),
     /// The memory is not there.
     NoMemory,
 }

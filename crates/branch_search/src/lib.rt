@@ -7,5 +7,5 @@ mod rounds;
 mod settling;
 mod whole;
 
-pub use fault::SearchFault;
+pub use fault::{EndlessAt, SearchFault};
 pub use whole::search;

@@ -15,7 +15,7 @@ ghost use Rattle.branch_search.specs.Places.{MayStand, LeadTo, IsLeafOf};
 ghost use Rattle.branch_search.specs.Settled.{seat, IsOutcome, IsPut, IsWorked, IsSettled};
 ghost use Rattle.branch_search.specs.Faults.{IsFault};
 
-use crate::fault::SearchFault;
+use crate::fault::{EndlessAt, SearchFault};
 use instance::Point;
 use node_work::{Found, Fractional, Treatment};
 use search_node::{Node, Site};
@@ -59,7 +59,7 @@ pub(crate) fn settle(
         }
         Treatment::Feasible(found) => Ok(offered(alloc, board, lease, &node, found)?),
         Treatment::ToSplit(fractional) => Ok(divided(alloc, board, lease, &node, fractional)?),
-        Treatment::Unbounded(endless) => Err(SearchFault::Unbounded(endless)),
+        Treatment::Unbounded(endless) => Err(SearchFault::Unbounded(EndlessAt { node, endless })),
         Treatment::NotFitting(fault) => Err(SearchFault::NoFit(Site { node, fault })),
         Treatment::AtLimit(bases) => Err(SearchFault::PivotLimit(bases)),
     }

@@ -9,12 +9,14 @@ use sparse_factors::Stop;
 use std::alloc::{AllocError, Global};
 use tableau::{State, model_of, start_of};
 
-/// A point, weights that may show that none is better, and the basis that both were read from.
+/// A point, weights that may show that none is better, and the basis that both were read from. Where an integer column is not
+/// whole, `told` may have weights of what rests at the point that make the first such column alone.
 #[derive(Drop)]
 pub struct ProposedOptimum {
     pub point: Point,
     pub weights: Weights,
     pub basis: Basis,
+    pub told: Option<Weights>,
 }
 
 /// A point, and a ray along which the objective may improve without end from there.
@@ -71,7 +73,7 @@ fn searched(
     let start = start_of(alloc, &model, start)?;
     let mut state = State::at_basis(alloc, model, start, most_steps(steps))?;
     match run(&mut state, alloc)? {
-        End::Optimal => optimum(alloc, &state),
+        End::Optimal => optimum(alloc, problem.columns(), &state),
         End::Infeasible(blocked) => contradiction(alloc, &state, &blocked),
         End::Unbounded(endless) => endless_ray(alloc, &state, &endless),
     }

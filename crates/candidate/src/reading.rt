@@ -6,14 +6,15 @@ use crate::ending::{Blocked, Endless};
 use crate::proposal::{Candidate, ProposedOptimum, ProposedRay};
 use certificate::{Item, Items, Weights};
 use fraction::Frac;
-use instance::Point;
+use instance::{Column, Point};
 use search_node::Basis;
 use sparse_factors::{Stop, add, number_at, put, zeros};
 use std::alloc::{AllocError, Global};
 use tableau::{Model, State, places_of, prices_at};
 
-/// The point, the weights for the true costs, and the basis.
-pub(crate) fn optimum(alloc: Global, state: &State) -> Result<Candidate, Stop> {
+/// The point, the weights for the true costs, the basis, and what tells the number of the first integer column that is not
+/// whole.
+pub(crate) fn optimum(alloc: Global, columns: &[Column], state: &State) -> Result<Candidate, Stop> {
     let y = state.row_weights(alloc, &state.model.costs)?;
     let prices = prices_at(alloc, &state.model, &y, &state.model.costs)?;
     let weights = weights(alloc, &state.model, &prices)?;
@@ -24,7 +25,40 @@ pub(crate) fn optimum(alloc: Global, state: &State) -> Result<Candidate, Stop> {
         point,
         weights,
         basis,
+        told: telling(alloc, columns, state)?,
     }))
+}
+
+// Weights of what rests that make the first integer column alone that is not whole, if there is one and they fit.
+fn telling(alloc: Global, columns: &[Column], state: &State) -> Result<Option<Weights>, Stop> {
+    match first_fraction(columns, state) {
+        None => Ok(None),
+        Some(column) => match row_of(alloc, state, column) {
+            Ok(weights) => Ok(Some(weights)),
+            Err(Stop::NoMemory) => Err(Stop::NoMemory),
+            Err(_) => Ok(None),
+        },
+    }
+}
+
+fn first_fraction(columns: &[Column], state: &State) -> Option<usize> {
+    for j in 0..columns.len() {
+        if columns[j].integer() && !state.value_of(j).is_whole() {
+            return Some(j);
+        }
+    }
+    None
+}
+
+// A basic column's row of the table, as weights: the column is the sum of what they name.
+fn row_of(alloc: Global, state: &State, column: usize) -> Result<Weights, Stop> {
+    let mut unit = zeros(alloc, state.model.size())?;
+    put(&mut unit, column, Frac::one());
+    let y = state.row_weights(alloc, &unit)?;
+    let none = zeros(alloc, state.model.size())?;
+    let mut prices = prices_at(alloc, &state.model, &y, &none)?;
+    put(&mut prices, column, Frac::zero());
+    weights(alloc, &state.model, &prices)
 }
 
 /// The weights of a row that can't be mended.

@@ -273,6 +273,10 @@ pub product_sum : List Product → Rational
 product_sum [] = zero_ℚ
 product_sum (p ∷ ps) = p.weight *ℚ p.factor +ℚ product_sum ps
 
+pub sum-none : product_sum [] ≡ zero_ℚ
+unfolding product_sum
+sum-none = refl
+
 products_ok : (total : Rational) (ps : List Product) → IfOk (with_products total ps) (λ v. v ≡ total +ℚ product_sum ps)
 unfolding product_sum
 products_ok total [] = sym (Q.add-zero total)

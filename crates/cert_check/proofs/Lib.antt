@@ -8,6 +8,7 @@ mod Meeting
 mod Places
 mod Trials
 mod Exact
+mod Making
 mod PartLaws
 mod OutcomeLaws
 mod FaultLaws

@@ -4,3 +4,4 @@ pub mod Sums
 pub mod Lookup
 pub mod Parts
 pub mod Outcome
+pub mod Made

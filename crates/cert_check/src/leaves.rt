@@ -1,15 +1,19 @@
 // The tests of leaves that stand in no certificate yet.
-ghost use Rattle.std.specs.Prelude.{◌≡◌, ◌≤◌, length, None, Some};
+ghost use Rattle.std.specs.Prelude.{◌≡◌, ◌≤◌, [], ◌∷◌, length, None, Some, IfOk};
+ghost use Rattle.rational.specs.Rational.{one_ℚ};
+ghost use Rattle.verdicts.specs.Proves.{same_form};
+ghost use Rattle.cert_check.specs.Made.{made_form};
 ghost use Rattle.verdicts.specs.Certificate.{Empty, Bound};
 ghost use Rattle.certificate.specs.Ways.{way};
 ghost use Rattle.cert_check.specs.Parts.{node_answer};
 
 use crate::by_column::ByColumn;
+use crate::forms::is_form;
 use crate::nodes::{bound_passes, empty_passes};
 use crate::setting::Setting;
 use certificate::{Derived, Tree, Weights};
 use fraction::{Frac, NoFit};
-use instance::Instance;
+use instance::{Entry, Instance};
 
 /// Whether the weights show that no point is under the splits on the way to a place of a tree: the test of a leaf without
 /// points that stands there, or the first operation on the way that does not fit. Memory is taken as in `check`.
@@ -45,4 +49,27 @@ pub fn shows_none_better(
     let problem = ByColumn::new(problem);
     let setting = Setting::of_node(&problem, derived, tree, place);
     bound_passes(&setting, weights, value)
+}
+
+/// Whether the weights make a column alone: the rows, columns and derived rows that they name, each times its weight, have
+/// the sum 1 at this column and 0 at each other one. Or the first operation on the way that does not fit. Memory is taken
+/// as in `check`.
+pub fn makes_column(
+    problem: &Instance,
+    derived: &[Derived],
+    tree: &Tree,
+    place: usize,
+    weights: &Weights,
+    column: u32,
+) -> Result<bool, NoFit>
+    requires { place ≤ length tree.now }
+    ensures { IfOk result (λ b. b ≡ same_form (length problem.now.columns) (made_form (record { problem = problem.now; derived = derived.now; sides = way tree.now place }) weights.now) (record { column = column; coefficient = one_ℚ } ∷ [])) }
+{
+    let problem = ByColumn::new(problem);
+    let setting = Setting::of_node(&problem, derived, tree, place);
+    let alone = [Entry {
+        column,
+        coefficient: Frac::one(),
+    }];
+    is_form(&setting, weights, &alone, None)
 }

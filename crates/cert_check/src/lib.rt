@@ -15,6 +15,7 @@ mod points;
 mod setting;
 mod sums;
 
+pub use bounds::{lower_at, upper_at};
 pub use checking::check;
-pub use leaves::{shows_no_point, shows_none_better};
+pub use leaves::{makes_column, shows_no_point, shows_none_better};
 pub use part::{CheckFault, Checked, Part};

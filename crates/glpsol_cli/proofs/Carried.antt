@@ -9,7 +9,7 @@ use Rattle.verdicts.specs.Certificate.{Certificate}
 use Rattle.verdicts.specs.Certificate as kind
 use Rattle.gmpl_generate.specs.declared.fault.ModelFault.{ModelFault}
 use Rattle.outside.specs.Told.{AppendsPrefix}
-use Rattle.mixed_solve.specs.declared.fault.VerdictFault.TheVariants.{NoFit as SearchNoFit, PivotLimit, SplitLimit, RayNoFit, NoMemory as SearchNoMemory}
+use Rattle.mixed_solve.specs.declared.fault.VerdictFault.TheVariants.{NoFit as SearchNoFit, PivotLimit, SplitLimit, NoMemory as SearchNoMemory}
 use Rattle.solution_writer.specs.Report.{IsShownPoint}
 use Rattle.command_line.specs.declared.settings.Settings.{Settings}
 use Rattle.glpsol_cli.specs.Asked.{ToldNames, names_read}
@@ -141,7 +141,6 @@ module _ (s : Settings) (texts : List (List ℕ)) (p : Problem) (later : Option 
 
   unfound_is : (files_rose out_rose : Type 0) (unfound : Unfound) → IsUnfound unfound s texts → CauseIn s texts files_rose out_rose (unfound_answer unfound)
   unfound_is files_rose out_rose (Solve (SearchNoFit wanted site)) h = h
-  unfound_is files_rose out_rose (Solve (RayNoFit e)) h = h
   unfound_is files_rose out_rose (Solve (PivotLimit wanted bases)) h = h
   unfound_is files_rose out_rose (Solve (SplitLimit wanted)) h = h
   unfound_is files_rose out_rose (Solve SearchNoMemory) h = executed
@@ -153,7 +152,6 @@ module _ (s : Settings) (texts : List (List ℕ)) (p : Problem) (later : Option 
   unfound_line : (taken taken' : Option (List ℕ)) (told : ToldNames) (unfound : Unfound) → AppendsPrefix taken taken' (line_of (unfound_answer unfound))
       → LeftWritten s texts (record { taken = taken; told = told }) (record { taken = taken'; told = told }) (unfound_answer unfound)
   unfound_line taken taken' told (Solve (SearchNoFit wanted site)) line = line_alone _ taken taken' told line
-  unfound_line taken taken' told (Solve (RayNoFit e)) line = line_alone _ taken taken' told line
   unfound_line taken taken' told (Solve (PivotLimit wanted bases)) line = line_alone _ taken taken' told line
   unfound_line taken taken' told (Solve (SplitLimit wanted)) line = line_alone _ taken taken' told line
   unfound_line taken taken' told (Solve SearchNoMemory) line = line_alone _ taken taken' told line

@@ -32,7 +32,7 @@ use Rattle.glpsol_cli.specs.declared.answer.Answer.{Answer}
 use Rattle.glpsol_cli.specs.declared.answer.Answer.TheVariants.{Optimal, Infeasible, Unbounded, Translated, Accepted, Usage, Missing, OpenFault, ReadFault, WriteFault, TooLong, BadText, FaultBehindSolve, BadCertificate, Overflow, Undecided, Refused, NoMemory}
 use Rattle.glpsol_cli.specs.declared.answer.Limit.{Limit}
 use Rattle.glpsol_cli.specs.declared.answer.Limit.TheVariants.{Pivots, Splits}
-use Rattle.glpsol_cli.specs.declared.answer.OverflowSite.TheVariants.{AtNode, InRay, InPart}
+use Rattle.glpsol_cli.specs.declared.answer.OverflowSite.TheVariants.{AtNode, InPart}
 use Rattle.glpsol_cli.specs.declared.answer.OverflowSite.{OverflowSite}
 use Rattle.glpsol_cli.specs.declared.answer.Reached.{Reached}
 use Rattle.glpsol_cli.specs.declared.answer.Reached.TheVariants.{Nothing, Executed, Size, Acceptance, Verdict as VerdictReached}
@@ -243,7 +243,6 @@ behind_over fault c s ts h = proved_over c s ts h.proved
 
 overflow_over : (at : OverflowSite) (e : NoFit) (s : Settings) (ts : List (List ℕ)) → IsOverflow at e s ts → IsOver s ts
 overflow_over (AtNode wanted node) e s ts h = declared_over s ts h.problem h.asked
-overflow_over InRay e s ts h = declared_over s ts h.problem h.asked
 overflow_over (InPart part) e s ts h = declared_over s ts h.problem h.asked
 
 undecided_over : (limit : Limit) (s : Settings) (ts : List (List ℕ)) → IsUndecided limit s ts → IsOver s ts
@@ -386,7 +385,6 @@ module _ (c : Certificate) (again : List (List ℕ)) (told : ToldNames) (files_r
 
   overflow_where : (at : OverflowSite) (e : NoFit) → IsOverflow at e (record k.settings { task = CheckCertificate k.name }) ((k.texts ++ certificate_text c ∷ []) ++ k.tables) → ⊥
   overflow_where (AtNode wanted node) e h = h.solves
-  overflow_where InRay e h = h.solves
   overflow_where (InPart part) e h = overflows part e (of_text (IsCheckOverflow part e) h)
 
   pub rechecked : (answer : Answer) → Cause again told files_rose out_rose answer → IsAcceptedOrFault answer

@@ -24,7 +24,7 @@ use Rattle.glpsol_cli.proofs.Completes.{declared_same}
 use Rattle.glpsol_cli.specs.declared.answer.Limit.{Limit}
 use Rattle.glpsol_cli.specs.declared.answer.Limit.TheVariants.{Pivots, Splits}
 use Rattle.glpsol_cli.specs.declared.answer.OverflowSite.{OverflowSite}
-use Rattle.glpsol_cli.specs.declared.answer.OverflowSite.TheVariants.{AtNode, InRay, InPart}
+use Rattle.glpsol_cli.specs.declared.answer.OverflowSite.TheVariants.{AtNode, InPart}
 use Rattle.glpsol_cli.proofs.OneColumn.{problem}
 use Rattle.glpsol_cli.proofs.OneNode.{never_stuck, never_too_long, never_out_of_splits, no_ray}
 
@@ -46,7 +46,6 @@ never_searched Any P none h = no_ray h.is_wanted.0 (subst (λ p. IsImprovingRay 
 
 fits : (at : OverflowSite) (e : NoFit) → ¬ (IsOverflow at e plain_settings (example_text ∷ []))
 fits (AtNode wanted node) e h = never_searched wanted (λ p settings. IsStuckAt p [] settings.split_limit (record { node = node; fault = e })) (never_stuck 10000 (record { node = node; fault = e })) h
-fits InRay e h = no_ray h.operation.ray (subst (λ p. IsImprovingRay p h.operation.ray) (same_problem h.problem h.asked) h.operation.improving)
 fits (InPart part) e h = solves_only h.name h.checks
   where
     solves_only : (name : List ℕ) → plain_settings.task ≡ CheckCertificate name → ⊥

@@ -13,7 +13,7 @@ use Rattle.gmpl_reader.specs.declared.read.ReadingEnd.{ReadingEnd}
 use Rattle.gmpl_reader.specs.declared.read.ReadingEnd.TheVariants as reading_end
 use Rattle.mixed_solve.specs.Faults.{IsFault}
 use Rattle.mixed_solve.specs.declared.fault.VerdictFault.{VerdictFault}
-use Rattle.mixed_solve.specs.declared.fault.VerdictFault.TheVariants.{NoFit as SearchNoFit, PivotLimit, SplitLimit, RayNoFit, NoMemory as SearchNoMemory}
+use Rattle.mixed_solve.specs.declared.fault.VerdictFault.TheVariants.{NoFit as SearchNoFit, PivotLimit, SplitLimit, NoMemory as SearchNoMemory}
 use Rattle.command_line.specs.declared.settings.Language.{Language}
 use Rattle.command_line.specs.declared.settings.Language.TheVariants.{MathProg}
 use Rattle.command_line.specs.declared.settings.Outputs.{Outputs}
@@ -124,7 +124,6 @@ module _ {X : Type 0} (f : X → List ℕ) (s : Settings) (xs others taken : Lis
 module _ (s : Settings) (texts : List (List ℕ)) (p : Problem) (asks : IsAsked s texts p) (solves : Solves s) where
   pub unsolved : (fault : VerdictFault) → IsFault p s.split_limit s.pivot_limit fault → IsUnfound (SolveStop fault) s texts
   unsolved (SearchNoFit wanted site) h = record { problem = p; asked = asks; solves = solves; is_wanted = h.0; holds = h.1 }
-  unsolved (RayNoFit e) h = record { problem = p; asked = asks; solves = solves; operation = h }
   unsolved (PivotLimit wanted bases) h = record { problem = p; asked = asks; solves = solves; is_wanted = h.0; holds = h.1 }
   unsolved (SplitLimit wanted) h = record { problem = p; asked = asks; solves = solves; is_wanted = h.0; holds = h.1 }
   unsolved SearchNoMemory h = tt

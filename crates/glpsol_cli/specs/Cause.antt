@@ -11,7 +11,7 @@ use Rattle.verdicts.specs.Proves.{Proves, Holds, tests, first_failing}
 use Rattle.search_node.specs.declared.node.Node.{Node}
 use Rattle.branch_search.specs.Faults.{IsStuckAt, IsRunTooLong, IsOutOfSplits}
 use Rattle.gmpl_generate.specs.declared.fault.ModelFault.{ModelFault}
-use Rattle.mixed_solve.specs.Faults.{IsWanted, IsRayFault, searched}
+use Rattle.mixed_solve.specs.Faults.{IsWanted, searched}
 use Rattle.mixed_solve.specs.declared.fault.Wanted.{Wanted}
 use Rattle.certificate_reader.specs.Reading.{read_of}
 use Rattle.certificate_lines.specs.declared.fault.CertFault.{CertFault}
@@ -29,7 +29,7 @@ use Rattle.glpsol_cli.specs.declared.answer.Answer.TheVariants.{Optimal, Infeasi
 use Rattle.glpsol_cli.specs.declared.answer.Limit.{Limit}
 use Rattle.glpsol_cli.specs.declared.answer.Limit.TheVariants.{Pivots, Splits}
 use Rattle.glpsol_cli.specs.declared.answer.OverflowSite.{OverflowSite}
-use Rattle.glpsol_cli.specs.declared.answer.OverflowSite.TheVariants.{AtNode, InRay, InPart}
+use Rattle.glpsol_cli.specs.declared.answer.OverflowSite.TheVariants.{AtNode, InPart}
 use Rattle.glpsol_cli.specs.declared.answer.Reached.{Reached}
 use Rattle.glpsol_cli.specs.declared.answer.Reached.TheVariants.{Nothing, Executed, Size, Acceptance, Verdict}
 use Rattle.glpsol_cli.specs.declared.answer.Target.{Target}
@@ -143,16 +143,8 @@ pub record OfSearch (wanted : Wanted) (P : Problem → Settings → Type 0) (s :
 abbrev pub IsNodeOverflow : Wanted → Node → NoFit → Settings → List (List ℕ) → Type 0
 IsNodeOverflow wanted node e s texts = OfSearch wanted (λ p settings. IsStuckAt p [] settings.split_limit (record { node = node; fault = e })) s texts
 
--- the operation is one of the test of a ray that improves the problem, and does not fit
-pub record IsRayOverflow (e : NoFit) (s : Settings) (texts : List (List ℕ)) : Type 0 where
-  pub problem : Problem
-  pub asked : IsAsked s texts problem
-  pub solves : Solves s
-  pub operation : IsRayFault problem e
-
 abbrev pub IsOverflow : OverflowSite → NoFit → Settings → List (List ℕ) → Type 0
 IsOverflow (AtNode wanted node) e s texts = IsNodeOverflow wanted node e s texts
-IsOverflow InRay e s texts = IsRayOverflow e s texts
 IsOverflow (InPart part) e s texts = OfCertificate (IsCheckOverflow part e) s texts
 
 -- the limit is too small: the bases are the first of the simplex method's run at a node to which honest splits lead, as many

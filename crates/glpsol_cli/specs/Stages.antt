@@ -14,7 +14,7 @@ use Rattle.gmpl_reader.specs.declared.read.Reading.{Reading}
 use Rattle.gmpl_reader.specs.declared.read.ReadingEnd.{ReadingEnd}
 use Rattle.gmpl_reader.specs.declared.read.ReadingEnd.TheVariants as reading_end
 use Rattle.mixed_solve.specs.declared.fault.VerdictFault.{VerdictFault}
-use Rattle.mixed_solve.specs.declared.fault.VerdictFault.TheVariants.{NoFit as SearchNoFit, PivotLimit, SplitLimit, RayNoFit, NoMemory as SearchNoMemory}
+use Rattle.mixed_solve.specs.declared.fault.VerdictFault.TheVariants.{NoFit as SearchNoFit, PivotLimit, SplitLimit, NoMemory as SearchNoMemory}
 use Rattle.cert_check.specs.Outcome.{Acceptance as Accepting, outcome, trials}
 use Rattle.outside.specs.Told.{Lacks, Has}
 use Rattle.outside.specs.declared.store.LoadFault.{LoadFault}
@@ -36,7 +36,7 @@ use Rattle.glpsol_cli.specs.Cause.{EndsBehind, IsProved, IsTranslated, reached_o
 use Rattle.glpsol_cli.specs.declared.answer.Answer.{Answer}
 use Rattle.glpsol_cli.specs.declared.answer.Answer.TheVariants.{Optimal, Infeasible, Unbounded, Translated, Accepted, Usage, Missing, OpenFault, ReadFault, WriteFault, TooLong, BadText as TextRefused, FaultBehindSolve, BadCertificate, Overflow, Undecided, Refused, NoMemory}
 use Rattle.glpsol_cli.specs.declared.answer.Limit.TheVariants.{Pivots, Splits}
-use Rattle.glpsol_cli.specs.declared.answer.OverflowSite.TheVariants.{AtNode, InRay, InPart}
+use Rattle.glpsol_cli.specs.declared.answer.OverflowSite.TheVariants.{AtNode, InPart}
 use Rattle.glpsol_cli.specs.declared.answer.Reached.{Reached}
 use Rattle.glpsol_cli.specs.declared.answer.Reached.TheVariants.{Nothing, Executed, Size as SizeReached, Acceptance as AcceptanceReached, Verdict as VerdictReached}
 use Rattle.glpsol_cli.specs.declared.answer.TextFault.TheVariants as text_fault
@@ -211,7 +211,6 @@ pub record OfNext (P : List ℕ → Type 0) (count : ℕ) (texts : List (List �
 -- why nothing is found
 abbrev pub IsUnfound : Unfound → Settings → List (List ℕ) → Type 0
 IsUnfound (Solve (SearchNoFit wanted site)) s texts = IsOverflow (AtNode wanted site.node) site.fault s texts
-IsUnfound (Solve (RayNoFit e)) s texts = IsOverflow InRay e s texts
 IsUnfound (Solve (PivotLimit wanted bases)) s texts = IsUndecided (Pivots wanted bases) s texts
 IsUnfound (Solve (SplitLimit wanted)) s texts = IsUndecided (Splits wanted) s texts
 IsUnfound (Solve SearchNoMemory) s texts = Unit {0}
@@ -278,7 +277,6 @@ unread_answer reached name LoadNoMemory = NoMemory reached
 
 abbrev pub solve_answer : VerdictFault → Answer
 solve_answer (SearchNoFit wanted site) = Overflow (AtNode wanted site.node) site.fault
-solve_answer (RayNoFit e) = Overflow InRay e
 solve_answer (PivotLimit wanted bases) = Undecided (Pivots wanted bases)
 solve_answer (SplitLimit wanted) = Undecided (Splits wanted)
 solve_answer SearchNoMemory = NoMemory Executed

@@ -40,8 +40,6 @@ pub enum TextFault {
 pub enum OverflowSite {
     /// In the work at this node of the tree of splits, in the search for what is wanted.
     AtNode { wanted: Wanted, node: Node },
-    /// In the test of a ray that improves the problem.
-    InRay,
     /// In the check of this part of a certificate.
     InPart(Part),
 }

@@ -97,10 +97,6 @@ fn solve_answer(fault: VerdictFault) -> Answer
             },
             fault: site.fault,
         },
-        VerdictFault::RayNoFit(fault) => Answer::Overflow {
-            at: OverflowSite::InRay,
-            fault,
-        },
         VerdictFault::PivotLimit(wanted, bases) => Answer::Undecided(Limit::Pivots(wanted, bases)),
         VerdictFault::SplitLimit(wanted) => Answer::Undecided(Limit::Splits(wanted)),
         VerdictFault::NoMemory => no_memory(Reached::Executed),

@@ -1,5 +1,5 @@
 -- From the certificate of the problem without its objective to that of the problem.
-use Rattle.std.proofs.Common.{◌≡◌, ◌∙◌, List, length, Bool, true, false, ◌&&◌, ◌==◌, refl, sym, ap, subst, Some, Result, Ok, Err}
+use Rattle.std.proofs.Common.{◌≡◌, ◌∙◌, ℕ, List, [], length, Bool, true, false, ◌&&◌, ◌==◌, refl, sym, ap, subst, Some, Result, Ok, Err}
 use Rattle.rational.specs.Rational.{Rational}
 use Rattle.fraction.specs.declared.frac.NoFit.{NoFit}
 use Rattle.milp.specs.Problem.{Problem}
@@ -15,7 +15,14 @@ use Rattle.cert_check.specs.Outcome.{Outcome, Acceptance, Fault, judged, outcome
 use Rattle.cert_check.specs.declared.part.Part.{Part}
 use Rattle.cert_check.specs.declared.part.Checked.{Checked}
 use Rattle.cert_check.specs.declared.part.Checked.TheVariants.{Accepted, Refused}
-use Rattle.mixed_solve.specs.Faults.{without_objective, IsRayFault}
+use Rattle.search_node.specs.declared.node.Node.{Node}
+use Rattle.search_node.specs.declared.fault.Site.{Site}
+use Rattle.search_node.specs.Sides.{sides_of}
+use Rattle.search_tree.specs.Honest.{IsHonestWay}
+use Rattle.search_tree.specs.Work.{IsWorkFault}
+use Rattle.branch_search.specs.Faults.{IsStuckAt, IsEndlessAt}
+use Rattle.branch_search.specs.declared.fault.EndlessAt.{EndlessAt}
+use Rattle.mixed_solve.specs.Faults.{without_objective}
 use Rattle.mixed_solve.specs.Points.{IsTestedPoint, HasPoint}
 use Rattle.mixed_solve.proofs.Causes.{none_improves}
 
@@ -85,8 +92,15 @@ in_ray (Ok true) part e h = cc
 in_ray (Ok false) part e h = cc
 in_ray (Err d) part e h = cc
 
-pub ray_fault : (p : Problem) (x r : List Rational) (c : Certificate) (part : PartOf) (e : NoFit) → c ≡ point_certificate p x r → IsTestedPoint p x → IsImprovingRay p r → outcome (trials p c) ≡ Fault part e → IsRayFault p e
+pub ray_fault : (p : Problem) (x r : List Rational) (c : Certificate) (part : PartOf) (e : NoFit) → c ≡ point_certificate p x r → IsTestedPoint p x → IsImprovingRay p r → outcome (trials p c) ≡ Fault part e → ray_answer p (Some r) ≡ Err e
 ray_fault p x r c part e is h ray k =
     let H : Certificate → Type 0 = λ d. outcome (trials p d) ≡ Fault part e in
     let rest = past_point (point_answer p (Some x)) (outcome (ray_trials p (point_certificate p x r))) part e h.passes (fault_past_size ((length p.rows == length p.rows) && (length p.columns == length p.columns)) (outcome (verdict_trials p (point_certificate p x r) Unbounded)) part e (subst H is k)) in
-    record { ray = r; improving = ray; fault = in_ray (ray_answer p (Some r)) part e rest }
+    in_ray (ray_answer p (Some r)) part e rest
+
+-- it is an operation of the work at the node where the ray was found
+pub stuck_by_ray : (p : Problem) (splits : ℕ) (ray : EndlessAt) (site : Site) → IsEndlessAt p [] splits ray → ray_answer p (Some ray.endless.ray) ≡ Err site.fault → site.node ≡ ray.node → IsStuckAt p [] splits site
+stuck_by_ray p splits ray site found fault same =
+    let Way : Node → Type 0 = λ n. IsHonestWay p [] splits (sides_of n.splits) in
+    let Work : Node → Type 0 = λ n. IsWorkFault p [] (sides_of n.splits) site.fault in
+    record { way = subst Way (sym same) found.way; fault = subst Work (sym same) (IsWorkFault.in_ray ray.endless.point ray.endless.ray found.endless.found fault) }

@@ -1,6 +1,6 @@
 -- Faults of the solvers below as those of the whole.
 use Rattle.std.specs.Prelude.{Result, Ok, Err}
-use Rattle.simplex.specs.declared.answers.Endless.{Endless}
+use Rattle.branch_search.specs.declared.fault.EndlessAt.{EndlessAt}
 use Rattle.branch_search.specs.declared.fault.SearchFault.{SearchFault}
 use Rattle.branch_search.specs.declared.fault.SearchFault.TheVariants as in_search
 use Rattle.branch_solve.specs.declared.fault.SolveFault.{SolveFault}
@@ -10,8 +10,8 @@ use Rattle.mixed_solve.specs.declared.fault.Wanted.TheVariants.{Best}
 use Rattle.mixed_solve.specs.declared.fault.VerdictFault.{VerdictFault}
 use Rattle.mixed_solve.specs.declared.fault.VerdictFault.TheVariants.{NoFit, PivotLimit, SplitLimit, NoMemory}
 
--- the ray that a search has found, or why it found no verdict
-abbrev pub ray_or_fault : Wanted → SearchFault → Result Endless VerdictFault
+-- the ray that a search has found, with its node, or why it found no verdict
+abbrev pub ray_or_fault : Wanted → SearchFault → Result EndlessAt VerdictFault
 ray_or_fault wanted (in_search.NoFit site) = Err (NoFit wanted site)
 ray_or_fault wanted (in_search.PivotLimit bases) = Err (PivotLimit wanted bases)
 ray_or_fault wanted in_search.SplitLimit = Err (SplitLimit wanted)

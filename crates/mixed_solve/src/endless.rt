@@ -1,37 +1,37 @@
 // Problems that a ray improves: unbounded with a feasible point, and infeasible without one.
-ghost use Rattle.std.specs.Prelude.{◌≡◌, length, IfOk, IfErr};
-ghost use Rattle.milp.specs.Points.{IsImprovingRay};
+ghost use Rattle.std.specs.Prelude.{◌≡◌, [], length, IfOk, IfErr};
 ghost use Rattle.verdicts.specs.Proves.{Proves};
 ghost use Rattle.basis.specs.Relaxation.{point_certificate};
 ghost use Rattle.cert_check.specs.Outcome.{Acceptance, outcome, trials};
+ghost use Rattle.branch_search.specs.Faults.{IsEndlessAt};
 ghost use Rattle.mixed_solve.specs.Points.{IsTestedPoint, HasPoint};
 ghost use Rattle.mixed_solve.specs.Faults.{without_objective, IsFault, IsAfterSearch};
 
 use crate::fault::{VerdictFault, Wanted};
 use crate::told::ray_or_fault;
-use branch_search::search;
-use cert_check::{Checked, check};
+use branch_search::{EndlessAt, search};
+use cert_check::{CheckFault, Checked, check};
 use certificate::{Certificate, Verdict};
 use instance::{Instance, Point};
-use simplex::Endless;
+use search_node::Site;
 use std::alloc::Global;
 
 /// The verdict of a problem that a ray improves, by a search for any feasible point.
 pub(crate) fn beyond(
     alloc: Global,
     problem: &Instance,
-    endless: Endless,
+    ray: EndlessAt,
     split_limit: usize,
     pivot_limit: u32,
 ) -> Result<Certificate, VerdictFault>
-    requires { IsImprovingRay problem.now endless.ray }
+    requires { IsEndlessAt problem.now [] split_limit ray }
     ensures proves { IfOk result (λ c. Proves problem.now c) }
     ensures accepted { IfOk result (λ c. outcome (trials problem.now c) ≡ Acceptance) }
     ensures fault { IfErr result (IsFault problem.now split_limit pivot_limit) }
 {
     let feasibility = problem.copy(alloc)?.without_objective(alloc);
     match search(alloc, &feasibility, split_limit, pivot_limit) {
-        Ok(certificate) => decided(alloc, problem, certificate, endless),
+        Ok(certificate) => decided(alloc, problem, certificate, ray, split_limit),
         Err(fault) => match ray_or_fault(Wanted::Any, fault) {
             Ok(_) => unreachable!(),
             Err(fault) => Err(fault),
@@ -44,17 +44,18 @@ fn decided(
     alloc: Global,
     problem: &Instance,
     certificate: Certificate,
-    endless: Endless,
+    ray: EndlessAt,
+    split_limit: usize,
 ) -> Result<Certificate, VerdictFault>
     requires proves { Proves (without_objective problem.now) certificate }
     requires accepted { outcome (trials (without_objective problem.now) certificate) ≡ Acceptance }
-    requires ray { IsImprovingRay problem.now endless.ray }
+    requires ray { IsEndlessAt problem.now [] split_limit ray }
     ensures proves { IfOk result (λ c. Proves problem.now c) }
     ensures accepted { IfOk result (λ c. outcome (trials problem.now c) ≡ Acceptance) }
-    ensures fault { IfErr result (IsAfterSearch problem.now) }
+    ensures fault { IfErr result (IsAfterSearch problem.now split_limit) }
 {
     match certificate.verdict() {
-        Verdict::Optimal => improved(alloc, problem, &certificate, endless.ray),
+        Verdict::Optimal => improved(alloc, problem, &certificate, ray, split_limit),
         Verdict::Infeasible => Ok(certificate),
         Verdict::Unbounded => unreachable!(),
     }
@@ -65,18 +66,19 @@ fn improved(
     alloc: Global,
     problem: &Instance,
     certificate: &Certificate,
-    ray: Point,
+    ray: EndlessAt,
+    split_limit: usize,
 ) -> Result<Certificate, VerdictFault>
     requires point { HasPoint problem.now certificate.now }
-    requires ray { IsImprovingRay problem.now ray }
+    requires ray { IsEndlessAt problem.now [] split_limit ray }
     ensures proves { IfOk result (λ c. Proves problem.now c) }
     ensures accepted { IfOk result (λ c. outcome (trials problem.now c) ≡ Acceptance) }
-    ensures fault { IfErr result (IsAfterSearch problem.now) }
+    ensures fault { IfErr result (IsAfterSearch problem.now split_limit) }
 {
     match certificate.point() {
         Some(point) => {
             let point = point.copy(alloc)?;
-            checked(alloc, problem, point, ray)
+            checked(alloc, problem, point, ray, split_limit)
         }
         None => unreachable!(),
     }
@@ -87,19 +89,23 @@ fn checked(
     alloc: Global,
     problem: &Instance,
     point: Point,
-    ray: Point,
+    ray: EndlessAt,
+    split_limit: usize,
 ) -> Result<Certificate, VerdictFault>
     requires point { IsTestedPoint problem.now point }
-    requires ray { IsImprovingRay problem.now ray }
+    requires ray { IsEndlessAt problem.now [] split_limit ray }
     ensures proves { IfOk result (λ c. Proves problem.now c) }
     ensures accepted { IfOk result (λ c. outcome (trials problem.now c) ≡ Acceptance) }
-    ensures fault { IfErr result (IsAfterSearch problem.now) }
+    ensures fault { IfErr result (IsAfterSearch problem.now split_limit) }
 {
-    let certificate = of_ray(alloc, problem, point, ray);
+    let EndlessAt { node, endless } = ray;
+    let certificate = of_ray(alloc, problem, point, endless.ray);
     match check(problem, &certificate) {
         Ok(Checked::Accepted) => Ok(certificate),
         Ok(Checked::Refused(_)) => unreachable!(),
-        Err(fault) => Err(VerdictFault::RayNoFit(fault.fault)),
+        Err(CheckFault { fault, .. }) => {
+            Err(VerdictFault::NoFit(Wanted::Best, Site { node, fault }))
+        }
     }
 }
 

@@ -2,7 +2,6 @@
 ghost use Rattle.std.specs.Prelude.{◌≡◌};
 ghost use Rattle.mixed_solve.specs.declared.fault.VerdictFault.TheVariants.{NoMemory};
 
-use fraction::NoFit;
 use search_node::{Bases, Site};
 use std::alloc::AllocError;
 
@@ -24,8 +23,6 @@ pub enum VerdictFault {
     PivotLimit(Wanted, Bases),
     /// All splits that are allowed were made, and nodes are left that are to be split.
     SplitLimit(Wanted),
-    /// An operation in the test of a ray that improves the problem does not fit.
-    RayNoFit(NoFit),
     /// The memory is not there.
     NoMemory,
 }

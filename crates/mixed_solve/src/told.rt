@@ -3,12 +3,11 @@ ghost use Rattle.std.specs.Prelude.{◌≡◌};
 ghost use Rattle.mixed_solve.specs.Told.{ray_or_fault, of_continuous};
 
 use crate::fault::{VerdictFault, Wanted};
-use branch_search::SearchFault;
+use branch_search::{EndlessAt, SearchFault};
 use branch_solve::SolveFault;
-use simplex::Endless;
 
-/// The ray that a search has found, or why it found no verdict.
-pub(crate) fn ray_or_fault(wanted: Wanted, fault: SearchFault) -> Result<Endless, VerdictFault>
+/// The ray that a search has found, with its node, or why it found no verdict.
+pub(crate) fn ray_or_fault(wanted: Wanted, fault: SearchFault) -> Result<EndlessAt, VerdictFault>
     ensures { result ≡ ray_or_fault wanted fault }
 {
     match fault {

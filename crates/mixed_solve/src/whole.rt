@@ -22,8 +22,8 @@ use std::alloc::Global;
 /// Where a ray improves a problem with integer columns, a second search looks for any feasible point: with one the problem
 /// is unbounded, and without it infeasible.
 ///
-/// A fault tells of which search it is, and there an operation that does not fit, a run that is too long, or that all
-/// splits are made; or an operation in the test of the ray.
+/// A fault tells of which search it is, and there an operation that does not fit, one in the test of the ray at the node
+/// where it was found included, a run that is too long, or that all splits are made.
 pub fn solve(
     alloc: Global,
     problem: &Instance,
@@ -87,7 +87,7 @@ fn searched(
     match search(alloc, problem, split_limit, pivot_limit) {
         Ok(certificate) => Ok(certificate),
         Err(fault) => match ray_or_fault(Wanted::Best, fault) {
-            Ok(endless) => beyond(alloc, problem, endless, split_limit, pivot_limit),
+            Ok(ray) => beyond(alloc, problem, ray, split_limit, pivot_limit),
             Err(fault) => Err(fault),
         },
     }

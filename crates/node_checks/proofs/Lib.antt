@@ -1,3 +1,4 @@
+mod Combined
 mod NodePoints
 mod Paths
 mod OwnValues

@@ -5,7 +5,9 @@
 mod optimum;
 mod path;
 mod points;
+mod telling;
 
 pub use optimum::is_optimal;
 pub use path::Path;
 pub use points::{form_value, is_node_point};
+pub use telling::shows_told;

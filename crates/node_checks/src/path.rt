@@ -1,6 +1,9 @@
 // The way to a node, and the tests of weights there.
-ghost use Rattle.std.specs.Prelude.{◌≡◌, [], ◌∷◌, ◌++◌, IfOk, OnOk, OnErr, Some, None};
+ghost use Rattle.std.specs.Prelude.{◌≡◌, true, length, [], ◌∷◌, ◌++◌, IfOk, OnOk, OnErr, Some, None};
 ghost use Rattle.verdicts.specs.Certificate.{Empty, Bound};
+ghost use Rattle.verdicts.specs.Proves.{same_form, lower_under, upper_under};
+ghost use Rattle.basis.specs.System.{unit_form};
+ghost use Rattle.cert_check.specs.Made.{made_form};
 ghost use Rattle.certificate.specs.Values.{node_of};
 ghost use Rattle.certificate.specs.Ways.{side_of};
 ghost use Rattle.cert_check.specs.Parts.{node_answer};
@@ -8,7 +11,7 @@ ghost use Rattle.search_node.specs.Sides.{sides_of};
 ghost use Rattle.search_tree.specs.Work.{node_setting};
 ghost use Rattle.node_checks.specs.Paths.{last_sides};
 
-use cert_check::{shows_no_point, shows_none_better};
+use cert_check::{lower_at, makes_column, shows_no_point, shows_none_better, upper_at};
 use certificate::{DerivedRows, Side, Split, Tree, TreeNode, Weights};
 use fraction::{Frac, NoFit};
 use instance::Instance;
@@ -94,6 +97,39 @@ impl Path {
     {
         let place = self.tree.as_slice().len();
         shows_none_better(problem, cuts.as_slice(), &self.tree, place, weights, value)
+    }
+
+    // Whether the weights make a column alone; not where an operation on the way does not fit.
+    pub(crate) fn makes_column(
+        &self,
+        problem: &Instance,
+        cuts: &DerivedRows,
+        weights: &Weights,
+        column: u32,
+    ) -> bool
+        ensures { result ≡ true → same_form (length problem.now.columns) (made_form (node_setting problem.now cuts.now self.now) weights.now) (unit_form column) ≡ true }
+    {
+        let place = self.tree.as_slice().len();
+        match makes_column(problem, cuts.as_slice(), &self.tree, place, weights, column) {
+            Ok(makes) => makes,
+            Err(_) => false,
+        }
+    }
+
+    // The lower bound of a column under the splits on the way, or the whole number next to a split that does not fit.
+    pub(crate) fn lower(&self, problem: &Instance, column: u32) -> Result<Option<Frac>, NoFit>
+        ensures { IfOk result (λ bound. bound ≡ lower_under problem.now self.now column) }
+    {
+        let place = self.tree.as_slice().len();
+        lower_at(problem, &self.tree, place, column)
+    }
+
+    // The upper bound of a column under the splits on the way.
+    pub(crate) fn upper(&self, problem: &Instance, column: u32) -> Option<Frac>
+        ensures { result ≡ upper_under problem.now self.now column }
+    {
+        let place = self.tree.as_slice().len();
+        upper_at(problem, &self.tree, place, column)
     }
 }
 

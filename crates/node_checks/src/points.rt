@@ -141,7 +141,7 @@ fn is_above_next(at: WholeNumber, value: Frac) -> Result<bool, NoFit>
 }
 
 // The number of a column; 0 past the end.
-fn number(x: &[Frac], column: u32) -> Frac
+pub(crate) fn number(x: &[Frac], column: u32) -> Frac
     ensures { result ≡ number_at x.now column }
 {
     match x.get(column as usize) {

@@ -11,7 +11,7 @@ use Rattle.milp.specs.Points.{objective_value, sign_of}
 use Rattle.milp.specs.declared.Direction.{Direction}
 use Rattle.verdicts.specs.Certificate.{Side, Split, Weights, Derived, TreeNode, Empty, Bound}
 use Rattle.verdicts.specs.Proves.{node_passes}
-use Rattle.basis.specs.Node.{IsOverColumns}
+use Rattle.basis.specs.Node.{system_of, IsOverColumns}
 use Rattle.basis.specs.Dictionary.{Dictionary}
 use Rattle.basis.specs.Relaxation.{IsOptimalRelaxation, IsInfeasibleRelaxation}
 use Rattle.basis.specs.declared.Place.{Place}
@@ -29,6 +29,7 @@ use Rattle.simplex.specs.declared.answers.Relaxed.{Relaxed}
 use Rattle.simplex.specs.declared.answers.Relaxed.TheVariants.{Infeasible, Unbounded}
 use Rattle.simplex.specs.declared.answers.Endless.{Endless}
 use Rattle.search_tree.specs.Work.{node_setting, IsWorkFault}
+use Rattle.search_tree.specs.Pinned.{IsPinned}
 use Rattle.search_tree.specs.Nodes.{IsRelaxedOptimum, IsHonestSplit, Beats}
 use Rattle.search_tree.specs.Kept.{IsNoBetter}
 use Rattle.node_work.specs.Fractions.{IsFraction}
@@ -37,7 +38,7 @@ use Rattle.node_work.specs.Tests.{IsTestFault, of_value, of_weights, of_point, I
 use Rattle.node_work.specs.declared.treatment.Fractional.{Fractional}
 use Rattle.node_work.specs.declared.treatment.Treatment.{Treatment}
 use Rattle.node_work.specs.declared.testing.Verdict.{Verdict}
-use Rattle.node_work.specs.declared.testing.Verdict.TheVariants.{Passed, Failed, NoFit}
+use Rattle.node_work.specs.declared.testing.Verdict.TheVariants.{Passed, Failed, NotTold, NoFit}
 use Rattle.node_work.proofs.Floors.{lt-floor, floor-lt}
 
 -- ---- against the best value
@@ -63,7 +64,7 @@ holds p ds sides r found e h = let P : Result Relaxed Stuck → Type 0 = λ a. I
 pub endless_of : (p : Problem) (ds : List Derived) (sides : List Side) (found : Relaxed) (endless : Endless) → IsOverColumns p ds sides → found ≡ Unbounded endless → IsRelaxed p ds sides found → IsEndless p ds sides endless
 endless_of p ds sides found endless over e h =
     let P : Relaxed → Type 0 = IsRelaxed p ds sides in
-    record { point = unbounded_point p ds sides endless.point endless.ray over (subst P e h); ray = unbounded_ray p ds sides endless.point endless.ray over (subst P e h) }
+    record { found = subst P e h; point = unbounded_point p ds sides endless.point endless.ray over (subst P e h); ray = unbounded_ray p ds sides endless.point endless.ray over (subst P e h) }
 
 pub infeasible : (p : Problem) (ds : List Derived) (sides : List Side) (found : Relaxed) (w : Weights) → found ≡ Infeasible w → IsRelaxed p ds sides found → IsInfeasibleRelaxation p ds sides w
 infeasible p ds sides found w e h = let P : Relaxed → Type 0 = IsRelaxed p ds sides in subst P e h
@@ -89,33 +90,33 @@ refuted p ds sides w over h = not_failing p None ds sides (Empty w) (refutes_lea
 
 -- ---- splits
 
-pub to_split : (p : Problem) (ds : List Derived) (sides : List Side) (best : Option Rational) (x : List Rational) (j : ℕ) (f : Fractional) (at : ℤ) (v : Rational) → IsRelaxedOptimum p ds sides x → Beats p best x → IsFraction p.columns x (Some j)
+pub to_split : (p : Problem) (ds : List Derived) (sides : List Side) (best : Option Rational) (x : List Rational) (j : ℕ) (f : Fractional) (at : ℤ) (v : Rational) → IsRelaxedOptimum p ds sides x → Beats p best x → IsFraction p.columns x (Some j) → IsPinned (system_of p ds sides) x j
     → f.split ≡ record { column = j; at = at } → at ≡ floor_ℚ v → v ≡ number_at x j → IsToSplit p ds sides best f
-to_split p ds sides best x j f at v optimum beats fraction is_split is_floor is_number =
+to_split p ds sides best x j f at v optimum beats fraction pinned is_split is_floor is_number =
     let here : Split = record { column = j; at = floor_ℚ (number_at x j) } in
     let same : f.split ≡ here = is_split ∙ ap (λ a. record { column = j; at = a }) (is_floor ∙ ap floor_ℚ is_number) in
     record {
-      split = subst (IsHonestSplit p ds sides) (sym same) (record { integer = fraction.0; point = x; is_optimum = optimum; above = floor-lt (number_at x j) fraction.1; below = lt-floor (number_at x j) });
-      treated = record { point = x; is_optimum = optimum; beats = beats; column = j; integer = fraction.0; not_whole = fraction.1 };
+      split = subst (IsHonestSplit p ds sides) (sym same) (record { integer = fraction.0; point = x; is_optimum = optimum; pinned = pinned; above = floor-lt (number_at x j) fraction.1; below = lt-floor (number_at x j) });
+      treated = record { point = x; is_optimum = optimum; beats = beats; column = j; integer = fraction.0; pinned = pinned; not_whole = fraction.1 };
     }
 
 -- ---- what a test tells, where the path leads to the node
 
-pub passed_at : (p : Problem) (ds : List Derived) (path there : List Side) (best : Option Rational) (x : List Rational) (w : Weights) (t : Verdict) (treatment : Treatment) → path ≡ there → t ≡ Passed treatment → IsVerdict p ds path best x w t → (limit : ℕ) → IsTreatment p ds limit there best treatment
-passed_at p ds path there best x w t treatment e f h limit =
-    let P : Verdict → Type 0 = λ u. IsVerdict p ds path best x w u in
+pub passed_at : (p : Problem) (ds : List Derived) (path there : List Side) (best : Option Rational) (x : List Rational) (w : Weights) (basic : Bool) (t : Verdict) (treatment : Treatment) → path ≡ there → t ≡ Passed treatment → IsVerdict p ds path best x w basic t → (limit : ℕ) → IsTreatment p ds limit there best treatment
+passed_at p ds path there best x w basic t treatment e f h limit =
+    let P : Verdict → Type 0 = λ u. IsVerdict p ds path best x w basic u in
     let A : List Side → Type 0 = λ sides. IsTreatment p ds limit sides best treatment in
     subst A e (subst P f h limit)
 
-pub never_failed : (p : Problem) (ds : List Derived) (path there : List Side) (best : Option Rational) (x : List Rational) (w : Weights) (b : List Place) (d : Dictionary) (t : Verdict) → path ≡ there → t ≡ Failed → IsVerdict p ds path best x w t → IsOverColumns p ds there → IsOptimalRelaxation p ds there x w b d → ⊥
-never_failed p ds path there best x w b d t e f h over found =
-    let P : Verdict → Type 0 = λ u. IsVerdict p ds path best x w u in
+pub never_failed : (p : Problem) (ds : List Derived) (path there : List Side) (best : Option Rational) (x : List Rational) (w : Weights) (b : List Place) (d : Dictionary) (basic : Bool) (t : Verdict) → path ≡ there → t ≡ Failed → IsVerdict p ds path best x w basic t → IsOverColumns p ds there → IsOptimalRelaxation p ds there x w b d → ⊥
+never_failed p ds path there best x w b d basic t e f h over found =
+    let P : Verdict → Type 0 = λ u. IsVerdict p ds path best x w basic u in
     let A : List Side → Type 0 = λ sides. node_answer (node_setting p ds sides) (form_goal p (Some (objective_value p x))) (Bound w) ≡ Ok false in
     not_failing p (Some (objective_value p x)) ds there (Bound w) (optimal_passes p ds there x w (optimal_weights_show p ds there x w b d over found)) (subst A e (subst P f h))
 
-pub fault_at : (p : Problem) (ds : List Derived) (path there : List Side) (best : Option Rational) (x : List Rational) (w : Weights) (b : List Place) (d : Dictionary) (t : Verdict) (fault : Operation) → path ≡ there → t ≡ NoFit fault → IsVerdict p ds path best x w t → IsOptimalRelaxation p ds there x w b d → IsWorkFault p ds there fault
-fault_at p ds path there best x w b d t fault e f h found =
-    let P : Verdict → Type 0 = λ u. IsVerdict p ds path best x w u in
+pub fault_at : (p : Problem) (ds : List Derived) (path there : List Side) (best : Option Rational) (x : List Rational) (w : Weights) (b : List Place) (d : Dictionary) (basic : Bool) (t : Verdict) (fault : Operation) → path ≡ there → t ≡ NoFit fault → IsVerdict p ds path best x w basic t → IsOptimalRelaxation p ds there x w b d → IsWorkFault p ds there fault
+fault_at p ds path there best x w b d basic t fault e f h found =
+    let P : Verdict → Type 0 = λ u. IsVerdict p ds path best x w basic u in
     let A : List Side → Type 0 = λ sides. IsTestFault p ds sides x w fault in
     go (subst A e (subst P f h))
   where
@@ -123,3 +124,10 @@ fault_at p ds path there best x w b d t fault e f h found =
     go (of_value k) = IsWorkFault.in_value x w b d found k
     go (of_weights k) = IsWorkFault.in_bound x w b d (form_goal p (Some (objective_value p x))) found k
     go (of_point k) = IsWorkFault.in_point x w b d found k
+
+-- the number at the point of a basis is told
+pub never_untold : (p : Problem) (ds : List Derived) (path : List Side) (best : Option Rational) (x : List Rational) (w : Weights) (t : Verdict) → t ≡ NotTold → IsVerdict p ds path best x w true t → ⊥
+never_untold p ds path best x w t e h =
+    let P : Verdict → Type 0 = λ u. IsVerdict p ds path best x w true u in
+    let never : true ≡ false = subst P e h in
+    cc

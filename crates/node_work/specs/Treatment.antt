@@ -5,6 +5,7 @@ use Rattle.milp.specs.Problem.{Problem}
 use Rattle.milp.specs.Points.{Feasible, IsImprovingRay, objective_value}
 use Rattle.verdicts.specs.Certificate.{Side, Derived}
 use Rattle.basis.specs.Node.{system_of, IsNodePoint}
+use Rattle.basis.specs.Relaxation.{IsUnboundedRelaxation}
 use Rattle.simplex.specs.Run.{IsLimited}
 use Rattle.simplex.specs.declared.answers.Endless.{Endless}
 use Rattle.search_tree.specs.declared.leaf.Leaf.TheVariants as leaf
@@ -29,8 +30,10 @@ pub record IsToSplit (p : Problem) (ds : List Derived) (sides : List Side) (best
   pub split : IsHonestSplit p ds sides f.split
   pub treated : IsTreated p ds sides best
 
--- a point of the node's relaxation, and a ray that improves the problem
+-- the relaxation is unbounded by the last basis of Bland's run at the node, with this point and ray: so the point is one of the
+-- relaxation, and the ray improves the problem
 pub record IsEndless (p : Problem) (ds : List Derived) (sides : List Side) (e : Endless) : Type 0 where
+  pub found : IsUnboundedRelaxation p ds sides e.point e.ray
   pub point : IsNodePoint p ds sides e.point
   pub ray : IsImprovingRay p e.ray
 

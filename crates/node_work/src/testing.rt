@@ -6,10 +6,11 @@ ghost use Rattle.milp.specs.Form.{sum_at};
 ghost use Rattle.milp.specs.Points.{AreWhole, objective_value, sign_of};
 ghost use Rattle.instance.specs.Sums.{value_answer};
 ghost use Rattle.verdicts.specs.Certificate.{Bound};
-ghost use Rattle.basis.specs.Node.{IsNodePoint};
+ghost use Rattle.basis.specs.Node.{system_of, IsOverColumns, IsNodePoint};
 ghost use Rattle.search_tree.specs.Nodes.{NodePasses, IsRelaxedOptimum, Beats};
+ghost use Rattle.search_tree.specs.Pinned.{IsPinned};
 ghost use Rattle.node_work.specs.Treatment.{IsTreatment};
-ghost use Rattle.node_work.specs.Tests.{IsVerdict};
+ghost use Rattle.node_work.specs.Tests.{AllPinned, IsVerdict};
 ghost use Rattle.node_work.specs.Fractions.{IsFraction};
 
 use crate::treatment::{Found, Fractional, Treatment};
@@ -18,7 +19,7 @@ use certificate::{DerivedRows, Split, WholeNumber};
 use fraction::{Frac, NoFit};
 use instance::{Column, Instance, Point, meets, signed};
 use milp::Direction;
-use node_checks::{Path, form_value};
+use node_checks::{Path, form_value, shows_told};
 use search_tree::{bounded_leaves, optimal_points};
 
 /// What comes of a test.
@@ -28,6 +29,8 @@ pub(crate) enum Verdict {
     Passed(Treatment),
     /// The weights do not show that no point is better.
     Failed,
+    /// What rests at the point may not tell the number of the column that is to be split.
+    NotTold,
     /// An operation does not fit.
     NoFit(NoFit),
 }
@@ -40,16 +43,20 @@ struct Values {
 }
 
 /// The test of a point of the node's relaxation and of its weights, and what becomes of the node where they pass: it has
-/// none better than the best, the point is a better one, or the node is to be split.
+/// none better than the best, the point is a better one, or the node is to be split. A node is split only where what rests at
+/// the point tells the column's number: so it is where the point is `basic`, that of a basis, and else by a test of its own.
 pub(crate) fn test_optimum(
     problem: &Instance,
     cuts: &DerivedRows,
     path: &Path,
     best: &Option<Frac>,
     found: ProposedOptimum,
+    basic: bool,
 ) -> Verdict
-    requires { IsNodePoint problem.now cuts.now path.now found.point }
-    ensures { IsVerdict problem.now cuts.now path.now best.now found.point found.weights result }
+    requires over { IsOverColumns problem.now cuts.now path.now }
+    requires point { IsNodePoint problem.now cuts.now path.now found.point }
+    requires basic { basic ≡ true → AllPinned problem.now cuts.now path.now found.point }
+    ensures { IsVerdict problem.now cuts.now path.now best.now found.point found.weights basic result }
 {
     let values = match values_at(problem, &found.point) {
         Ok(values) => values,
@@ -59,7 +66,7 @@ pub(crate) fn test_optimum(
     match path.shows_none_better(problem, cuts, &found.weights, values.form) {
         Err(fault) => Verdict::NoFit(fault),
         Ok(false) => Verdict::Failed,
-        Ok(true) => optimal(problem, cuts, path, best, values.objective, found),
+        Ok(true) => optimal(problem, cuts, path, best, values.objective, found, basic),
     }
 }
 
@@ -83,20 +90,23 @@ fn optimal(
     best: &Option<Frac>,
     objective: Frac,
     found: ProposedOptimum,
+    basic: bool,
 ) -> Verdict
     requires relaxed { IsRelaxedOptimum problem.now cuts.now path.now found.point }
     requires passes { NodePasses problem.now (Some (objective_value problem.now found.point)) cuts.now path.now (Bound found.weights) }
     requires value { objective ≡ objective_value problem.now found.point }
     requires sum { value_answer problem.now found.point ≡ Ok objective }
-    ensures { IsVerdict problem.now cuts.now path.now best.now found.point found.weights result }
+    requires over { IsOverColumns problem.now cuts.now path.now }
+    requires basic { basic ≡ true → AllPinned problem.now cuts.now path.now found.point }
+    ensures { IsVerdict problem.now cuts.now path.now best.now found.point found.weights basic result }
 {
     bounded_leaves();
     if !is_better(problem.direction(), objective, best) {
         return Verdict::Passed(Treatment::Bounded(found.weights));
     }
     match first_fraction(problem.columns(), &found.point) {
-        Some(j) => Verdict::Passed(fractional(problem, cuts, path, best, objective, found, j)),
-        None => whole(problem, cuts, path, best, objective, found),
+        Some(j) => told(problem, cuts, path, best, objective, found, basic, j),
+        None => whole(problem, cuts, path, best, objective, found, basic),
     }
 }
 
@@ -118,6 +128,7 @@ fn whole(
     best: &Option<Frac>,
     objective: Frac,
     found: ProposedOptimum,
+    basic: bool,
 ) -> Verdict
     requires relaxed { IsRelaxedOptimum problem.now cuts.now path.now found.point }
     requires passes { NodePasses problem.now (Some (objective_value problem.now found.point)) cuts.now path.now (Bound found.weights) }
@@ -125,7 +136,7 @@ fn whole(
     requires sum { value_answer problem.now found.point ≡ Ok objective }
     requires whole { AreWhole problem.now found.point }
     requires better { Beats problem.now best.now found.point }
-    ensures { IsVerdict problem.now cuts.now path.now best.now found.point found.weights result }
+    ensures { IsVerdict problem.now cuts.now path.now best.now found.point found.weights basic result }
 {
     match meets(problem, &found.point) {
         Err(fault) => Verdict::NoFit(fault),
@@ -138,7 +149,53 @@ fn whole(
     }
 }
 
-// The number of the integer column j is not whole.
+// The number of the integer column j is not whole: the node is to be split there, where what rests at the point tells the
+// number.
+fn told(
+    problem: &Instance,
+    cuts: &DerivedRows,
+    path: &Path,
+    best: &Option<Frac>,
+    objective: Frac,
+    found: ProposedOptimum,
+    basic: bool,
+    j: usize,
+) -> Verdict
+    requires over { IsOverColumns problem.now cuts.now path.now }
+    requires relaxed { IsRelaxedOptimum problem.now cuts.now path.now found.point }
+    requires basic { basic ≡ true → AllPinned problem.now cuts.now path.now found.point }
+    requires column { j < length problem.now.columns }
+    requires fraction { IsFraction problem.now.columns found.point (Some j) }
+    requires better { Beats problem.now best.now found.point }
+    ensures { IsVerdict problem.now cuts.now path.now best.now found.point found.weights basic result }
+{
+    if basic || is_told(problem, cuts, path, &found, j) {
+        Verdict::Passed(fractional(problem, cuts, path, best, objective, found, j))
+    } else {
+        Verdict::NotTold
+    }
+}
+
+// Whether what rests at the point tells the number of column j.
+fn is_told(
+    problem: &Instance,
+    cuts: &DerivedRows,
+    path: &Path,
+    found: &ProposedOptimum,
+    j: usize,
+) -> bool
+    requires over { IsOverColumns problem.now cuts.now path.now }
+    requires column { j < length problem.now.columns }
+    ensures { result ≡ true → IsPinned (system_of problem.now cuts.now path.now) found.now.point j }
+{
+    problem.keeps_its_limits();
+    match &found.told {
+        None => false,
+        Some(weights) => shows_told(problem, cuts, path, &found.point, weights, j as u32),
+    }
+}
+
+// The number of the integer column j is not whole, and is told.
 fn fractional(
     problem: &Instance,
     cuts: &DerivedRows,
@@ -151,6 +208,7 @@ fn fractional(
     requires relaxed { IsRelaxedOptimum problem.now cuts.now path.now found.point }
     requires column { j < length problem.now.columns }
     requires fraction { IsFraction problem.now.columns found.point (Some j) }
+    requires pinned { IsPinned (system_of problem.now cuts.now path.now) found.point j }
     requires better { Beats problem.now best.now found.point }
     ensures { (limit : ℕ) → IsTreatment problem.now cuts.now limit path.now best.now result }
 {

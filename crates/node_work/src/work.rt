@@ -14,7 +14,7 @@ use fraction::{Frac, NoFit};
 use instance::Instance;
 use node_checks::{Path, is_node_point};
 use search_node::{Basis, Node, Site, SplitsTaken, Stuck};
-use search_tree::Hint;
+use search_tree::{Hint, optimal_points};
 use simplex::{Best, Dictionary, Relaxed, relax};
 use std::alloc::{AllocError, Global};
 
@@ -68,7 +68,8 @@ fn proposed(
     best: &Option<Frac>,
     candidate: Option<Candidate>,
 ) -> Option<Treatment>
-    requires { path.now ≡ sides_of splits.now }
+    requires columns { IsOverColumns problem.now cuts.now (sides_of splits.now) }
+    requires path { path.now ≡ sides_of splits.now }
     ensures { IfSome result (λ t. (limit : ℕ) → IsTreatment problem.now cuts.now limit (sides_of splits.now) best.now t) }
 {
     match candidate {
@@ -111,7 +112,8 @@ fn proposed_optimum(
     best: &Option<Frac>,
     found: ProposedOptimum,
 ) -> Option<Treatment>
-    requires { path.now ≡ sides_of splits.now }
+    requires columns { IsOverColumns problem.now cuts.now (sides_of splits.now) }
+    requires path { path.now ≡ sides_of splits.now }
     ensures { IfSome result (λ t. (limit : ℕ) → IsTreatment problem.now cuts.now limit (sides_of splits.now) best.now t) }
 {
     match is_node_point(problem, cuts, splits, &found.point) {
@@ -130,12 +132,14 @@ fn proposed_point(
     best: &Option<Frac>,
     found: ProposedOptimum,
 ) -> Option<Treatment>
+    requires columns { IsOverColumns problem.now cuts.now (sides_of splits.now) }
     requires path { path.now ≡ sides_of splits.now }
     requires point { IsNodePoint problem.now cuts.now (sides_of splits.now) found.point }
     ensures { IfSome result (λ t. (limit : ℕ) → IsTreatment problem.now cuts.now limit (sides_of splits.now) best.now t) }
 {
-    match test_optimum(problem, cuts, path, best, found) {
+    match test_optimum(problem, cuts, path, best, found, false) {
         Verdict::Passed(treatment) => Some(treatment),
+        Verdict::NotTold => None,
         Verdict::Failed => None,
         Verdict::NoFit(_) => None,
     }
@@ -231,10 +235,13 @@ fn optimal(
         point: found.point,
         weights: found.weights,
         basis,
+        told: None,
     };
-    match test_optimum(problem, cuts, path, best, optimum) {
+    optimal_points();
+    match test_optimum(problem, cuts, path, best, optimum, true) {
         Verdict::Passed(treatment) => Ok(treatment),
         Verdict::Failed => unreachable!(),
+        Verdict::NotTold => unreachable!(),
         Verdict::NoFit(fault) => Ok(Treatment::NotFitting(fault)),
     }
 }

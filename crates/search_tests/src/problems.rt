@@ -40,7 +40,7 @@ const PROBLEMS: &str = "\
 # Numbers that do not fit: in the value of the best point, and in the test of the ray.
 0 1000 > overflow best ; max/ 100000000000000000000000000000000000000 x/st/ r: x <= 3/end
 1000 1000 > overflow best ; max/ 100000000000000000000000000000000000000 x/st/ r: x <= 3/general/ x/end
-1000 1000 > overflow ray ; max/ 3 x + 100000000000000000000000000000000000000 y/st/ r: 3 x - y = 0/general/ x y/end
+1000 1000 > overflow best ; max/ 3 x + 100000000000000000000000000000000000000 y/st/ r: 3 x - y = 0/general/ x y/end
 ";
 
 fn fault_words(alloc: Global, fault: VerdictFault) -> Result<String, AllocError> {
@@ -48,7 +48,6 @@ fn fault_words(alloc: Global, fault: VerdictFault) -> Result<String, AllocError>
         VerdictFault::NoFit(wanted, _) => with_wanted(alloc, "overflow", wanted),
         VerdictFault::PivotLimit(wanted, _) => with_wanted(alloc, "steps", wanted),
         VerdictFault::SplitLimit(wanted) => with_wanted(alloc, "splits", wanted),
-        VerdictFault::RayNoFit(_) => String::from_str(alloc, "overflow ray"),
         VerdictFault::NoMemory => Err(AllocError),
     }
 }

@@ -6,5 +6,7 @@ mod Steps
 mod Histories
 mod Finished
 mod Honest
+mod Pinned
+mod AnyWhole
 mod Treated
 pub mod Laws

@@ -17,4 +17,4 @@ pub treated_worthwhile : (p : Problem) (ds : List Derived) (sides : List SideOf)
 treated_worthwhile p ds sides best h = record { point = h.point; is_optimum = h.is_optimum; beats = h.beats }
 
 pub treated_stays : (p : Problem) (ds : List Derived) (sides : List SideOf) (best : Option Rational) → IsTreated p ds sides best → IsTreated p ds sides None
-treated_stays p ds sides best h = record { point = h.point; is_optimum = h.is_optimum; beats = tt; column = h.column; integer = h.integer; not_whole = h.not_whole }
+treated_stays p ds sides best h = record { point = h.point; is_optimum = h.is_optimum; beats = tt; column = h.column; integer = h.integer; pinned = h.pinned; not_whole = h.not_whole }

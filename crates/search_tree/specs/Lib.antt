@@ -7,3 +7,5 @@ pub mod Kept
 pub mod Steps
 pub mod Finished
 pub mod Honest
+pub mod Pinned
+pub mod AnyWhole

@@ -9,6 +9,7 @@ use Rattle.basis.specs.Node.{system_of, integer_at, IsNodePoint}
 use Rattle.cert_check.specs.Parts.{node_answer}
 use Rattle.cert_check.specs.Outcome.{form_goal}
 use Rattle.simplex.specs.Run.{IsLimited}
+use Rattle.search_tree.specs.Pinned.{IsPinned}
 use Rattle.search_tree.specs.Work.{node_setting, IsWorkFault}
 use Rattle.search_tree.specs.declared.leaf.Leaf.{Leaf}
 use Rattle.search_tree.specs.declared.leaf.Leaf.TheVariants.{Todo, Treated, Leased, Refuted, Bounded, NotFitting, AtLimit}
@@ -18,11 +19,14 @@ pub record IsRelaxedOptimum (p : Problem) (ds : List Derived) (sides : List Side
   pub point : IsNodePoint p ds sides x
   pub none_better : (y : List Rational) → IsNodePoint p ds sides y → ¬ (IsBetter p y x)
 
--- the split is on an integer column, whose number at an optimal point of the node's relaxation is strictly between its sides
+-- The split is on an integer column, whose number at an optimal point of the node's relaxation is strictly between its sides, and
+-- is told by what rests at that point. So far out on a face of optimal points that has no end there is no honest split: the
+-- numbers that can be told so are those of the vertices.
 pub record IsHonestSplit (p : Problem) (ds : List Derived) (sides : List Side) (s : Split) : Type 0 where
   pub integer : integer_at p s.column ≡ true
   pub point : List Rational
   pub is_optimum : IsRelaxedOptimum p ds sides point
+  pub pinned : IsPinned (system_of p ds sides) point s.column
   pub above : whole s.at <ℚ number_at point s.column
   pub below : number_at point s.column <ℚ whole (s.at +ℤ pos 1)
 
@@ -37,13 +41,14 @@ pub record IsWorthwhile (p : Problem) (ds : List Derived) (best : Option Rationa
   pub is_optimum : IsRelaxedOptimum p ds sides point
   pub beats : Beats p best point
 
--- the node's relaxation has an optimal point that beats the value, and where an integer column isn't whole
+-- the node's relaxation has an optimal point that beats the value, and where an integer column isn't whole, as what rests there tells
 pub record IsTreated (p : Problem) (ds : List Derived) (sides : List Side) (best : Option Rational) : Type 0 where
   pub point : List Rational
   pub is_optimum : IsRelaxedOptimum p ds sides point
   pub beats : Beats p best point
   pub column : ℕ
   pub integer : integer_at p column ≡ true
+  pub pinned : IsPinned (system_of p ds sides) point column
   pub not_whole : ¬ (IsWhole (number_at point column))
 
 -- the checker's test of the node passes, against the value `goal`, and all its operations fit

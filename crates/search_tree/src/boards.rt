@@ -1,17 +1,19 @@
 // What holds of boards and their nodes.
-ghost use Rattle.std.specs.Prelude.{List, [], ◌≡◌, Option, Some, None, IfSome};
+ghost use Rattle.std.specs.Prelude.{ℕ, ◌<◌, List, [], ◌≡◌, length, Option, Some, None, IfSome};
 ghost use Rattle.rational.specs.Rational.{Rational};
 ghost use Rattle.milp.specs.Problem.{Problem};
 ghost use Rattle.milp.specs.Points.{objective_value};
-ghost use Rattle.verdicts.specs.Certificate.{Side as SideOf, Weights, Derived, Bound};
+ghost use Rattle.verdicts.specs.Certificate.{Split, Side as SideOf, Weights, Derived, Bound};
 ghost use Rattle.verdicts.specs.Proves.{Proves};
 ghost use Rattle.basis.specs.Dictionary.{Dictionary};
-ghost use Rattle.basis.specs.Node.{IsOverColumns, IsNodePoint};
+ghost use Rattle.basis.specs.Node.{system_of, IsOverColumns, IsNodePoint};
 ghost use Rattle.basis.specs.Relaxation.{IsOptimalRelaxation};
 ghost use Rattle.basis.specs.declared.Place.{Place};
 ghost use Rattle.cert_check.specs.Outcome.{Acceptance, outcome, trials};
 ghost use Rattle.certificate.specs.declared.split.Side.{Side};
-ghost use Rattle.search_tree.specs.Nodes.{IsRelaxedOptimum, IsTreated, IsWorthwhile, NodePasses};
+ghost use Rattle.search_tree.specs.Nodes.{IsRelaxedOptimum, IsHonestSplit, IsTreated, IsWorthwhile, NodePasses};
+ghost use Rattle.search_tree.specs.AnyWhole.{any_whole_x};
+ghost use Rattle.search_tree.specs.Pinned.{IsPinned};
 ghost use Rattle.search_tree.specs.Tree.{sides_to};
 ghost use Rattle.search_tree.specs.Board.{Board};
 ghost use Rattle.search_tree.specs.declared.event.Event.{Event};
@@ -41,12 +43,15 @@ pub fn finished_boards()
 {}
 
 /// A point of a node's relaxation is optimal there where weights that pass the checker's test show its own value, and
-/// where the simplex method finds it.
+/// where the simplex method finds it. What rests there tells the number of each column, where the simplex method finds it.
 pub fn optimal_points()
     ensures tested { (p : Problem) (ds : List Derived) (sides : List SideOf) (x : List Rational) (w : Weights) →
         IsNodePoint p ds sides x → NodePasses p (Some (objective_value p x)) ds sides (Bound w) → IsRelaxedOptimum p ds sides x }
     ensures found { (p : Problem) (ds : List Derived) (sides : List SideOf) (x : List Rational) (w : Weights) (b : List Place)
         (d : Dictionary) → IsOverColumns p ds sides → IsOptimalRelaxation p ds sides x w b d → IsRelaxedOptimum p ds sides x }
+    ensures pinned { (p : Problem) (ds : List Derived) (sides : List SideOf) (x : List Rational) (w : Weights) (b : List Place)
+        (d : Dictionary) → IsOverColumns p ds sides → IsOptimalRelaxation p ds sides x w b d →
+        (j : ℕ) → j < length p.columns → IsPinned (system_of p ds sides) x j }
 {}
 
 /// A leaf that is bounded stays so where a better best value is found: its sums are the same, and only a comparison
@@ -62,4 +67,9 @@ pub fn treated_nodes()
         IsTreated p ds sides best → IsTreated p ds sides None }
     ensures worthwhile { (p : Problem) (ds : List Derived) (sides : List SideOf) (best : Option Rational) →
         IsTreated p ds sides best → IsWorthwhile p ds best sides }
+{}
+
+/// Far out on a face of optimal points that has no end no split is honest: `min 0, x >= 0 whole` has no honest split.
+pub fn none_far_out()
+    ensures { (s : Split) → ¬ (IsHonestSplit any_whole_x [] [] s) }
 {}

@@ -9,7 +9,8 @@ mod subtree;
 mod way;
 
 pub use boards::{
-    bounded_leaves, finished_boards, kept_boards, optimal_points, treated_nodes, ways_of_boards,
+    bounded_leaves, finished_boards, kept_boards, none_far_out, optimal_points, treated_nodes,
+    ways_of_boards,
 };
 pub use event::{Entry, Event, Reply};
 pub use leaf::{Hint, Leaf, Lease, Slot};

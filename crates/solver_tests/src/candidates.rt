@@ -110,6 +110,7 @@ fn optimum(alloc: Global, point: Point, weights: Weights) -> Candidate {
         point,
         weights,
         basis,
+        told: None,
     })
 }
 

@@ -10,3 +10,9 @@ returns-in-NotFitting-clause-fault c =
     let b = c.args.board.now in
     let P : Treatment → Type 0 = λ t. IsTreatment b.problem b.cuts b.pivot_limit (sides_of c.args.node.splits) (value_of b) t in
     record { way = c.requires.honest; fault = subst P c.in-NotFitting.is c.requires.treatment }
+
+pub returns-in-Unbounded-clause-fault : goal.returns-in-Unbounded-clause-fault
+returns-in-Unbounded-clause-fault c =
+    let b = c.args.board.now in
+    let P : Treatment → Type 0 = λ t. IsTreatment b.problem b.cuts b.pivot_limit (sides_of c.args.node.splits) (value_of b) t in
+    record { way = c.requires.honest; endless = subst P c.in-Unbounded.is c.requires.treatment }

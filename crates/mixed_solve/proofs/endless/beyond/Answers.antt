@@ -1,6 +1,6 @@
 use Rattle.std.proofs.Common.{◌∙◌, ap}
 use Rattle.mixed_solve.specs.Faults.{without_objective}
-use Rattle.mixed_solve.proofs.Causes.{never_endless, any_fault}
+use Rattle.mixed_solve.proofs.Causes.{never_endless, any_fault, after_search}
 use Rattle.mixed_solve.proofs.endless.beyond.Goals as goal
 
 pub unreachable-requires : goal.unreachable-requires
@@ -10,5 +10,8 @@ unreachable-requires c =
 
 pub returns-in-Err-ray_or_fault-clause-fault : goal.returns-in-Err-ray_or_fault-clause-fault
 returns-in-Err-ray_or_fault-clause-fault c =
-    any_fault c.args.problem.now c.without_objective-feasibility.result c.args.split_limit c.args.pivot_limit c.in-Err.fault c.ray_or_fault.result c.in-Err-ray_or_fault.fault c.args.endless.ray
+    any_fault c.args.problem.now c.without_objective-feasibility.result c.args.split_limit c.args.pivot_limit c.in-Err.fault c.ray_or_fault.result c.in-Err-ray_or_fault.fault c.args.ray
     (c.without_objective-feasibility.ensures ∙ ap without_objective c.in_ok-copy.ensures) c.ray_or_fault.ensures c.in-Err-ray_or_fault.is c.requires c.in-Err.ensures.fault
+
+pub returns-in-Ok-clause-fault : goal.returns-in-Ok-clause-fault
+returns-in-Ok-clause-fault c = after_search c.args.problem.now c.args.split_limit c.args.pivot_limit c.decided.result c.decided.ensures.fault

@@ -10,5 +10,5 @@ returns-in-Err-ray_or_fault-clause-fault c =
 
 pub beyond-requires : goal.beyond-requires
 beyond-requires c =
-    ray_found c.args.problem.now c.args.split_limit c.args.pivot_limit Best c.in-Err.fault c.in-Ok-ray_or_fault.endless
+    ray_found c.args.problem.now c.args.split_limit c.args.pivot_limit Best c.in-Err.fault c.in-Ok-ray_or_fault.ray
     (sym c.ray_or_fault.ensures ∙ c.in-Ok-ray_or_fault.is) c.in-Err.ensures.fault
