@@ -20,9 +20,8 @@ use certificate::{Split, Weights, WholeNumber};
 use fraction::{Frac, NoFit};
 use instance::{Instance, Point, meets, signed, value};
 use milp::Direction;
-use node_checks::{Path, is_optimal};
 use search_node::SplitsTaken;
-use search_tree::{Hint, Leaf, Lease, Subtree};
+use search_tree::{Hint, Leaf, Lease, Path, Subtree, is_optimal};
 use std::alloc::{AllocError, Global};
 use tree_pool::Board;
 

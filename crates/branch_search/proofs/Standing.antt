@@ -17,9 +17,9 @@ use Rattle.search_tree.specs.Board.{Board, value_of, IsTold, better_of}
 use Rattle.search_tree.specs.Finished.{IsThere}
 use Rattle.search_tree.specs.Kept.{closed_node}
 use Rattle.search_tree.specs.Steps.{IsOffer}
-use Rattle.node_work.specs.declared.treatment.Found.{Found}
-use Rattle.node_work.specs.declared.treatment.Fractional.{Fractional}
-use Rattle.node_work.specs.Treatment.{IsFound, IsToSplit}
+use Rattle.branch_search.specs.declared.treatment.Found.{Found}
+use Rattle.branch_search.specs.declared.treatment.Fractional.{Fractional}
+use Rattle.branch_search.specs.Treatment.{IsFound, IsToSplit}
 use Rattle.branch_search.specs.Places.{MayStand, LeadTo, IsLeafOf}
 use Rattle.branch_search.specs.Settled.{seat}
 

@@ -14,7 +14,7 @@ use Rattle.search_tree.specs.Board.{Board, value_of}
 use Rattle.search_tree.specs.Honest.{IsHonestWay}
 use Rattle.search_tree.specs.Finished.{IsFinished, IsThere}
 use Rattle.search_tree.specs.Kept.{IsKept, closed_node}
-use Rattle.node_work.specs.Treatment.{IsEndless}
+use Rattle.branch_search.specs.Treatment.{IsEndless}
 use Rattle.branch_search.specs.declared.fault.EndlessAt.{EndlessAt}
 use Rattle.branch_search.specs.declared.fault.SearchFault.{SearchFault}
 use Rattle.branch_search.specs.declared.fault.SearchFault.TheVariants.{NoFit, PivotLimit, SplitLimit, Unbounded, NoMemory}

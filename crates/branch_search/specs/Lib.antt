@@ -1,4 +1,10 @@
+pub mod Treatment
+pub mod Fractions
+pub mod Tests
 pub mod Places
 pub mod Settled
 pub mod Underway
 pub mod Faults
+pub mod WholeFaults
+pub mod Told
+pub mod Points

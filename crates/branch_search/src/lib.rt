@@ -1,11 +1,21 @@
-//! The search over integer columns by one worker: leaves of a board are leased, treated and put back, until all are closed.
-//! The certificate of the board is then one that the checker accepts.
+//! A verdict for any problem: a certificate that the checker accepts, or why there is none; and what becomes of a node.
 #![tactic(auto)]
 
+mod any_problem;
+mod endless;
 mod fault;
 mod rounds;
 mod settling;
+mod testing;
+mod told;
+mod treatment;
 mod whole;
+mod whole_fault;
+mod work;
 
+pub use any_problem::solve;
 pub use fault::{EndlessAt, SearchFault};
+pub use treatment::{Found, Fractional, Treatment};
 pub use whole::search;
+pub use whole_fault::{VerdictFault, Wanted};
+pub use work::{treat, treat_with};

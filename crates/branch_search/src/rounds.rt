@@ -4,14 +4,14 @@ ghost use Rattle.search_node.specs.Sides.{sides_of};
 ghost use Rattle.search_tree.specs.Board.{value_of};
 ghost use Rattle.search_tree.specs.Honest.{IsHonestWay};
 ghost use Rattle.tree_pool.specs.Places.{IsOpen};
-ghost use Rattle.node_work.specs.Treatment.{IsTreatment};
+ghost use Rattle.branch_search.specs.Treatment.{IsTreatment};
 ghost use Rattle.branch_search.specs.Places.{LeadTo};
 ghost use Rattle.branch_search.specs.Settled.{IsSettled, IsRound};
 ghost use Rattle.branch_search.specs.Faults.{IsFault};
 
 use crate::fault::SearchFault;
 use crate::settling::{Round, settle};
-use node_work::{Treatment, treat};
+use crate::{Treatment, treat};
 use search_node::Node;
 use search_tree::{Hint, Lease, ways_of_boards};
 use simplex::root_is_over_columns;

@@ -10,14 +10,14 @@ ghost use Rattle.search_tree.specs.Honest.{IsHonestWay};
 ghost use Rattle.search_tree.specs.Kept.{HasSums, closed_node};
 ghost use Rattle.search_tree.specs.Steps.{IsOffer};
 ghost use Rattle.tree_pool.specs.Places.{IsOpen};
-ghost use Rattle.node_work.specs.Treatment.{IsFound, IsToSplit, IsTreatment};
+ghost use Rattle.branch_search.specs.Treatment.{IsFound, IsToSplit, IsTreatment};
 ghost use Rattle.branch_search.specs.Places.{MayStand, LeadTo, IsLeafOf};
 ghost use Rattle.branch_search.specs.Settled.{seat, IsOutcome, IsPut, IsWorked, IsSettled};
 ghost use Rattle.branch_search.specs.Faults.{IsFault};
 
 use crate::fault::{EndlessAt, SearchFault};
+use crate::{Found, Fractional, Treatment};
 use instance::Point;
-use node_work::{Found, Fractional, Treatment};
 use search_node::{Node, Site};
 use search_tree::{Hint, Leaf, Lease, Subtree};
 use std::alloc::{AllocError, Global};

@@ -8,6 +8,7 @@ mod split;
 mod tree;
 mod weights;
 mod whole;
+mod writing;
 
 pub use certificate::{Certificate, Verdict};
 pub use derived::{Derived, DerivedRows, FormSplit, Proof};
@@ -15,3 +16,4 @@ pub use split::{Side, Split, Turn};
 pub use tree::{Tree, TreeNode};
 pub use weights::{Item, Items, Weights};
 pub use whole::{WholeNumber, parts_fit};
+pub use writing::text;

@@ -1,7 +1,7 @@
 // Texts of certificates that are read and written, and faulty texts.
 use crate::rows::written;
+use certificate::text;
 use certificate_reader::{CertError, CertFault, FaultKind, read};
-use certificate_writer::text;
 use std::alloc::Global;
 use std::process::Abort;
 use std::test::Fail;

@@ -8,8 +8,8 @@ use Rattle.fraction.specs.declared.frac.NoFit.{NoFit}
 use Rattle.rational.specs.Rational.{Rational}
 use Rattle.milp.specs.Points.{IsImprovingRay, IsOptimal}
 use Rattle.branch_search.specs.Faults.{IsStuckAt, IsRunTooLong, IsOutOfSplits}
-use Rattle.mixed_solve.specs.declared.fault.Wanted.{Wanted}
-use Rattle.mixed_solve.specs.declared.fault.Wanted.TheVariants.{Best, Any}
+use Rattle.branch_search.specs.declared.whole_fault.Wanted.{Wanted}
+use Rattle.branch_search.specs.declared.whole_fault.Wanted.TheVariants.{Best, Any}
 use Rattle.mps_reader.specs.FreeMps.{declared}
 use Rattle.outside.specs.Told.{Has}
 use Rattle.command_line.proofs.Laws.{plain_settings, plain_words}

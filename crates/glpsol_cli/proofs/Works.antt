@@ -11,9 +11,9 @@ use Rattle.gmpl_reader.specs.declared.read.Pending.{Pending}
 use Rattle.gmpl_reader.specs.declared.read.Reading.{Reading}
 use Rattle.gmpl_reader.specs.declared.read.ReadingEnd.{ReadingEnd}
 use Rattle.gmpl_reader.specs.declared.read.ReadingEnd.TheVariants as reading_end
-use Rattle.mixed_solve.specs.Faults.{IsFault}
-use Rattle.mixed_solve.specs.declared.fault.VerdictFault.{VerdictFault}
-use Rattle.mixed_solve.specs.declared.fault.VerdictFault.TheVariants.{NoFit as SearchNoFit, PivotLimit, SplitLimit, NoMemory as SearchNoMemory}
+use Rattle.branch_search.specs.WholeFaults.{IsFault}
+use Rattle.branch_search.specs.declared.whole_fault.VerdictFault.{VerdictFault}
+use Rattle.branch_search.specs.declared.whole_fault.VerdictFault.TheVariants.{NoFit as SearchNoFit, PivotLimit, SplitLimit, NoMemory as SearchNoMemory}
 use Rattle.command_line.specs.declared.settings.Language.{Language}
 use Rattle.command_line.specs.declared.settings.Language.TheVariants.{MathProg}
 use Rattle.command_line.specs.declared.settings.Outputs.{Outputs}

@@ -11,8 +11,8 @@ use Rattle.verdicts.specs.Proves.{Proves, Holds, tests, first_failing}
 use Rattle.search_node.specs.declared.node.Node.{Node}
 use Rattle.branch_search.specs.Faults.{IsStuckAt, IsRunTooLong, IsOutOfSplits}
 use Rattle.gmpl_generate.specs.declared.fault.ModelFault.{ModelFault}
-use Rattle.mixed_solve.specs.Faults.{IsWanted, searched}
-use Rattle.mixed_solve.specs.declared.fault.Wanted.{Wanted}
+use Rattle.branch_search.specs.WholeFaults.{IsWanted, searched}
+use Rattle.branch_search.specs.declared.whole_fault.Wanted.{Wanted}
 use Rattle.certificate_reader.specs.Reading.{read_of}
 use Rattle.certificate_lines.specs.declared.fault.CertFault.{CertFault}
 use Rattle.cert_check.specs.Outcome.{Acceptance as Accepting, Fault, outcome, trials, part_of}

@@ -13,8 +13,8 @@ use Rattle.gmpl_reader.specs.MathProg.{Declares, IsPending, IsRest, ending as en
 use Rattle.gmpl_reader.specs.declared.read.Reading.{Reading}
 use Rattle.gmpl_reader.specs.declared.read.ReadingEnd.{ReadingEnd}
 use Rattle.gmpl_reader.specs.declared.read.ReadingEnd.TheVariants as reading_end
-use Rattle.mixed_solve.specs.declared.fault.VerdictFault.{VerdictFault}
-use Rattle.mixed_solve.specs.declared.fault.VerdictFault.TheVariants.{NoFit as SearchNoFit, PivotLimit, SplitLimit, NoMemory as SearchNoMemory}
+use Rattle.branch_search.specs.declared.whole_fault.VerdictFault.{VerdictFault}
+use Rattle.branch_search.specs.declared.whole_fault.VerdictFault.TheVariants.{NoFit as SearchNoFit, PivotLimit, SplitLimit, NoMemory as SearchNoMemory}
 use Rattle.cert_check.specs.Outcome.{Acceptance as Accepting, outcome, trials}
 use Rattle.outside.specs.Told.{Lacks, Has}
 use Rattle.outside.specs.declared.store.LoadFault.{LoadFault}

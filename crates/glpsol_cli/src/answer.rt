@@ -1,15 +1,15 @@
 // How a run ends.
 ghost use Rattle.std.specs.Prelude.{◌≡◌};
 
+use branch_search::Wanted;
 use cert_check::Part;
 use certificate::Certificate;
 use certificate_reader::CertFault;
 use fraction::NoFit;
-use gmpl_data_input::DataFault;
+use gmpl_blocks::DataFault;
 use gmpl_generate::ModelFault;
 use gmpl_syntax::SyntaxFault;
 use instance::Name;
-use mixed_solve::Wanted;
 use model_text::FileFault;
 use search_node::{Bases, Node};
 

@@ -11,8 +11,7 @@ ghost use Rattle.glpsol_cli.specs.Stages.{reached_by, piece_of, pieces_of, IsSho
 
 use crate::Target;
 use crate::found::Finding;
-use certificate::Certificate;
-use certificate_writer::text;
+use certificate::{Certificate, text};
 use command_line::{Outputs, Task};
 use instance::{Instance, Name};
 use outside::{Sink, Store, Trouble, write_all, write_file};

@@ -4,11 +4,11 @@ ghost use Rattle.glpsol_cli.specs.Stages.{words_answer, unread_answer, solve_ans
 
 use crate::publish::PublishFault;
 use crate::{Answer, Limit, OverflowSite, Reached};
+use branch_search::VerdictFault;
 use cert_check::{CheckFault, Part};
 use certificate_reader::CertFault;
 use command_line::WordsFault;
 use instance::Name;
-use mixed_solve::VerdictFault;
 use outside::LoadFault;
 
 // Why there are no texts.

@@ -1,7 +1,7 @@
 // What the words ask for is worked out: the problem is measured or solved, or a certificate checked against it.
 ghost use Rattle.std.specs.Prelude.{◌≡◌, ◌<◌, ◌≤◌, suc, length, IfOk, IfErr, OnOk, map};
 ghost use Rattle.verdicts.specs.Proves.{Proves};
-ghost use Rattle.mixed_solve.specs.Faults.{IsFault};
+ghost use Rattle.branch_search.specs.WholeFaults.{IsFault};
 ghost use Rattle.cert_check.specs.Outcome.{Acceptance, outcome, trials};
 ghost use Rattle.glpsol_cli.specs.Asked.{names_read};
 ghost use Rattle.glpsol_cli.specs.Meaning.{IsAsked};
@@ -11,12 +11,12 @@ ghost use Rattle.glpsol_cli.specs.Stages.{IsFinding, IsUnfound, IsCheckStop, OfN
 use crate::found::Finding;
 use crate::inputs::Inputs;
 use crate::stop::{CheckStop, Unfound};
+use branch_search::{VerdictFault, solve};
 use cert_check::{Checked, check};
 use certificate::Certificate;
 use certificate_reader::CertError;
 use command_line::{Settings, Task};
 use instance::Instance;
-use mixed_solve::{VerdictFault, solve};
 use std::alloc::Global;
 
 /// What is found of the problem, as the task asks.

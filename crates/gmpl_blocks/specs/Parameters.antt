@@ -5,11 +5,11 @@ use Rattle.gmpl_token.specs.declared.kind.TokenKind.TheVariants as k
 use Rattle.gmpl_value.specs.declared.symbol.Symbol.{Symbol}
 use Rattle.gmpl_members.specs.declared.value.Value.TheVariants.{Scalar}
 use Rattle.gmpl_members.specs.Table.{Table as Members, value_of, with_value}
-use Rattle.gmpl_data_input.specs.declared.fault.DataFaultKind.{DataFaultKind}
-use Rattle.gmpl_data_input.specs.declared.fault.DataFaultKind.TheVariants.{Twice}
-use Rattle.gmpl_data_input.specs.Rules.{Rule, ◌>>=◌, ◌>>◌, pure, refuse, judged, peek, expect, eat}
-use Rattle.gmpl_data_input.specs.Symbols.{Slot, symbol, next_symbol, word}
-use Rattle.gmpl_blocks.specs.declared.slots.TableHead.{TableHead}
+use Rattle.gmpl_blocks.specs.declared.fault.DataFaultKind.{DataFaultKind}
+use Rattle.gmpl_blocks.specs.declared.fault.DataFaultKind.TheVariants.{Twice}
+use Rattle.gmpl_blocks.specs.Rules.{Rule, ◌>>=◌, ◌>>◌, pure, refuse, judged, peek, expect, eat}
+use Rattle.gmpl_blocks.specs.Symbols.{Slot, symbol, next_symbol, word}
+use Rattle.gmpl_blocks.specs.declared.block_slots.TableHead.{TableHead}
 use Rattle.gmpl_blocks.specs.declared.parameters.ParameterData.{ParameterData}
 use Rattle.gmpl_blocks.specs.declared.parameters.ParameterBlock.{ParameterBlock}
 use Rattle.gmpl_blocks.specs.Slots.{all_stars, tuple, slice, table, placed, comma}

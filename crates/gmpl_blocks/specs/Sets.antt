@@ -5,12 +5,12 @@ use Rattle.gmpl_token.specs.declared.kind.TokenKind.TheVariants as k
 use Rattle.gmpl_value.specs.declared.symbol.Symbol.{Symbol}
 use Rattle.gmpl_value.specs.declared.fault.SetFault.{SetFault}
 use Rattle.gmpl_value.specs.Sets.{Elements, is_member, with_element}
-use Rattle.gmpl_data_input.specs.declared.fault.DataFaultKind.{DataFaultKind}
-use Rattle.gmpl_data_input.specs.declared.fault.DataFaultKind.TheVariants.{Twice, WrongDimension}
-use Rattle.gmpl_data_input.specs.Input.{sees_transposition}
-use Rattle.gmpl_data_input.specs.Rules.{Rule, ◌>>=◌, ◌>>◌, pure, refuse, fault, judged, peek, take_token, expect, eat}
-use Rattle.gmpl_data_input.specs.Symbols.{Slot, symbol, next_symbol, word}
-use Rattle.gmpl_blocks.specs.declared.slots.TableHead.{TableHead}
+use Rattle.gmpl_blocks.specs.declared.fault.DataFaultKind.{DataFaultKind}
+use Rattle.gmpl_blocks.specs.declared.fault.DataFaultKind.TheVariants.{Twice, WrongDimension}
+use Rattle.gmpl_blocks.specs.Input.{sees_transposition}
+use Rattle.gmpl_blocks.specs.Rules.{Rule, ◌>>=◌, ◌>>◌, pure, refuse, fault, judged, peek, take_token, expect, eat}
+use Rattle.gmpl_blocks.specs.Symbols.{Slot, symbol, next_symbol, word}
+use Rattle.gmpl_blocks.specs.declared.block_slots.TableHead.{TableHead}
 use Rattle.gmpl_blocks.specs.declared.sets.SetData.{SetData}
 use Rattle.gmpl_blocks.specs.declared.sets.SetBlock.{SetBlock}
 use Rattle.gmpl_blocks.specs.Slots.{all_stars, stars, tuple, slice, table, placed, comma}

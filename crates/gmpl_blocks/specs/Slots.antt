@@ -4,10 +4,10 @@ use Rattle.std.specs.List.{count_by}
 use Rattle.gmpl_token.specs.declared.kind.TokenKind.{TokenKind}
 use Rattle.gmpl_token.specs.declared.kind.TokenKind.TheVariants as k
 use Rattle.gmpl_value.specs.declared.symbol.Symbol.{Symbol}
-use Rattle.gmpl_data_input.specs.declared.fault.DataFaultKind.TheVariants.{WrongDimension}
-use Rattle.gmpl_data_input.specs.Rules.{Rule, ◌>>=◌, ◌>>◌, pure, refuse, fault, peek, take_token}
-use Rattle.gmpl_data_input.specs.Symbols.{Slot, next_symbol, begins_symbol, slots, columns}
-use Rattle.gmpl_blocks.specs.declared.slots.TableHead.{TableHead}
+use Rattle.gmpl_blocks.specs.declared.fault.DataFaultKind.TheVariants.{WrongDimension}
+use Rattle.gmpl_blocks.specs.Rules.{Rule, ◌>>=◌, ◌>>◌, pure, refuse, fault, peek, take_token}
+use Rattle.gmpl_blocks.specs.Symbols.{Slot, next_symbol, begins_symbol, slots, columns}
+use Rattle.gmpl_blocks.specs.declared.block_slots.TableHead.{TableHead}
 
 -- ---- slots
 

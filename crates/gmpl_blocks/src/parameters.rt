@@ -1,11 +1,11 @@
 // What the block of a parameter gives to its members.
 ghost use Rattle.std.specs.Prelude.{◌≡◌, length};
-ghost use Rattle.gmpl_data_input.specs.Rules.{Reads, Judges};
+ghost use Rattle.gmpl_blocks.specs.Rules.{Reads, Judges};
 ghost use Rattle.gmpl_blocks.specs.Parameters as spec;
 ghost use Rattle.gmpl_blocks.specs.Slots.{placed};
 
-use crate::slots::{TableHead, all_stars, comma, placed, slice, table, tuple};
-use gmpl_data_input::{Cursor, DataError, DataFaultKind, next_symbol, symbol, word};
+use crate::block_slots::{TableHead, all_stars, comma, placed, slice, table, tuple};
+use crate::{Cursor, DataError, DataFaultKind, next_symbol, symbol, word};
 use gmpl_members::{Members, Value};
 use gmpl_token::TokenKind;
 use gmpl_value::{Symbol, Tuple};

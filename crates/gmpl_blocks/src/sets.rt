@@ -1,11 +1,11 @@
 // What the block of a set gives to it.
 ghost use Rattle.std.specs.Prelude.{◌≡◌, length};
-ghost use Rattle.gmpl_data_input.specs.Rules.{Reads, Judges};
+ghost use Rattle.gmpl_blocks.specs.Rules.{Reads, Judges};
 ghost use Rattle.gmpl_blocks.specs.Sets as spec;
 ghost use Rattle.gmpl_blocks.specs.Slots.{placed};
 
-use crate::slots::{TableHead, all_stars, comma, placed, slice, stars, table, tuple};
-use gmpl_data_input::{Cursor, DataError, DataFaultKind, next_symbol, symbol, word};
+use crate::block_slots::{TableHead, all_stars, comma, placed, slice, stars, table, tuple};
+use crate::{Cursor, DataError, DataFaultKind, next_symbol, symbol, word};
 use gmpl_token::TokenKind;
 use gmpl_value::{SetFault, SetValue, Symbol, Tuple};
 use sqlite_items::Items;

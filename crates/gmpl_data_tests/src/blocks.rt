@@ -1,8 +1,8 @@
 // Data texts with what they give to the objects of a model, or with their first bad block.
 use crate::rows::{Subject, check};
+use gmpl_blocks::{DataFault, DataFaultKind};
 use gmpl_data::{DataTables, Given};
-use gmpl_data_input::{DataFault, DataFaultKind};
-use gmpl_data_tokens::read_data_tokens;
+use gmpl_lexer::read_data_tokens;
 use gmpl_load::{DataObject, DataSort, LoadError, load};
 use gmpl_member_names::symbol_text;
 use gmpl_members::Value;

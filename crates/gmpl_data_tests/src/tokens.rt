@@ -1,6 +1,6 @@
 // Data texts with their tokens, or with the first place where none can stand.
 use crate::rows::{Subject, check};
-use gmpl_data_tokens::read_data_tokens;
+use gmpl_lexer::read_data_tokens;
 use gmpl_token::{LexFault, LexFaultKind, Token, TokenKind, Tokens};
 use std::alloc::{AllocError, Global};
 use std::test::Fail;

@@ -4,7 +4,7 @@ use Rattle.gmpl_syntax.specs.declared.expression.Suffix.{Suffix}
 use Rattle.gmpl_value.specs.declared.symbol.Symbol.{Symbol}
 use Rattle.gmpl_data.specs.declared.tables.LoadedModel.{LoadedModel}
 use Rattle.gmpl_data.specs.Given.{statement_at}
-use Rattle.gmpl_fault.specs.declared.fault.EvalFault.TheVariants as fault
+use Rattle.gmpl_value.specs.declared.eval_fault.EvalFault.TheVariants as fault
 use Rattle.gmpl_meaning.specs.Members.{member, declared}
 
 pub member_none : (model : LoadedModel) (height place : ℕ) (asked : Option Suffix) (subscripts : List Symbol) → height ≡ 0 → member model height place asked subscripts ≡ Err fault.Depth

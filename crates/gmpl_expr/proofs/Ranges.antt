@@ -5,8 +5,8 @@ use Rattle.gmpl_resolved.specs.declared.expression.Expr.{Expr}
 use Rattle.gmpl_resolved.specs.declared.expression.Expr.TheVariants as e
 use Rattle.gmpl_value.specs.declared.symbol.Symbol.{Symbol}
 use Rattle.gmpl_value.specs.Sets.{Elements as Set}
-use Rattle.gmpl_fault.specs.declared.fault.EvalFault.{EvalFault}
-use Rattle.gmpl_fault.specs.Outcome.{GivesAs, then_do}
+use Rattle.gmpl_value.specs.declared.eval_fault.EvalFault.{EvalFault}
+use Rattle.gmpl_value.specs.Outcome.{GivesAs, then_do}
 use Rattle.gmpl_operations.specs.Values.{set_in}
 use Rattle.gmpl_data.specs.declared.tables.LoadedModel.{LoadedModel}
 use Rattle.gmpl_meaning.specs.Parts.{Meant}

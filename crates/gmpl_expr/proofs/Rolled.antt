@@ -7,8 +7,8 @@ use Rattle.gmpl_resolved.specs.declared.expression.Expr.{Expr}
 use Rattle.gmpl_resolved.specs.declared.expression.Expr.TheVariants as e
 use Rattle.gmpl_resolved.specs.declared.expression.Expr.TheVariants.{rolls-Compared, rolls-Range}
 use Rattle.gmpl_value.specs.declared.symbol.Symbol.{Symbol}
-use Rattle.gmpl_fault.specs.declared.fault.EvalFault.{EvalFault}
-use Rattle.gmpl_fault.specs.Outcome.{Gives}
+use Rattle.gmpl_value.specs.declared.eval_fault.EvalFault.{EvalFault}
+use Rattle.gmpl_value.specs.Outcome.{Gives}
 use Rattle.gmpl_operations.specs.declared.value.Value.{Value}
 use Rattle.gmpl_data.specs.declared.tables.LoadedModel.{LoadedModel}
 use Rattle.gmpl_meaning.specs.Parts.{Meant, MeantComponent, MeantEntry, MeantIndexing, MeantLink}

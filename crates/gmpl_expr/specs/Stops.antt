@@ -1,8 +1,8 @@
 -- How a walk ends at a fault: want of memory is none of the walk's.
 use Rattle.std.specs.Prelude.{Some, Ok, Err, List}
-use Rattle.gmpl_fault.specs.declared.fault.EvalFault.{EvalFault}
-use Rattle.gmpl_fault.specs.declared.fault.EvalFault.TheVariants.{NoMemory}
-use Rattle.gmpl_fault.specs.Outcome.{Outcome}
+use Rattle.gmpl_value.specs.declared.eval_fault.EvalFault.{EvalFault}
+use Rattle.gmpl_value.specs.declared.eval_fault.EvalFault.TheVariants.{NoMemory}
+use Rattle.gmpl_value.specs.Outcome.{Outcome}
 use Rattle.gmpl_meaning.specs.declared.walk.Element.{Element}
 use Rattle.gmpl_meaning.specs.declared.walk.Walk.{Walk}
 use Rattle.gmpl_meaning.specs.Walks.{walk}

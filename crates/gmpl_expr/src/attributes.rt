@@ -1,17 +1,16 @@
 // Attributes of statements, and what they ask of values.
 ghost use Rattle.std.specs.Prelude.{◌≡◌};
 ghost use Rattle.std.specs.Option.{option_copied};
-ghost use Rattle.gmpl_fault.specs.Outcome.{Gives};
+ghost use Rattle.gmpl_value.specs.Outcome.{Gives};
 ghost use Rattle.gmpl_meaning.specs.Restrictions as spec;
 
 use fraction::Frac;
-use gmpl_fault::EvalFault;
 use gmpl_functions::{greater, lesser};
 use gmpl_meaning::Bounds;
 use gmpl_operations::Value;
 use gmpl_resolved::{Attribute, Expr};
 use gmpl_syntax::Relation;
-use gmpl_value::Symbol;
+use gmpl_value::{EvalFault, Symbol};
 
 fn is_symbolic_by(attribute: &Attribute) -> bool
     ensures { result ≡ spec.is_symbolic_by attribute.now }

@@ -1,8 +1,8 @@
 // The evaluators.
 ghost use Rattle.std.specs.Prelude.{◌≡◌, Ok, Some};
-ghost use Rattle.gmpl_fault.specs.Outcome.{Gives, then_do};
-ghost use Rattle.gmpl_forms.specs.Amounts.{form_in};
-ghost use Rattle.gmpl_kept.specs.Right.{AreRight};
+ghost use Rattle.gmpl_value.specs.Outcome.{Gives, then_do};
+ghost use Rattle.gmpl_functions.specs.Amounts.{form_in};
+ghost use Rattle.gmpl_meaning.specs.Right.{AreRight};
 ghost use Rattle.gmpl_meaning.specs.Members.{evaluated, elements_of, bounds_at, member_at};
 ghost use Rattle.gmpl_operations.specs.Values.{number_in, symbol_in, set_in, truth_in, amount_in};
 
@@ -14,13 +14,11 @@ use crate::places::start;
 use crate::variables::bounds_by;
 use fraction::Frac;
 use gmpl_data::LoadedModel;
-use gmpl_fault::EvalFault;
-use gmpl_forms::{Amount, Form, Variable};
-use gmpl_kept::Kept;
-use gmpl_meaning::{Bounds, Walk};
+use gmpl_functions::{Amount, Form, Variable};
+use gmpl_meaning::{Bounds, Kept, Walk};
 use gmpl_operations::Value;
 use gmpl_resolved::{Expr, Indexing};
-use gmpl_value::{SetValue, Symbol, Tuple};
+use gmpl_value::{EvalFault, SetValue, Symbol, Tuple};
 use std::alloc::Global;
 
 // The longest chain of members.

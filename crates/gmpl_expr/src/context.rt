@@ -2,7 +2,7 @@
 ghost use Rattle.std.specs.Prelude.{◌≡◌};
 
 use gmpl_data::LoadedModel;
-use gmpl_kept::Kept;
+use gmpl_meaning::Kept;
 use std::alloc::Global;
 use std::marker::Model;
 
@@ -16,7 +16,7 @@ pub struct Context<'a> {
 impl<'a> Model for Context<'a> {
     ghost use Rattle.gmpl_data.specs.declared.tables.LoadedModel.{LoadedModel};
     ghost use Rattle.gmpl_data.specs.contracts.tables.LoadedModel as tables;
-    ghost use Rattle.gmpl_kept.specs.Right.{AreRight};
+    ghost use Rattle.gmpl_meaning.specs.Right.{AreRight};
 
     ghost Value = { LoadedModel };
 

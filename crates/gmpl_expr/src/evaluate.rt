@@ -6,11 +6,11 @@
 // `height` is how many members may still stand in the chain of demands, and `room` how many expressions may still stand within
 // one another; where there is no room, memory is wanting.
 ghost use Rattle.std.specs.Prelude.{◌≡◌};
-ghost use Rattle.gmpl_fault.specs.Outcome.{Gives};
+ghost use Rattle.gmpl_value.specs.Outcome.{Gives};
 ghost use Rattle.gmpl_expr.specs.At as at;
 ghost use Rattle.gmpl_meaning.specs.Expressions as spec;
 ghost use Rattle.gmpl_meaning.specs.Members.{member};
-ghost use Rattle.gmpl_kept.specs.Right.{AreRight};
+ghost use Rattle.gmpl_meaning.specs.Right.{AreRight};
 
 use crate::members::demanded;
 use crate::parts::{bound_to, nothing};
@@ -18,12 +18,11 @@ use crate::places::copied;
 use crate::set_kinds::is_set;
 use crate::values::{braces, called, compared, holds, iterated, negation, power, range, symbols};
 use gmpl_data::LoadedModel;
-use gmpl_fault::EvalFault;
-use gmpl_kept::Kept;
+use gmpl_meaning::Kept;
 use gmpl_operations::{Value, applied, decides, signed, taken};
 use gmpl_resolved::{Expr, Link, Meaning};
 use gmpl_syntax::Suffix;
-use gmpl_value::{Symbol, Tuple};
+use gmpl_value::{EvalFault, Symbol, Tuple};
 use sqlite_items::Boxed;
 use std::alloc::Global;
 

@@ -1,12 +1,12 @@
 // What indexing expressions go over, and whether subscripts lie in a domain.
 ghost use Rattle.std.specs.Prelude.{◌≡◌, [], Ok};
-ghost use Rattle.gmpl_fault.specs.Outcome.{Gives, GivesAs};
+ghost use Rattle.gmpl_value.specs.Outcome.{Gives, GivesAs};
 ghost use Rattle.gmpl_expr.specs.At as at;
 ghost use Rattle.gmpl_meaning.specs.Walks as walks;
 ghost use Rattle.gmpl_meaning.specs.Domains as domains;
 ghost use Rattle.gmpl_meaning.specs.Members.{member};
 ghost use Rattle.gmpl_expr.specs.Shared.{entered};
-ghost use Rattle.gmpl_kept.specs.Right.{AreRight};
+ghost use Rattle.gmpl_meaning.specs.Right.{AreRight};
 
 use crate::entered::Entered;
 use crate::evaluate::eval;
@@ -14,11 +14,9 @@ use crate::places::{add_matches, copied, start, stopped, within_value};
 use crate::sets::shared_set;
 use crate::values::holds;
 use gmpl_data::LoadedModel;
-use gmpl_fault::EvalFault;
-use gmpl_kept::Kept;
-use gmpl_meaning::Walk;
+use gmpl_meaning::{Kept, Walk};
 use gmpl_resolved::{Component, Entry, Expr, Indexing};
-use gmpl_value::{Symbol, Tuple};
+use gmpl_value::{EvalFault, Symbol, Tuple};
 use sqlite_items::Items;
 use std::alloc::Global;
 

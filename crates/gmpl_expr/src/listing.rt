@@ -1,14 +1,13 @@
 // Sets of elements.
 ghost use Rattle.std.specs.Prelude.{◌≡◌, []};
-ghost use Rattle.gmpl_fault.specs.Outcome.{Gives, Follows, GivesAs};
+ghost use Rattle.gmpl_value.specs.Outcome.{Gives, Follows, GivesAs};
 ghost use Rattle.gmpl_meaning.specs.Expressions as spec;
 ghost use Rattle.gmpl_operations.specs.Values.{set_in};
-ghost use Rattle.gmpl_fault.specs.Outcome.{then_do};
+ghost use Rattle.gmpl_value.specs.Outcome.{then_do};
 
-use gmpl_fault::EvalFault;
 use gmpl_meaning::{Element, Walk};
 use gmpl_operations::Value;
-use gmpl_value::{SetValue, Tuple};
+use gmpl_value::{EvalFault, SetValue, Tuple};
 use std::alloc::Global;
 
 /// A set with one more element.

@@ -1,11 +1,11 @@
 // What members come to: demands, and the members of parameters and sets.
 ghost use Rattle.std.specs.Prelude.{◌≡◌, None};
-ghost use Rattle.gmpl_fault.specs.Outcome.{Gives, GivesAs};
+ghost use Rattle.gmpl_value.specs.Outcome.{Gives, GivesAs};
 ghost use Rattle.gmpl_meaning.specs.Restrictions as restrictions;
 ghost use Rattle.gmpl_meaning.specs.Members as members;
 ghost use Rattle.gmpl_data.specs.Given as given;
 ghost use Rattle.gmpl_meaning.specs.Members.{member};
-ghost use Rattle.gmpl_kept.specs.Right.{AreRight, value_seen};
+ghost use Rattle.gmpl_meaning.specs.Right.{AreRight, value_seen};
 
 use crate::attributes::{assigned, default_of, held, is_symbolic};
 use crate::evaluate::eval;
@@ -16,12 +16,11 @@ use crate::restrictions::{inclusions_hold, restricted};
 use crate::solved::row_member;
 use crate::variables::variable_member;
 use gmpl_data::LoadedModel;
-use gmpl_fault::EvalFault;
-use gmpl_kept::{Kept, KeptValue};
+use gmpl_meaning::{Kept, KeptValue};
 use gmpl_operations::Value;
 use gmpl_resolved::{Attribute, Declaration, Statement};
 use gmpl_syntax::Suffix;
-use gmpl_value::Tuple;
+use gmpl_value::{EvalFault, Tuple};
 use std::alloc::Global;
 
 // ---- demands

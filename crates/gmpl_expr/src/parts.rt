@@ -1,22 +1,21 @@
 // Steps of the evaluation that evaluate nothing themselves.
 ghost use Rattle.std.specs.Prelude.{◌≡◌, slice_get, IfOk};
-ghost use Rattle.gmpl_fault.specs.Outcome.{Gives, GivesAs, Outcome, then_do};
+ghost use Rattle.gmpl_value.specs.Outcome.{Gives, GivesAs, Outcome, then_do};
 ghost use Rattle.gmpl_operations.specs.Relations.{negated};
 ghost use Rattle.gmpl_operations.specs.Values.{as_truth, set_in};
 ghost use Rattle.gmpl_meaning.specs.Expressions as spec;
 ghost use Rattle.gmpl_meaning.specs.Members as members;
 ghost use Rattle.std.specs.Prelude.{Bool, Ok};
 ghost use Rattle.gmpl_data.specs.declared.tables.LoadedModel.{LoadedModel};
-ghost use Rattle.gmpl_kept.specs.Right.{AreRight};
+ghost use Rattle.gmpl_meaning.specs.Right.{AreRight};
 
 use fraction::Frac;
-use gmpl_fault::EvalFault;
 use gmpl_functions::card;
-use gmpl_kept::{Asked, Kept};
+use gmpl_meaning::{Asked, Kept};
 use gmpl_members::Value as Given;
 use gmpl_operations::{Value, ended, is_decided};
 use gmpl_syntax::Iteration;
-use gmpl_value::{SetValue, Tuple, range};
+use gmpl_value::{EvalFault, SetValue, Tuple, range};
 use std::alloc::{AllocError, Global};
 use std::rc::Rc;
 

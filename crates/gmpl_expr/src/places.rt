@@ -1,6 +1,6 @@
 // Elements of indexing expressions, and subscripts within an entry's set.
 ghost use Rattle.std.specs.Prelude.{◌≡◌, OnOk, IfOk, take, drop, Ok};
-ghost use Rattle.gmpl_fault.specs.Outcome.{Gives};
+ghost use Rattle.gmpl_value.specs.Outcome.{Gives};
 ghost use Rattle.gmpl_expr.specs.Stops as stops;
 ghost use Rattle.gmpl_expr.specs.Shared.{entered};
 ghost use Rattle.gmpl_meaning.specs.Walks as walks;
@@ -8,10 +8,9 @@ ghost use Rattle.gmpl_meaning.specs.Domains as domains;
 ghost use Rattle.gmpl_operations.specs.Patterns.{matched};
 
 use crate::entered::Entered;
-use gmpl_fault::EvalFault;
 use gmpl_meaning::{Element, Walk};
 use gmpl_operations::matched;
-use gmpl_value::{Symbol, Tuple};
+use gmpl_value::{EvalFault, Symbol, Tuple};
 use sqlite_items::Items;
 use std::alloc::{AllocError, Global};
 

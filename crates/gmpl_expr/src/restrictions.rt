@@ -1,20 +1,19 @@
 // Whether the values of parameters and sets meet what is asked of them.
 ghost use Rattle.std.specs.Prelude.{◌≡◌};
-ghost use Rattle.gmpl_fault.specs.Outcome.{Gives};
+ghost use Rattle.gmpl_value.specs.Outcome.{Gives};
 ghost use Rattle.gmpl_meaning.specs.Restrictions as restrictions;
 ghost use Rattle.gmpl_meaning.specs.Members.{member};
-ghost use Rattle.gmpl_kept.specs.Right.{AreRight};
+ghost use Rattle.gmpl_meaning.specs.Right.{AreRight};
 
 use crate::attributes::{all_allow, held, is_in, where_true};
 use crate::evaluate::eval;
 use crate::places::copied;
 use crate::sets::shared_set;
 use gmpl_data::LoadedModel;
-use gmpl_fault::EvalFault;
-use gmpl_kept::Kept;
+use gmpl_meaning::Kept;
 use gmpl_operations::{Value, compared as symbols_compared};
 use gmpl_resolved::Attribute;
-use gmpl_value::{SetValue, Symbol, Tuple};
+use gmpl_value::{EvalFault, SetValue, Symbol, Tuple};
 use std::alloc::Global;
 
 // ---- parameters

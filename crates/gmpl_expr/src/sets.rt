@@ -1,12 +1,12 @@
 // Sets that are looked at: those that are kept are shared, and none is copied.
 ghost use Rattle.std.specs.Prelude.{◌≡◌, Ok};
-ghost use Rattle.gmpl_fault.specs.Outcome.{Gives, GivesAs, then_do};
+ghost use Rattle.gmpl_value.specs.Outcome.{Gives, GivesAs, then_do};
 ghost use Rattle.gmpl_expr.specs.At as at;
 ghost use Rattle.gmpl_meaning.specs.Expressions as spec;
 ghost use Rattle.gmpl_meaning.specs.Walks as walks;
 ghost use Rattle.gmpl_meaning.specs.Members.{member};
 ghost use Rattle.gmpl_operations.specs.Values.{set_in};
-ghost use Rattle.gmpl_kept.specs.Right.{AreRight};
+ghost use Rattle.gmpl_meaning.specs.Right.{AreRight};
 
 use crate::evaluate::eval;
 use crate::members::demanded;
@@ -14,11 +14,10 @@ use crate::parts::{index_set, kept_range};
 use crate::values::{number, symbols};
 use fraction::Frac;
 use gmpl_data::LoadedModel;
-use gmpl_fault::EvalFault;
-use gmpl_kept::Kept;
+use gmpl_meaning::Kept;
 use gmpl_resolved::{Expr, Meaning};
 use gmpl_syntax::Suffix;
-use gmpl_value::{SetValue, Tuple};
+use gmpl_value::{EvalFault, SetValue, Tuple};
 use sqlite_items::Boxed;
 use std::alloc::Global;
 use std::rc::Rc;

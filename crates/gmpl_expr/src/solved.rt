@@ -1,21 +1,20 @@
 // What members of variables, constraints and objectives come to: before `solve` a form, and behind it the numbers of the solution.
 ghost use Rattle.std.specs.Prelude.{◌≡◌, [], ◌∷◌, Some, Ok};
 ghost use Rattle.rational.specs.Rational.{one_ℚ, zero_ℚ};
-ghost use Rattle.gmpl_fault.specs.Outcome.{Gives};
-ghost use Rattle.gmpl_forms.specs.Linear.{linear};
+ghost use Rattle.gmpl_value.specs.Outcome.{Gives};
+ghost use Rattle.gmpl_functions.specs.Linear.{linear};
 ghost use Rattle.gmpl_solution.specs.Solution as solutions;
 ghost use Rattle.gmpl_meaning.specs.Members as members;
 ghost use Rattle.gmpl_operations.specs.Values.{of_number};
 ghost use Rattle.gmpl_operations.specs.declared.value.Value.TheVariants as values;
 
 use fraction::Frac;
-use gmpl_fault::EvalFault;
-use gmpl_forms::{Form, Variable};
+use gmpl_functions::{Form, Variable};
 use gmpl_meaning::Bounds;
 use gmpl_operations::Value;
 use gmpl_solution::{Member, Solution, SolvedRow};
 use gmpl_syntax::Suffix;
-use gmpl_value::Tuple;
+use gmpl_value::{EvalFault, Tuple};
 use std::alloc::Global;
 
 // A place among the statements as a 32-bit number. One that is none, which no text reaches, counts as want of memory.

@@ -1,10 +1,10 @@
 // Lists of values, functions, comparisons, braces and iterations.
 ghost use Rattle.std.specs.Prelude.{◌≡◌, []};
-ghost use Rattle.gmpl_fault.specs.Outcome.{Gives};
+ghost use Rattle.gmpl_value.specs.Outcome.{Gives};
 ghost use Rattle.gmpl_expr.specs.At as at;
 ghost use Rattle.gmpl_meaning.specs.Expressions as spec;
 ghost use Rattle.gmpl_meaning.specs.Walks as walks;
-ghost use Rattle.gmpl_kept.specs.Right.{AreRight};
+ghost use Rattle.gmpl_meaning.specs.Right.{AreRight};
 ghost use Rattle.gmpl_expr.specs.Membership as membership;
 ghost use Rattle.gmpl_syntax.specs.declared.expression.Relation.TheVariants as relations;
 
@@ -16,16 +16,14 @@ use crate::set_kinds::is_indexing;
 use crate::sets::shared_set;
 use fraction::Frac;
 use gmpl_data::LoadedModel;
-use gmpl_fault::EvalFault;
 use gmpl_functions::{length, power as power_of};
-use gmpl_kept::Kept;
-use gmpl_meaning::Walk;
+use gmpl_meaning::{Kept, Walk};
 use gmpl_operations::{
     Value, called_with_numbers, ended, is_decided, joined, left_side, related, sliced,
 };
 use gmpl_resolved::{Entry, Expr, Indexing};
 use gmpl_syntax::{Function, Iteration, Relation};
-use gmpl_value::{SetValue, Tuple};
+use gmpl_value::{EvalFault, SetValue, Tuple};
 use sqlite_items::{Boxed, Items};
 use std::alloc::Global;
 

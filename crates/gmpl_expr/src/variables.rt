@@ -1,24 +1,22 @@
 // What members of variables come to, and their bounds.
 ghost use Rattle.std.specs.Prelude.{◌≡◌};
-ghost use Rattle.gmpl_fault.specs.Outcome.{Gives};
+ghost use Rattle.gmpl_value.specs.Outcome.{Gives};
 ghost use Rattle.gmpl_meaning.specs.Restrictions as restrictions;
 ghost use Rattle.gmpl_meaning.specs.Members as members;
 ghost use Rattle.gmpl_data.specs.Given as given;
 ghost use Rattle.gmpl_meaning.specs.Members.{member};
-ghost use Rattle.gmpl_kept.specs.Right.{AreRight};
+ghost use Rattle.gmpl_meaning.specs.Right.{AreRight};
 
 use crate::attributes::{where_binary, with_bound};
 use crate::indexing::within_domain;
 use crate::solved::variable_value;
 use crate::values::number;
 use gmpl_data::LoadedModel;
-use gmpl_fault::EvalFault;
-use gmpl_kept::Kept;
-use gmpl_meaning::Bounds;
+use gmpl_meaning::{Bounds, Kept};
 use gmpl_operations::Value;
 use gmpl_resolved::{Attribute, Declaration, Statement};
 use gmpl_syntax::Suffix;
-use gmpl_value::Tuple;
+use gmpl_value::{EvalFault, Tuple};
 use std::alloc::Global;
 
 #[cycle(evaluation)]

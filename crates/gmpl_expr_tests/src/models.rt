@@ -6,14 +6,13 @@ use gmpl_data::{DataTables, Given, LoadedModel};
 use gmpl_expr::{
     Context, bounds_of, elements_of, eval_bool, eval_form, eval_num, eval_set, eval_sym,
 };
-use gmpl_fault::EvalFault;
-use gmpl_forms::Variable;
+use gmpl_functions::Variable;
 use gmpl_lexer::read_tokens;
 use gmpl_meaning::Walk;
 use gmpl_members::{Members, Value};
 use gmpl_parse::parse;
 use gmpl_resolved::{Attribute, Declaration, Expr, Indexing, Numbered, Statement};
-use gmpl_value::{SetValue, Symbol, Tuple};
+use gmpl_value::{EvalFault, SetValue, Symbol, Tuple};
 use sqlite_items::Items;
 use std::alloc::{AllocError, Global};
 use std::test::Fail;

@@ -1,9 +1,7 @@
 // How the tables write values and faults.
 use fraction::{NoFit, Op};
-use gmpl_fault::EvalFault;
-use gmpl_forms::{Form, Variable};
-use gmpl_functions::plain_text;
-use gmpl_value::{SetValue, Symbol, Tuple};
+use gmpl_functions::{Form, Variable, plain_text};
+use gmpl_value::{EvalFault, SetValue, Symbol, Tuple};
 use std::alloc::{AllocError, Global};
 
 /// A symbol: a string stands behind a quote.

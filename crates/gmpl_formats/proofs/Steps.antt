@@ -5,9 +5,9 @@ use Rattle.std.proofs.lemmas.List.{at_drop_more, at_drop_all}
 use Rattle.std.specs.Prelude.{None, Result, Ok, Err}
 use Rattle.std.specs.Result.{IsErrAnd}
 use Rattle.gmpl_value.specs.declared.symbol.Symbol.{Symbol}
-use Rattle.gmpl_fault.specs.declared.fault.EvalFault.{EvalFault}
-use Rattle.gmpl_fault.specs.declared.fault.EvalFault.TheVariants.{NoValue, OutOfDomain, Restriction, DivZero, NotWhole, NotANumber, Nonlinear, BadFormat, Depth, TooMany, NoFit, NoMemory}
-use Rattle.gmpl_fault.specs.Outcome.{Faults, Follows, Outcome, then_do}
+use Rattle.gmpl_value.specs.declared.eval_fault.EvalFault.{EvalFault}
+use Rattle.gmpl_value.specs.declared.eval_fault.EvalFault.TheVariants.{NoValue, OutOfDomain, Restriction, DivZero, NotWhole, NotANumber, Nonlinear, BadFormat, Depth, TooMany, NoFit, NoMemory}
+use Rattle.gmpl_value.specs.Outcome.{Faults, Follows, Outcome, then_do}
 use Rattle.gmpl_formats.specs.declared.conversion.Piece.{Piece}
 use Rattle.gmpl_formats.specs.Conversions.{number_on}
 use Rattle.gmpl_formats.specs.Pieces.{step_of, pieces_behind}

@@ -3,8 +3,8 @@ use Rattle.std.specs.Prelude.{ℕ, Ok, Err, List, [], ◌∷◌, ◌++◌, drop}
 use Rattle.std.specs.Str.{chars}
 use Rattle.std.specs.Char.{encode_utf8}
 use Rattle.gmpl_value.specs.declared.symbol.Symbol.{Symbol}
-use Rattle.gmpl_fault.specs.declared.fault.EvalFault.TheVariants.{BadFormat}
-use Rattle.gmpl_fault.specs.Outcome.{Outcome, then_do}
+use Rattle.gmpl_value.specs.declared.eval_fault.EvalFault.TheVariants.{BadFormat}
+use Rattle.gmpl_value.specs.Outcome.{Outcome, then_do}
 use Rattle.gmpl_formats.specs.declared.conversion.Piece.{Piece}
 use Rattle.gmpl_formats.specs.declared.conversion.Piece.TheVariants.{Character, Value, Bad}
 use Rattle.gmpl_formats.specs.Pieces.{pieces_of}

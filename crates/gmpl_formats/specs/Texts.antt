@@ -8,8 +8,8 @@ use Rattle.rational.specs.Rational.{Rational, abs_ℚ}
 use Rattle.rational.specs.Compare.{is_whole, is_negative}
 use Rattle.decimals.specs.Decimals.{fixed, general}
 use Rattle.gmpl_value.specs.declared.symbol.Symbol.{Symbol}
-use Rattle.gmpl_fault.specs.declared.fault.EvalFault.TheVariants.{NotWhole}
-use Rattle.gmpl_fault.specs.Outcome.{Outcome, then_do}
+use Rattle.gmpl_value.specs.declared.eval_fault.EvalFault.TheVariants.{NotWhole}
+use Rattle.gmpl_value.specs.Outcome.{Outcome, then_do}
 use Rattle.gmpl_functions.specs.Numbers.{number_of}
 use Rattle.gmpl_functions.specs.Strings.{characters}
 use Rattle.gmpl_formats.specs.declared.conversion.Style.{Style}

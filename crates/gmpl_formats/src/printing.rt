@@ -1,13 +1,12 @@
 // What a format makes of its arguments.
 ghost use Rattle.std.specs.Prelude.{◌≡◌, string_bytes};
-ghost use Rattle.gmpl_fault.specs.Outcome.{Follows, GivesAs};
+ghost use Rattle.gmpl_value.specs.Outcome.{Follows, GivesAs};
 ghost use Rattle.gmpl_formats.specs.Printing.{piece_text, with_piece, left_behind, printed_onto, printed};
 
 use crate::conversion::Piece;
 use crate::pieces::read_pieces;
 use crate::texts::conversion_text;
-use gmpl_fault::EvalFault;
-use gmpl_value::Symbol;
+use gmpl_value::{EvalFault, Symbol};
 use std::alloc::Global;
 
 /// The text that a format makes of its arguments. From left to right, the first of these is the fault: `BadFormat` for

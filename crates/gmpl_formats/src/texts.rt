@@ -2,7 +2,7 @@
 ghost use Rattle.std.specs.Prelude.{◌≡◌, ◌<◌, ◌++◌, IfOk, OnOk, string_bytes, replicate, unsigned_abs};
 ghost use Rattle.std.specs.Str.{encode_utf8_all};
 ghost use Rattle.std.specs.Fmt.{sign_text};
-ghost use Rattle.gmpl_fault.specs.Outcome.{GivesAs};
+ghost use Rattle.gmpl_value.specs.Outcome.{GivesAs};
 ghost use Rattle.gmpl_functions.specs.Strings.{characters};
 ghost use Rattle.gmpl_formats.specs.Texts.{padded, cut, bare_text, number_text, whole_digits, whole_text, digits_of, fixed_text, general_text, conversion_text};
 
@@ -10,9 +10,8 @@ use crate::conversion::{Conversion, Style};
 use crate::pieces::characters_of;
 use decimals::{fixed, general};
 use fraction::Frac;
-use gmpl_fault::EvalFault;
 use gmpl_functions::{number_of, plain_text};
-use gmpl_value::Symbol;
+use gmpl_value::{EvalFault, Symbol};
 use std::alloc::{AllocError, Global};
 
 // The precision where a conversion has none.

@@ -7,9 +7,9 @@ use Rattle.rational.proofs.Laws.{same_parts}
 use Rattle.fraction.specs.Fits.{part_max}
 use Rattle.fraction.specs.Answers.{mul_answer}
 use Rattle.fraction.specs.declared.frac.NoFit.{NoFit}
-use Rattle.gmpl_fault.specs.declared.fault.EvalFault.{EvalFault}
-use Rattle.gmpl_fault.specs.declared.fault.EvalFault.TheVariants as fault
-use Rattle.gmpl_fault.specs.Outcome.{Outcome, Faults, Gives}
+use Rattle.gmpl_value.specs.declared.eval_fault.EvalFault.{EvalFault}
+use Rattle.gmpl_value.specs.declared.eval_fault.EvalFault.TheVariants as fault
+use Rattle.gmpl_value.specs.Outcome.{Outcome, Faults, Gives}
 use Rattle.gmpl_functions.specs.Powers.{product_of, with_factors}
 
 pub one_more : (left less : ℕ) (product next x : Rational) → left ≡ suc less → mul_answer product x ≡ Ok next → with_factors left product x ≡ with_factors less next x

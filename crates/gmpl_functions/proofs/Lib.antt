@@ -1,2 +1,4 @@
 pub mod Factors
 pub mod Halves
+pub mod ScalingSteps
+pub mod SumSteps

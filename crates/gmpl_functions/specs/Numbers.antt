@@ -7,8 +7,8 @@ use Rattle.fraction.specs.Literal.{read_of}
 use Rattle.fraction.specs.declared.read.ReadFault.{ReadFault}
 use Rattle.gmpl_value.specs.declared.symbol.Symbol.{Symbol}
 use Rattle.gmpl_value.specs.declared.symbol.Symbol.TheVariants.{Number, Word}
-use Rattle.gmpl_fault.specs.declared.fault.EvalFault.TheVariants.{DivZero, NoValue, NotANumber}
-use Rattle.gmpl_fault.specs.Outcome.{Outcome, then_do, fitting}
+use Rattle.gmpl_value.specs.declared.eval_fault.EvalFault.TheVariants.{DivZero, NoValue, NotANumber}
+use Rattle.gmpl_value.specs.Outcome.{Outcome, then_do, fitting}
 
 abbrev pub read_number : Result Rational ReadFault → Outcome Rational
 read_number (Ok q) = Ok q

@@ -3,8 +3,8 @@ use Rattle.std.specs.Prelude.{ℕ, zero, suc, pos, cond, unsigned_abs, Ok, Err}
 use Rattle.rational.specs.Rational.{Rational, one_ℚ, whole}
 use Rattle.rational.specs.Compare.{is_negative, is_whole}
 use Rattle.fraction.specs.Answers.{mul_answer}
-use Rattle.gmpl_fault.specs.declared.fault.EvalFault.TheVariants.{NotWhole}
-use Rattle.gmpl_fault.specs.Outcome.{Outcome, then_do, fitting}
+use Rattle.gmpl_value.specs.declared.eval_fault.EvalFault.TheVariants.{NotWhole}
+use Rattle.gmpl_value.specs.Outcome.{Outcome, then_do, fitting}
 use Rattle.gmpl_functions.specs.Numbers.{quotient_of, round_of, trunc_of}
 
 -- a product with so many factors more on its right

@@ -6,8 +6,8 @@ use Rattle.rational.specs.Compare.{is_whole}
 use Rattle.fraction.specs.Text.{text_of}
 use Rattle.gmpl_value.specs.declared.symbol.Symbol.{Symbol}
 use Rattle.gmpl_value.specs.declared.symbol.Symbol.TheVariants.{Number, Word}
-use Rattle.gmpl_fault.specs.declared.fault.EvalFault.TheVariants.{NotWhole, OutOfDomain}
-use Rattle.gmpl_fault.specs.Outcome.{Outcome}
+use Rattle.gmpl_value.specs.declared.eval_fault.EvalFault.TheVariants.{NotWhole, OutOfDomain}
+use Rattle.gmpl_value.specs.Outcome.{Outcome}
 
 -- a number as `n` or `n/d`, a string as it is
 abbrev pub plain_text : Symbol → List ℕ

@@ -1,13 +1,12 @@
 // The operators on numbers.
 ghost use Rattle.std.specs.Prelude.{◌≡◌};
-ghost use Rattle.gmpl_fault.specs.Outcome.{Gives};
+ghost use Rattle.gmpl_value.specs.Outcome.{Gives};
 ghost use Rattle.gmpl_functions.specs.Numbers.{number_of, read_number, truth_of, greater_of, lesser_of, greatest_of, least_of, less_of, quotient_of, div_of, mod_of};
 ghost use Rattle.fraction.specs.Literal.{read_of};
 
 use crate::rounding::{floor, trunc};
 use fraction::Frac;
-use gmpl_fault::EvalFault;
-use gmpl_value::Symbol;
+use gmpl_value::{EvalFault, Symbol};
 
 /// A symbol in a numeric place: a string is read as a literal with an optional sign. `NotANumber` where it is none, or
 /// too wide.

@@ -1,13 +1,13 @@
 // Powers, and rounding to a number of decimal places.
 ghost use Rattle.std.specs.Prelude.{◌≡◌, unsigned_abs};
 ghost use Rattle.rational.specs.Rational.{one_ℚ};
-ghost use Rattle.gmpl_fault.specs.Outcome.{Gives};
+ghost use Rattle.gmpl_value.specs.Outcome.{Gives};
 ghost use Rattle.gmpl_functions.specs.Powers.{with_factors, product_of, power_of, round_to, trunc_to};
 
 use crate::numbers::quotient;
 use crate::rounding::{round, trunc};
 use fraction::{Frac, whole_numbers};
-use gmpl_fault::EvalFault;
+use gmpl_value::EvalFault;
 
 /// `x ** n`: the product of n factors x, from the left, and for a negative n 1 over that of -n factors. `NotWhole` where n
 /// isn't whole, `DivZero` for a negative power of 0.

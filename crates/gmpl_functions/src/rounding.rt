@@ -2,11 +2,11 @@
 ghost use Rattle.std.specs.Prelude.{◌≡◌, ◌≢◌, IsTrue};
 ghost use Rattle.rational.specs.Rational.{floor_ℚ};
 ghost use Rattle.fraction.specs.Fits.{fits};
-ghost use Rattle.gmpl_fault.specs.Outcome.{Gives};
+ghost use Rattle.gmpl_value.specs.Outcome.{Gives};
 ghost use Rattle.gmpl_functions.specs.Numbers.{floor_of, ceil_of, trunc_of, round_of, half};
 
 use fraction::Frac;
-use gmpl_fault::EvalFault;
+use gmpl_value::EvalFault;
 
 /// The greatest whole number that is at most this one.
 pub fn floor(number: Frac) -> Frac

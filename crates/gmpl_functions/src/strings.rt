@@ -2,13 +2,12 @@
 ghost use Rattle.std.specs.Prelude.{◌≡◌, IfOk, OnOk, string_bytes, length, pos, take, drop, ◌++◌, ◌+ℤ◌, ◌-ℤ◌};
 ghost use Rattle.std.specs.Str.{chars, encode_utf8_all};
 ghost use Rattle.rational.specs.Rational.{whole};
-ghost use Rattle.gmpl_fault.specs.Outcome.{Gives};
+ghost use Rattle.gmpl_value.specs.Outcome.{Gives};
 ghost use Rattle.gmpl_functions.specs.Strings.{plain_text, joined_texts, characters, length_of, characters_from, substring_of, rest_of};
 
 use fraction::Frac;
-use gmpl_fault::EvalFault;
 use gmpl_text::Text;
-use gmpl_value::{SetValue, Symbol};
+use gmpl_value::{EvalFault, SetValue, Symbol};
 use std::alloc::{AllocError, Global};
 
 /// A number as `n` or `n/d`, a string as it is.

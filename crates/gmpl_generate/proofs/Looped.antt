@@ -6,7 +6,7 @@ use Rattle.gmpl_resolved.specs.declared.statement.Action.TheVariants as act
 use Rattle.gmpl_resolved.specs.declared.statement.Action.TheVariants.{rolls-For}
 use Rattle.gmpl_resolved.specs.declared.statement.Action.TheOpen.{Action-F}
 use Rattle.gmpl_resolved.specs.declared.statement.Action.TheFolds.{fold-roll-Action}
-use Rattle.gmpl_fault.specs.declared.fault.EvalFault.{EvalFault}
+use Rattle.gmpl_value.specs.declared.eval_fault.EvalFault.{EvalFault}
 use Rattle.gmpl_data.specs.declared.tables.LoadedModel.{LoadedModel}
 use Rattle.gmpl_meaning.specs.Parts.{Bindings}
 use Rattle.gmpl_generate.specs.declared.fault.Stop.{Stop}

@@ -2,10 +2,10 @@
 use Rattle.std.proofs.Common.{◌≡◌, ◌∙◌, ◌+◌, ℕ, zero, suc, Ok, Err, List, [], ◌∷◌, drop, slice_get, refl, sym, ap, subst, arith}
 use Rattle.std.specs.Prelude.{Result}
 use Rattle.std.specs.Result.{IsErrAnd}
-use Rattle.gmpl_fault.specs.declared.fault.EvalFault.{EvalFault}
-use Rattle.gmpl_fault.specs.declared.fault.EvalFault.TheVariants.{NoValue, OutOfDomain, Restriction, DivZero, NotWhole, NotANumber, Nonlinear, BadFormat, Depth, TooMany, NoFit, NoMemory}
-use Rattle.gmpl_fault.specs.Outcome.{Faults, GivesAs, Outcome, then_do}
-use Rattle.gmpl_forms.specs.Linear.{Terms}
+use Rattle.gmpl_value.specs.declared.eval_fault.EvalFault.{EvalFault}
+use Rattle.gmpl_value.specs.declared.eval_fault.EvalFault.TheVariants.{NoValue, OutOfDomain, Restriction, DivZero, NotWhole, NotANumber, Nonlinear, BadFormat, Depth, TooMany, NoFit, NoMemory}
+use Rattle.gmpl_value.specs.Outcome.{Faults, GivesAs, Outcome, then_do}
+use Rattle.gmpl_functions.specs.Linear.{Terms}
 use Rattle.gmpl_data.specs.declared.tables.LoadedModel.{LoadedModel}
 use Rattle.gmpl_rows.specs.declared.term.Term.{Term}
 use Rattle.gmpl_generate.specs.Rows.{terms_of, term_at}

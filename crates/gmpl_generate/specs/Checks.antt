@@ -2,8 +2,8 @@
 -- element of its domain.
 use Rattle.std.specs.Prelude.{Bool, true, false, Option, Result, Ok, Err, List, [], ◌∷◌}
 use Rattle.gmpl_resolved.specs.declared.expression.Expr.{Expr}
-use Rattle.gmpl_fault.specs.declared.fault.EvalFault.{EvalFault}
-use Rattle.gmpl_fault.specs.Outcome.{Outcome, then_do}
+use Rattle.gmpl_value.specs.declared.eval_fault.EvalFault.{EvalFault}
+use Rattle.gmpl_value.specs.Outcome.{Outcome, then_do}
 use Rattle.gmpl_operations.specs.Values.{truth_in}
 use Rattle.gmpl_data.specs.declared.tables.LoadedModel.{LoadedModel}
 use Rattle.gmpl_meaning.specs.Members.{evaluated}

@@ -13,9 +13,9 @@ use Rattle.gmpl_resolved.specs.declared.statement.Statement.{Statement}
 use Rattle.gmpl_resolved.specs.declared.statement.Statement.TheVariants as statement
 use Rattle.gmpl_value.specs.declared.symbol.Symbol.{Symbol}
 use Rattle.gmpl_member_names.specs.Names.{member_name}
-use Rattle.gmpl_fault.specs.declared.fault.EvalFault.{EvalFault}
-use Rattle.gmpl_fault.specs.declared.fault.EvalFault.TheVariants.{NoValue}
-use Rattle.gmpl_fault.specs.Outcome.{Outcome, then_do}
+use Rattle.gmpl_value.specs.declared.eval_fault.EvalFault.{EvalFault}
+use Rattle.gmpl_value.specs.declared.eval_fault.EvalFault.TheVariants.{NoValue}
+use Rattle.gmpl_value.specs.Outcome.{Outcome, then_do}
 use Rattle.gmpl_data.specs.declared.tables.LoadedModel.{LoadedModel}
 use Rattle.gmpl_data.specs.Given.{statement_at}
 use Rattle.gmpl_meaning.specs.declared.walk.Element.{Element}

@@ -8,8 +8,8 @@ use Rattle.gmpl_resolved.specs.declared.statement.NumberedStep.{NumberedStep}
 use Rattle.gmpl_resolved.specs.declared.statement.Objective.{Objective}
 use Rattle.gmpl_resolved.specs.declared.statement.Statement.{Statement}
 use Rattle.gmpl_resolved.specs.declared.statement.Statement.TheVariants as statement
-use Rattle.gmpl_fault.specs.declared.fault.EvalFault.{EvalFault}
-use Rattle.gmpl_fault.specs.Outcome.{Outcome, then_do}
+use Rattle.gmpl_value.specs.declared.eval_fault.EvalFault.{EvalFault}
+use Rattle.gmpl_value.specs.Outcome.{Outcome, then_do}
 use Rattle.gmpl_data.specs.declared.tables.LoadedModel.{LoadedModel}
 use Rattle.gmpl_meaning.specs.declared.walk.Element.{Element}
 use Rattle.gmpl_meaning.specs.declared.walk.Walk.{Walk}

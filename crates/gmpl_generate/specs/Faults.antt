@@ -1,6 +1,6 @@
 -- The first fault of a model, with its statement.
 use Rattle.std.specs.Prelude.{ℕ, Result, Ok, Err}
-use Rattle.gmpl_fault.specs.Outcome.{Outcome}
+use Rattle.gmpl_value.specs.Outcome.{Outcome}
 use Rattle.gmpl_generate.specs.declared.fault.ModelFault.{ModelFault}
 use Rattle.gmpl_generate.specs.declared.fault.ModelFaultKind.TheVariants.{Evaluation}
 use Rattle.gmpl_generate.specs.Running.{fault_at}

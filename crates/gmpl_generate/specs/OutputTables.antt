@@ -6,8 +6,8 @@ use Rattle.gmpl_resolved.specs.declared.statement.OutputColumn.{OutputColumn}
 use Rattle.gmpl_resolved.specs.declared.statement.TableOutput.{TableOutput}
 use Rattle.gmpl_value.specs.declared.symbol.Symbol.{Symbol}
 use Rattle.csv_tables.specs.Writing.{text_of_table}
-use Rattle.gmpl_fault.specs.declared.fault.EvalFault.{EvalFault}
-use Rattle.gmpl_fault.specs.Outcome.{Outcome, then_do}
+use Rattle.gmpl_value.specs.declared.eval_fault.EvalFault.{EvalFault}
+use Rattle.gmpl_value.specs.Outcome.{Outcome, then_do}
 use Rattle.gmpl_functions.specs.Strings.{plain_text}
 use Rattle.gmpl_data.specs.declared.tables.LoadedModel.{LoadedModel}
 use Rattle.gmpl_meaning.specs.Expressions.{unless}

@@ -3,8 +3,8 @@
 use Rattle.std.specs.Prelude.{ℕ, Ok, Err, List, [], ◌∷◌, ◌++◌}
 use Rattle.gmpl_resolved.specs.declared.expression.Expr.{Expr}
 use Rattle.gmpl_value.specs.declared.symbol.Symbol.{Symbol}
-use Rattle.gmpl_fault.specs.declared.fault.EvalFault.TheVariants.{BadFormat}
-use Rattle.gmpl_fault.specs.Outcome.{Outcome, then_do}
+use Rattle.gmpl_value.specs.declared.eval_fault.EvalFault.TheVariants.{BadFormat}
+use Rattle.gmpl_value.specs.Outcome.{Outcome, then_do}
 use Rattle.gmpl_functions.specs.Strings.{plain_text}
 use Rattle.gmpl_formats.specs.Printing.{printed}
 use Rattle.gmpl_operations.specs.Values.{symbol_in}

@@ -13,13 +13,13 @@ use Rattle.gmpl_resolved.specs.declared.expression.Expr.{Expr}
 use Rattle.gmpl_resolved.specs.declared.statement.Constraint.{Constraint}
 use Rattle.gmpl_resolved.specs.declared.statement.Objective.{Objective}
 use Rattle.gmpl_value.specs.declared.symbol.Symbol.{Symbol}
-use Rattle.gmpl_fault.specs.declared.fault.EvalFault.TheVariants as fault
-use Rattle.gmpl_fault.specs.Outcome.{Outcome, fitting, then_do}
-use Rattle.gmpl_forms.specs.declared.terms.Sign.TheVariants.{Minus}
-use Rattle.gmpl_forms.specs.declared.variable.Variable.{Variable}
-use Rattle.gmpl_forms.specs.Amounts.{form_in}
-use Rattle.gmpl_forms.specs.Linear.{Linear, Terms}
-use Rattle.gmpl_forms.specs.Sums.{combined}
+use Rattle.gmpl_value.specs.declared.eval_fault.EvalFault.TheVariants as fault
+use Rattle.gmpl_value.specs.Outcome.{Outcome, fitting, then_do}
+use Rattle.gmpl_functions.specs.declared.terms.Sign.TheVariants.{Minus}
+use Rattle.gmpl_functions.specs.declared.variable.Variable.{Variable}
+use Rattle.gmpl_functions.specs.Amounts.{form_in}
+use Rattle.gmpl_functions.specs.Linear.{Linear, Terms}
+use Rattle.gmpl_functions.specs.Sums.{combined}
 use Rattle.gmpl_operations.specs.Values.{number_in, amount_in}
 use Rattle.gmpl_data.specs.declared.tables.LoadedModel.{LoadedModel}
 use Rattle.gmpl_meaning.specs.declared.bounds.Bounds.{Bounds}

@@ -1,7 +1,7 @@
 -- What an execution makes on its way: what is made so far goes in, and comes out with a value or with the first fault. What was made
 -- before a fault stays.
 use Rattle.std.specs.Prelude.{◌≡◌, ℕ, List, [], map, string_bytes, Result, Ok, Err}
-use Rattle.gmpl_fault.specs.declared.fault.EvalFault.{EvalFault}
+use Rattle.gmpl_value.specs.declared.eval_fault.EvalFault.{EvalFault}
 use Rattle.gmpl_generate.specs.declared.fault.Halt.{Halt}
 use Rattle.gmpl_generate.specs.declared.fault.Halt.TheVariants as halt
 use Rattle.gmpl_generate.specs.declared.fault.ModelFault.{ModelFault}

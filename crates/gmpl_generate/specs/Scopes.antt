@@ -2,7 +2,7 @@
 -- section on the for statement).
 use Rattle.std.specs.Prelude.{Ok, Err, List, [], ◌∷◌, ◌++◌, Option, Some, None, Result}
 use Rattle.gmpl_resolved.specs.declared.expression.Indexing.{Indexing}
-use Rattle.gmpl_fault.specs.declared.fault.EvalFault.{EvalFault}
+use Rattle.gmpl_value.specs.declared.eval_fault.EvalFault.{EvalFault}
 use Rattle.gmpl_data.specs.declared.tables.LoadedModel.{LoadedModel}
 use Rattle.gmpl_meaning.specs.declared.walk.Element.{Element}
 use Rattle.gmpl_meaning.specs.Members.{elements_of}

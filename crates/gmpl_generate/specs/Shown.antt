@@ -3,8 +3,8 @@ use Rattle.std.specs.Prelude.{ℕ, codes, Ok, Err, List, [], ◌∷◌, ◌++◌
 use Rattle.gmpl_value.specs.declared.symbol.Symbol.{Symbol}
 use Rattle.gmpl_value.specs.Sets.{Elements as Set}
 use Rattle.gmpl_member_names.specs.Names as names
-use Rattle.gmpl_fault.specs.declared.fault.EvalFault.TheVariants.{NotANumber}
-use Rattle.gmpl_fault.specs.Outcome.{Outcome}
+use Rattle.gmpl_value.specs.declared.eval_fault.EvalFault.TheVariants.{NotANumber}
+use Rattle.gmpl_value.specs.Outcome.{Outcome}
 use Rattle.gmpl_operations.specs.declared.value.Value.{Value}
 use Rattle.gmpl_operations.specs.declared.value.Value.TheVariants.{Scalar, Elements}
 

@@ -6,7 +6,7 @@ use Rattle.gmpl_resolved.specs.declared.statement.NumberedStep.{NumberedStep}
 use Rattle.gmpl_resolved.specs.declared.statement.Step.{Step}
 use Rattle.gmpl_resolved.specs.declared.statement.Step.TheVariants as step
 use Rattle.gmpl_resolved.specs.declared.statement.TableInput.{TableInput}
-use Rattle.gmpl_fault.specs.Outcome.{Outcome, then_do}
+use Rattle.gmpl_value.specs.Outcome.{Outcome, then_do}
 use Rattle.gmpl_data.specs.declared.tables.LoadedModel.{LoadedModel}
 use Rattle.gmpl_generate.specs.declared.fault.ModelFault.{ModelFault}
 use Rattle.gmpl_generate.specs.declared.fault.ModelFaultKind.{ModelFaultKind}

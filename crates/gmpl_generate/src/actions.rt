@@ -12,9 +12,8 @@ use crate::progress::Progress;
 use crate::scopes::{Scopes, at_heads, behind, scopes_of};
 use gmpl_data::LoadedModel;
 use gmpl_expr::Context;
-use gmpl_fault::EvalFault;
 use gmpl_resolved::{Action, Expr, Indexing};
-use gmpl_value::Tuple;
+use gmpl_value::{EvalFault, Tuple};
 use std::alloc::Global;
 
 fn check(

@@ -8,9 +8,8 @@ use crate::fault::Stop;
 use crate::scopes::{Scopes, behind};
 use gmpl_data::LoadedModel;
 use gmpl_expr::Context;
-use gmpl_fault::EvalFault;
 use gmpl_resolved::Expr;
-use gmpl_value::Tuple;
+use gmpl_value::{EvalFault, Tuple};
 use std::alloc::Global;
 
 fn check_at(

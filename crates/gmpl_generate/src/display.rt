@@ -1,6 +1,6 @@
 // What is shown.
 ghost use Rattle.std.specs.Prelude.{◌≡◌, ◌++◌, [], string_bytes, IfOk, OnOk, length};
-ghost use Rattle.gmpl_fault.specs.Outcome.{GivesAs};
+ghost use Rattle.gmpl_value.specs.Outcome.{GivesAs};
 ghost use Rattle.gmpl_generate.specs.Running.{Follows};
 ghost use Rattle.gmpl_generate.specs.Display as spec;
 
@@ -11,13 +11,12 @@ use crate::scopes::{Scopes, behind};
 use crate::shown::shown;
 use gmpl_data::LoadedModel;
 use gmpl_expr::Context;
-use gmpl_fault::EvalFault;
 use gmpl_meaning::{Element, Walk};
 use gmpl_member_names::member_name;
 use gmpl_resolved::{Expr, Head, Meaning, Numbered, Statement};
 use gmpl_syntax::Suffix;
 use gmpl_text::Text;
-use gmpl_value::Tuple;
+use gmpl_value::{EvalFault, Tuple};
 use std::alloc::{AllocError, Global};
 
 // A line with a name and a value.

@@ -1,6 +1,6 @@
 // What is asked of the evaluators. The context is that of the model, and keeps the members that were evaluated.
 ghost use Rattle.std.specs.Prelude.{◌≡◌, [], Ok, Some, IfOk};
-ghost use Rattle.gmpl_fault.specs.Outcome.{Gives};
+ghost use Rattle.gmpl_value.specs.Outcome.{Gives};
 ghost use Rattle.gmpl_generate.specs.Rows as spec;
 ghost use Rattle.gmpl_generate.specs.Checks as checks;
 ghost use Rattle.gmpl_generate.specs.Printing as printing;
@@ -11,12 +11,11 @@ use gmpl_data::LoadedModel;
 use gmpl_expr::{
     Context, elements_over, eval_bool, eval_form, eval_num, eval_sym, eval_value, member_value,
 };
-use gmpl_fault::EvalFault;
-use gmpl_forms::{Form, Variable};
+use gmpl_functions::{Form, Variable};
 use gmpl_meaning::{Bounds, Walk};
 use gmpl_operations::Value;
 use gmpl_resolved::{Expr, Indexing};
-use gmpl_value::{Symbol, Tuple};
+use gmpl_value::{EvalFault, Symbol, Tuple};
 use std::alloc::{AllocError, Global};
 
 /// The number that an expression comes to, where the indices in scope have these values.

@@ -1,6 +1,6 @@
 // What a statement makes.
 ghost use Rattle.std.specs.Prelude.{◌≡◌, [], Ok};
-ghost use Rattle.gmpl_fault.specs.Outcome.{Gives};
+ghost use Rattle.gmpl_value.specs.Outcome.{Gives};
 ghost use Rattle.gmpl_generate.specs.Execution as spec;
 ghost use Rattle.gmpl_meaning.specs.Expressions.{unless};
 ghost use Rattle.gmpl_meaning.specs.Members.{elements_of};
@@ -9,10 +9,10 @@ use crate::evaluation::elements_of;
 use crate::rows::{constraint_row, objective_row};
 use gmpl_data::LoadedModel;
 use gmpl_expr::Context;
-use gmpl_fault::EvalFault;
 use gmpl_meaning::Walk;
 use gmpl_resolved::{Constraint, Objective, Statement};
 use gmpl_rows::Draft;
+use gmpl_value::EvalFault;
 use std::alloc::Global;
 
 // Behind the last element.

@@ -3,7 +3,7 @@ ghost use Rattle.std.specs.Prelude.{◌≡◌};
 ghost use Rattle.gmpl_generate.specs.Running.{fault_at};
 
 use csv_tables::TableFault;
-use gmpl_fault::EvalFault;
+use gmpl_value::EvalFault;
 use std::alloc::AllocError;
 
 /// What is wrong with a statement that is executed.

@@ -1,6 +1,6 @@
 // `table OUT`.
 ghost use Rattle.std.specs.Prelude.{◌≡◌, [], Ok, IfOk};
-ghost use Rattle.gmpl_fault.specs.Outcome.{Gives, GivesAs, Outcome};
+ghost use Rattle.gmpl_value.specs.Outcome.{Gives, GivesAs, Outcome};
 ghost use Rattle.gmpl_generate.specs.OutputTables as spec;
 ghost use Rattle.gmpl_generate.specs.Running.{File, Follows, file_of, made_of};
 ghost use Rattle.gmpl_meaning.specs.Expressions.{unless};
@@ -12,11 +12,10 @@ use crate::scopes::{Scopes, scopes_over};
 use csv_tables::table_text;
 use gmpl_data::LoadedModel;
 use gmpl_expr::Context;
-use gmpl_fault::EvalFault;
 use gmpl_functions::plain_text;
 use gmpl_resolved::{Expr, OutputColumn, TableOutput};
 use gmpl_text::Text;
-use gmpl_value::Tuple;
+use gmpl_value::{EvalFault, Tuple};
 use std::alloc::{AllocError, Global};
 
 /// The name of a table's file.

@@ -1,6 +1,6 @@
 // What is printed.
 ghost use Rattle.std.specs.Prelude.{◌≡◌, [], List, ℕ, string_bytes};
-ghost use Rattle.gmpl_fault.specs.Outcome.{Gives, GivesAs, Outcome};
+ghost use Rattle.gmpl_value.specs.Outcome.{Gives, GivesAs, Outcome};
 ghost use Rattle.gmpl_generate.specs.Running.{Follows};
 ghost use Rattle.gmpl_generate.specs.Printing as spec;
 
@@ -9,11 +9,10 @@ use crate::fault::Stop;
 use crate::scopes::{Scopes, behind};
 use gmpl_data::LoadedModel;
 use gmpl_expr::Context;
-use gmpl_fault::EvalFault;
 use gmpl_formats::printed;
 use gmpl_functions::plain_text;
 use gmpl_resolved::Expr;
-use gmpl_value::{Symbol, Tuple};
+use gmpl_value::{EvalFault, Symbol, Tuple};
 use std::alloc::Global;
 
 /// A text behind what is printed so far, or its fault.

@@ -12,9 +12,9 @@ use crate::progress::{Progress, TableFile};
 use crate::turns::{Pause, Stopped, executed_from, resumed_from};
 use gmpl_data::LoadedModel;
 use gmpl_expr::Context;
-use gmpl_fault::EvalFault;
 use gmpl_rows::{Draft, column_members, finish, row_members};
 use gmpl_solution::Member;
+use gmpl_value::EvalFault;
 use instance::Instance;
 use std::alloc::{AllocError, Global};
 

@@ -1,6 +1,6 @@
 // The row of a constraint or an objective at an element of its domain.
 ghost use Rattle.std.specs.Prelude.{◌≡◌, IfOk};
-ghost use Rattle.gmpl_fault.specs.Outcome.{Gives};
+ghost use Rattle.gmpl_value.specs.Outcome.{Gives};
 ghost use Rattle.gmpl_generate.specs.Rows as spec;
 ghost use Rattle.gmpl_rows.specs.Draft.{with_row};
 
@@ -9,13 +9,12 @@ use crate::sides::{RowForm, constraint_form, no_bounds};
 use crate::terms::terms_of;
 use gmpl_data::LoadedModel;
 use gmpl_expr::Context;
-use gmpl_fault::EvalFault;
-use gmpl_forms::Form;
+use gmpl_functions::Form;
 use gmpl_meaning::{Bounds, Element};
 use gmpl_resolved::{Constraint, Objective};
 use gmpl_rows::{Draft, DraftFault, RowHead, Term};
 use gmpl_syntax::Direction;
-use gmpl_value::Tuple;
+use gmpl_value::{EvalFault, Tuple};
 use milp::Direction as Aim;
 use std::alloc::{AllocError, Global};
 

@@ -8,10 +8,9 @@ use crate::evaluation::{over_domain, over_head};
 use crate::fault::Stop;
 use gmpl_data::LoadedModel;
 use gmpl_expr::Context;
-use gmpl_fault::EvalFault;
 use gmpl_meaning::{Element, Walk};
 use gmpl_resolved::Indexing;
-use gmpl_value::Tuple;
+use gmpl_value::{EvalFault, Tuple};
 use sqlite_items::Items;
 use std::alloc::{AllocError, Global};
 

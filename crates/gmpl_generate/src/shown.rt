@@ -1,12 +1,11 @@
 // The texts of values that are shown.
 ghost use Rattle.std.specs.Prelude.{◌≡◌, ◌++◌, string_bytes, IfOk, OnOk};
-ghost use Rattle.gmpl_fault.specs.Outcome.{GivesAs};
+ghost use Rattle.gmpl_value.specs.Outcome.{GivesAs};
 ghost use Rattle.gmpl_generate.specs.Shown as spec;
 
-use gmpl_fault::EvalFault;
 use gmpl_member_names::symbol_text;
 use gmpl_operations::Value;
-use gmpl_value::{SetValue, Symbol, Tuple};
+use gmpl_value::{EvalFault, SetValue, Symbol, Tuple};
 use std::alloc::{AllocError, Global};
 
 fn push_symbol(alloc: Global, made: &mut String, symbol: &Symbol) -> Result<(), AllocError>

@@ -1,6 +1,6 @@
 // The sides of a constraint at an element of its domain.
 ghost use Rattle.std.specs.Prelude.{◌≡◌};
-ghost use Rattle.gmpl_fault.specs.Outcome.{Gives};
+ghost use Rattle.gmpl_value.specs.Outcome.{Gives};
 ghost use Rattle.gmpl_generate.specs.Rows as spec;
 ghost use Rattle.gmpl_meaning.specs.Members.{no_bounds};
 
@@ -8,12 +8,11 @@ use crate::evaluation::{form_of, number_of};
 use fraction::Frac;
 use gmpl_data::LoadedModel;
 use gmpl_expr::{Context, with_bound};
-use gmpl_fault::EvalFault;
-use gmpl_forms::{Form, Sign};
+use gmpl_functions::{Form, Sign};
 use gmpl_meaning::Bounds;
 use gmpl_resolved::{Constraint, Expr};
 use gmpl_syntax::Relation;
-use gmpl_value::Tuple;
+use gmpl_value::{EvalFault, Tuple};
 use std::alloc::Global;
 
 /// The form of a row, with its constant, and the row's bounds.

@@ -15,9 +15,9 @@ use crate::steps::steps_after;
 use fraction::Frac;
 use gmpl_data::LoadedModel;
 use gmpl_expr::Context;
-use gmpl_fault::EvalFault;
 use gmpl_resolved::Numbered;
 use gmpl_solution::{Member, Solution, SolvedRow};
+use gmpl_value::EvalFault;
 use instance::{Instance, Point, Row, activity};
 use std::alloc::{AllocError, Global};
 

@@ -1,6 +1,6 @@
 // Steps: what is done where statements stand that declare nothing.
 ghost use Rattle.std.specs.Prelude.{◌≡◌, [], drop};
-ghost use Rattle.gmpl_fault.specs.Outcome.{Gives};
+ghost use Rattle.gmpl_value.specs.Outcome.{Gives};
 ghost use Rattle.gmpl_generate.specs.Running.{Runs, Makes, made_of};
 ghost use Rattle.gmpl_generate.specs.Faults.{of_statement};
 ghost use Rattle.gmpl_generate.specs.Steps as spec;
@@ -11,10 +11,9 @@ use crate::output_tables::file_name;
 use crate::progress::Progress;
 use gmpl_data::LoadedModel;
 use gmpl_expr::Context;
-use gmpl_fault::EvalFault;
 use gmpl_resolved::{Action, NumberedStep, Step, TableInput};
 use gmpl_text::Text;
-use gmpl_value::Tuple;
+use gmpl_value::{EvalFault, Tuple};
 use std::alloc::Global;
 
 fn performed(

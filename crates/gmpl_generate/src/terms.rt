@@ -1,16 +1,16 @@
 // The terms of a row, with the bounds of their members.
 ghost use Rattle.std.specs.Prelude.{◌≡◌, [], slice_get};
-ghost use Rattle.gmpl_fault.specs.Outcome.{Follows, Gives, GivesAs};
+ghost use Rattle.gmpl_value.specs.Outcome.{Follows, Gives, GivesAs};
 ghost use Rattle.gmpl_generate.specs.Rows as spec;
 
 use crate::evaluation::bounds_of;
 use fraction::Frac;
 use gmpl_data::LoadedModel;
 use gmpl_expr::Context;
-use gmpl_fault::EvalFault;
-use gmpl_forms::{Form, Variable};
+use gmpl_functions::{Form, Variable};
 use gmpl_meaning::Bounds;
 use gmpl_rows::{Bounds as TermBounds, Term};
+use gmpl_value::EvalFault;
 use std::alloc::Global;
 
 fn term_bounds(bounds: Bounds) -> TermBounds

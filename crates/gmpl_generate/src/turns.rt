@@ -9,10 +9,10 @@ use crate::progress::Progress;
 use crate::steps::{Reached, steps_before};
 use gmpl_data::LoadedModel;
 use gmpl_expr::Context;
-use gmpl_fault::EvalFault;
 use gmpl_resolved::Numbered;
 use gmpl_rows::Draft;
 use gmpl_text::Text;
+use gmpl_value::EvalFault;
 use std::alloc::Global;
 
 /// Where an execution pauses: at a step that reads a table.

@@ -5,3 +5,5 @@ pub mod Strings
 pub mod Steps
 pub mod Lexemes
 pub mod Tokens
+pub mod Symbols
+pub mod DataTokens

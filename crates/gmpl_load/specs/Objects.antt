@@ -4,9 +4,9 @@ use Rattle.std.specs.List.{position}
 use Rattle.model_text.specs.Names.{is_name}
 use Rattle.gmpl_token.specs.declared.kind.TokenKind.{TokenKind}
 use Rattle.gmpl_token.specs.declared.kind.TokenKind.TheVariants as k
-use Rattle.gmpl_data_input.specs.declared.fault.DataFaultKind.{DataFaultKind}
-use Rattle.gmpl_data_input.specs.declared.fault.DataFaultKind.TheVariants.{Unknown, HasExpression}
-use Rattle.gmpl_data_input.specs.Rules.{Rule, ◌>>=◌, refuse, judged, peek, take_token}
+use Rattle.gmpl_blocks.specs.declared.fault.DataFaultKind.{DataFaultKind}
+use Rattle.gmpl_blocks.specs.declared.fault.DataFaultKind.TheVariants.{Unknown, HasExpression}
+use Rattle.gmpl_blocks.specs.Rules.{Rule, ◌>>=◌, refuse, judged, peek, take_token}
 use Rattle.gmpl_load.specs.declared.objects.DataSort.{DataSort}
 use Rattle.gmpl_load.specs.declared.objects.DataSort.TheVariants as sorts
 use Rattle.gmpl_load.specs.declared.objects.DataObject.{DataObject}

@@ -2,7 +2,7 @@
 use Rattle.std.specs.Prelude.{ℕ, List}
 use Rattle.gmpl_value.specs.declared.symbol.Symbol.{Symbol}
 use Rattle.gmpl_data.specs.declared.tables.Given.{Given}
-use Rattle.gmpl_data_input.specs.Rules.{Rule, ◌>>=◌, pure}
+use Rattle.gmpl_blocks.specs.Rules.{Rule, ◌>>=◌, pure}
 use Rattle.gmpl_blocks.specs.Parameters.{parameter_block}
 use Rattle.gmpl_blocks.specs.Sets.{set_block, subscripts}
 use Rattle.gmpl_load.specs.declared.objects.DataObject.{DataObject}

@@ -5,10 +5,10 @@ use Rattle.gmpl_token.specs.declared.kind.TokenKind.TheVariants as k
 use Rattle.gmpl_value.specs.declared.symbol.Symbol.{Symbol}
 use Rattle.gmpl_members.specs.Table.{Table as Members}
 use Rattle.gmpl_data.specs.declared.tables.Given.{Given}
-use Rattle.gmpl_data_input.specs.declared.fault.DataFaultKind.{DataFaultKind}
-use Rattle.gmpl_data_input.specs.declared.fault.DataFaultKind.TheVariants.{Unknown, WrongDimension}
-use Rattle.gmpl_data_input.specs.Rules.{Rule, ◌>>=◌, ◌>>◌, pure, refuse, judged, peek, take_token, expect, eat}
-use Rattle.gmpl_data_input.specs.Symbols.{Slot}
+use Rattle.gmpl_blocks.specs.declared.fault.DataFaultKind.{DataFaultKind}
+use Rattle.gmpl_blocks.specs.declared.fault.DataFaultKind.TheVariants.{Unknown, WrongDimension}
+use Rattle.gmpl_blocks.specs.Rules.{Rule, ◌>>=◌, ◌>>◌, pure, refuse, judged, peek, take_token, expect, eat}
+use Rattle.gmpl_blocks.specs.Symbols.{Slot}
 use Rattle.gmpl_blocks.specs.Parameters.{given_value, given_default, cell, default}
 use Rattle.gmpl_blocks.specs.Sets.{given_element}
 use Rattle.gmpl_blocks.specs.Slots.{all_stars, tuple, comma}

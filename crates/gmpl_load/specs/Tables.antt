@@ -7,9 +7,9 @@ use Rattle.gmpl_members.specs.declared.value.Value.{Value}
 use Rattle.gmpl_members.specs.declared.value.Value.TheVariants.{Elements}
 use Rattle.gmpl_members.specs.Table.{value_of, with_value}
 use Rattle.gmpl_data.specs.declared.tables.Given.{Given}
-use Rattle.gmpl_data_input.specs.declared.fault.DataFaultKind.{DataFaultKind}
-use Rattle.gmpl_data_input.specs.declared.fault.DataFaultKind.TheVariants.{Unknown}
-use Rattle.gmpl_data_input.specs.Rules.{Rule, ◌>>=◌, pure, fault}
+use Rattle.gmpl_blocks.specs.declared.fault.DataFaultKind.{DataFaultKind}
+use Rattle.gmpl_blocks.specs.declared.fault.DataFaultKind.TheVariants.{Unknown}
+use Rattle.gmpl_blocks.specs.Rules.{Rule, ◌>>=◌, pure, fault}
 use Rattle.gmpl_blocks.specs.declared.sets.SetData.{SetData}
 use Rattle.gmpl_load.specs.declared.tables.Taken.{Taken}
 

@@ -5,12 +5,12 @@ use Rattle.gmpl_token.specs.declared.token.LexFault.{LexFault}
 use Rattle.gmpl_token.specs.declared.token.LexFaultKind.{LexFaultKind}
 use Rattle.gmpl_token.specs.declared.token.LexFaultKind.TheVariants as l
 use Rattle.gmpl_token.specs.Token.{Tokens as TokenList}
-use Rattle.gmpl_data_input.specs.declared.fault.DataFaultKind.{DataFaultKind}
-use Rattle.gmpl_data_input.specs.declared.fault.DataFaultKind.TheVariants as f
-use Rattle.gmpl_data_input.specs.declared.fault.DataFault.{DataFault}
-use Rattle.gmpl_data_input.specs.Input.{Input, kind, next, sees, line}
-use Rattle.gmpl_data_input.specs.Rules.{Rule, Outcome, ◌>>=◌, pure, refuse, expect}
-use Rattle.gmpl_data_input.specs.Symbols.{word, is_word, begins_symbol}
+use Rattle.gmpl_blocks.specs.declared.fault.DataFaultKind.{DataFaultKind}
+use Rattle.gmpl_blocks.specs.declared.fault.DataFaultKind.TheVariants as f
+use Rattle.gmpl_blocks.specs.declared.fault.DataFault.{DataFault}
+use Rattle.gmpl_blocks.specs.Input.{Input, kind, next, sees, line}
+use Rattle.gmpl_blocks.specs.Rules.{Rule, Outcome, ◌>>=◌, pure, refuse, expect}
+use Rattle.gmpl_blocks.specs.Symbols.{word, is_word, begins_symbol}
 use Rattle.gmpl_load.specs.declared.objects.DataObject.{DataObject}
 use Rattle.gmpl_load.specs.declared.texts.Loaded.{Loaded}
 use Rattle.gmpl_load.specs.declared.texts.LoadError.{LoadError}

@@ -1,9 +1,9 @@
 // The objects of a model to which data may be given.
 ghost use Rattle.std.specs.Prelude.{◌≡◌};
-ghost use Rattle.gmpl_data_input.specs.Rules.{Reads, Judges};
+ghost use Rattle.gmpl_blocks.specs.Rules.{Reads, Judges};
 ghost use Rattle.gmpl_load.specs.Objects as spec;
 
-use gmpl_data_input::{Cursor, DataError, DataFaultKind};
+use gmpl_blocks::{Cursor, DataError, DataFaultKind};
 use gmpl_token::TokenKind;
 use model_text::Names;
 

@@ -1,14 +1,15 @@
 // The blocks of one parameter and of one set, behind their words.
 ghost use Rattle.std.specs.Prelude.{◌≡◌};
-ghost use Rattle.gmpl_data_input.specs.Rules.{Reads};
+ghost use Rattle.gmpl_blocks.specs.Rules.{Reads};
 ghost use Rattle.gmpl_load.specs.Statements as spec;
 ghost use Rattle.gmpl_load.specs.Tables.{at};
 
 use crate::objects::{DataObject, ParameterPlace, SetPlace, parameter, set};
 use crate::tables::{Tables, take_set_data, with_set_data};
-use gmpl_blocks::{ParameterData, parameter_block, set_block, subscripts};
+use gmpl_blocks::{
+    Cursor, DataError, DataFaultKind, ParameterData, parameter_block, set_block, subscripts,
+};
 use gmpl_data::Given;
-use gmpl_data_input::{Cursor, DataError, DataFaultKind};
 use gmpl_value::Tuple;
 use model_text::Names;
 use std::alloc::Global;

@@ -1,15 +1,15 @@
 // A block of several parameters.
 ghost use Rattle.std.specs.Prelude.{◌≡◌, length};
-ghost use Rattle.gmpl_data_input.specs.Rules.{Reads, Judges};
+ghost use Rattle.gmpl_blocks.specs.Rules.{Reads, Judges};
 ghost use Rattle.gmpl_load.specs.Tabbing as spec;
 
 use crate::objects::{DataObject, ParameterPlace, SetPlace, parameter, parameter_named, set_named};
 use crate::tables::{Tables, take_set_data, with_set_data};
 use gmpl_blocks::{
-    SetData, all_stars, cell, comma, default, given_default, given_element, given_value, tuple,
+    Cursor, DataError, DataFaultKind, SetData, all_stars, cell, comma, default, given_default,
+    given_element, given_value, tuple,
 };
 use gmpl_data::Given;
-use gmpl_data_input::{Cursor, DataError, DataFaultKind};
 use gmpl_token::TokenKind;
 use gmpl_value::{SetValue, Symbol, Tuple};
 use model_text::Names;

@@ -1,11 +1,10 @@
 // What data have given to the objects so far, by their places.
 ghost use Rattle.std.specs.Prelude.{◌≡◌, set, slice_get, Some, Ok, IfOk};
-ghost use Rattle.gmpl_data_input.specs.Rules.{Judges};
+ghost use Rattle.gmpl_blocks.specs.Rules.{Judges};
 ghost use Rattle.gmpl_load.specs.Tables as spec;
 
-use gmpl_blocks::SetData;
+use gmpl_blocks::{DataError, SetData};
 use gmpl_data::{DataTables, Given};
-use gmpl_data_input::DataError;
 use gmpl_members::{Members, Value};
 use gmpl_value::{SetFault, SetValue, Tuple};
 use sqlite_items::Items;

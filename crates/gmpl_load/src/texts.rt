@@ -1,6 +1,6 @@
 // What the blocks of all texts give.
 ghost use Rattle.std.specs.Prelude.{◌≡◌, Ok, IfOk, IfErr};
-ghost use Rattle.gmpl_data_input.specs.Rules.{Reads};
+ghost use Rattle.gmpl_blocks.specs.Rules.{Reads};
 ghost use Rattle.gmpl_load.specs.Texts as spec;
 ghost use Rattle.gmpl_load.specs.Texts.{Loads, LoadsFrom, IsFault, IsLocated};
 
@@ -8,8 +8,8 @@ use crate::objects::DataObject;
 use crate::statements::{parameter_statement, set_statement};
 use crate::tabbing::tabbing_statement;
 use crate::tables::Tables;
+use gmpl_blocks::{Cursor, DataError, DataFault, DataFaultKind, begins_symbol, is_word, word};
 use gmpl_data::DataTables;
-use gmpl_data_input::{Cursor, DataError, DataFault, DataFaultKind, begins_symbol, is_word, word};
 use gmpl_token::{LexFault, LexFaultKind, TokenKind, Tokens};
 use model_text::Names;
 use std::alloc::{AllocError, Global};

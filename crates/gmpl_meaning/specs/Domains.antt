@@ -4,8 +4,8 @@ use Rattle.gmpl_resolved.specs.declared.expression.Indexing.{Indexing}
 use Rattle.gmpl_resolved.specs.declared.statement.Numbered.{Numbered}
 use Rattle.gmpl_value.specs.declared.symbol.Symbol.{Symbol}
 use Rattle.gmpl_value.specs.Sets.{Elements as Set, is_member}
-use Rattle.gmpl_fault.specs.declared.fault.EvalFault.TheVariants.{OutOfDomain}
-use Rattle.gmpl_fault.specs.Outcome.{Outcome, then_do}
+use Rattle.gmpl_value.specs.declared.eval_fault.EvalFault.TheVariants.{OutOfDomain}
+use Rattle.gmpl_value.specs.Outcome.{Outcome, then_do}
 use Rattle.gmpl_operations.specs.Patterns.{Pattern, matched}
 use Rattle.gmpl_meaning.specs.Parts.{Bindings, Demanding, Meant, MeantEntry, MeantIndexing}
 use Rattle.gmpl_meaning.specs.declared.walk.EntryValue.{EntryValue}

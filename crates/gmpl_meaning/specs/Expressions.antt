@@ -27,9 +27,9 @@ use Rattle.gmpl_value.specs.declared.symbol.Symbol.{Symbol}
 use Rattle.gmpl_value.specs.declared.symbol.Symbol.TheVariants.{Number, Word}
 use Rattle.gmpl_value.specs.Range.{range_of}
 use Rattle.gmpl_value.specs.Sets.{Elements as Set, with_element}
-use Rattle.gmpl_fault.specs.declared.fault.EvalFault.{EvalFault}
-use Rattle.gmpl_fault.specs.declared.fault.EvalFault.TheVariants.{NoValue, NotANumber, DivZero}
-use Rattle.gmpl_fault.specs.Outcome.{Outcome, then_do}
+use Rattle.gmpl_value.specs.declared.eval_fault.EvalFault.{EvalFault}
+use Rattle.gmpl_value.specs.declared.eval_fault.EvalFault.TheVariants.{NoValue, NotANumber, DivZero}
+use Rattle.gmpl_value.specs.Outcome.{Outcome, then_do}
 use Rattle.gmpl_functions.specs.Powers.{power_of}
 use Rattle.gmpl_functions.specs.Strings.{length_of}
 use Rattle.gmpl_operations.specs.declared.value.Value.{Value}

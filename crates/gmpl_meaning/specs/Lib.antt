@@ -4,3 +4,4 @@ pub mod Expressions
 pub mod Domains
 pub mod Restrictions
 pub mod Members
+pub mod Right

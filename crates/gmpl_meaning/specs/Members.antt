@@ -20,10 +20,10 @@ use Rattle.gmpl_members.specs.declared.value.Value.{Value as Kept}
 use Rattle.gmpl_members.specs.declared.value.Value.TheVariants as kept
 use Rattle.gmpl_data.specs.declared.tables.LoadedModel.{LoadedModel}
 use Rattle.gmpl_data.specs.Given.{statement_at, value_given, is_overfull, default_given}
-use Rattle.gmpl_fault.specs.declared.fault.EvalFault.TheVariants.{NoValue, OutOfDomain, TooMany, Depth}
-use Rattle.gmpl_fault.specs.Outcome.{Outcome, then_do}
-use Rattle.gmpl_forms.specs.declared.variable.Variable.{Variable}
-use Rattle.gmpl_forms.specs.Linear.{linear}
+use Rattle.gmpl_value.specs.declared.eval_fault.EvalFault.TheVariants.{NoValue, OutOfDomain, TooMany, Depth}
+use Rattle.gmpl_value.specs.Outcome.{Outcome, then_do}
+use Rattle.gmpl_functions.specs.declared.variable.Variable.{Variable}
+use Rattle.gmpl_functions.specs.Linear.{linear}
 use Rattle.gmpl_operations.specs.declared.value.Value.{Value}
 use Rattle.gmpl_operations.specs.declared.value.Value.TheVariants.{Scalar, Elements, Linear}
 use Rattle.gmpl_operations.specs.Values.{set_in, of_number}

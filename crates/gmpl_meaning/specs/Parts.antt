@@ -3,7 +3,7 @@ use Rattle.std.specs.Prelude.{ℕ, Bool, true, false, Option, Some, None, List, 
 use Rattle.gmpl_syntax.specs.declared.expression.Operator.{Operator}
 use Rattle.gmpl_syntax.specs.declared.expression.Suffix.{Suffix}
 use Rattle.gmpl_value.specs.declared.symbol.Symbol.{Symbol}
-use Rattle.gmpl_fault.specs.Outcome.{Outcome}
+use Rattle.gmpl_value.specs.Outcome.{Outcome}
 use Rattle.gmpl_operations.specs.declared.value.Value.{Value}
 
 -- the values of the indices in scope, the outermost first

@@ -12,8 +12,8 @@ use Rattle.gmpl_resolved.specs.declared.statement.Numbered.{Numbered}
 use Rattle.gmpl_value.specs.declared.symbol.Symbol.{Symbol}
 use Rattle.gmpl_value.specs.declared.symbol.Symbol.TheVariants.{Number, Word}
 use Rattle.gmpl_value.specs.Sets.{Elements as Set, is_member, is_within}
-use Rattle.gmpl_fault.specs.declared.fault.EvalFault.TheVariants.{Restriction}
-use Rattle.gmpl_fault.specs.Outcome.{Outcome, then_do}
+use Rattle.gmpl_value.specs.declared.eval_fault.EvalFault.TheVariants.{Restriction}
+use Rattle.gmpl_value.specs.Outcome.{Outcome, then_do}
 use Rattle.gmpl_functions.specs.Numbers.{greater_of, lesser_of}
 use Rattle.gmpl_operations.specs.declared.value.Value.{Value}
 use Rattle.gmpl_operations.specs.declared.value.Value.TheVariants.{Scalar}

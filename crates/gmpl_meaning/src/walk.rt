@@ -1,7 +1,6 @@
 // What an indexing expression goes over.
 
-use gmpl_fault::EvalFault;
-use gmpl_value::{SetValue, Symbol, Tuple};
+use gmpl_value::{EvalFault, SetValue, Symbol, Tuple};
 use sqlite_items::Items;
 
 /// An element of an indexing expression.

@@ -7,12 +7,12 @@ use Rattle.gmpl_syntax.specs.declared.expression.Sign.{Sign}
 use Rattle.gmpl_syntax.specs.declared.expression.Sign.TheVariants.{Plus, Minus}
 use Rattle.gmpl_value.specs.declared.symbol.Symbol.{Symbol}
 use Rattle.gmpl_value.specs.Sets.{Elements as Set}
-use Rattle.gmpl_fault.specs.declared.fault.EvalFault.TheVariants.{NotANumber}
-use Rattle.gmpl_fault.specs.Outcome.{Outcome, then_do}
+use Rattle.gmpl_value.specs.declared.eval_fault.EvalFault.TheVariants.{NotANumber}
+use Rattle.gmpl_value.specs.Outcome.{Outcome, then_do}
 use Rattle.gmpl_functions.specs.Numbers.{floor_of, ceil_of, trunc_of, round_of, greatest_of, least_of}
 use Rattle.gmpl_functions.specs.Powers.{round_to, trunc_to}
 use Rattle.gmpl_functions.specs.Strings.{substring_of, rest_of}
-use Rattle.gmpl_forms.specs.Amounts.{negative_of}
+use Rattle.gmpl_functions.specs.Amounts.{negative_of}
 use Rattle.gmpl_operations.specs.declared.value.Value.{Value}
 use Rattle.gmpl_operations.specs.declared.value.Value.TheVariants.{Scalar, Group}
 use Rattle.gmpl_operations.specs.Values.{number_in, amount_in, of_number, as_value, as_number}

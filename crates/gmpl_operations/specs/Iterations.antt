@@ -6,8 +6,8 @@ use Rattle.gmpl_syntax.specs.declared.expression.Iteration.TheVariants as i
 use Rattle.gmpl_syntax.specs.declared.expression.Operator.TheVariants as o
 use Rattle.gmpl_value.specs.declared.symbol.Symbol.{Symbol}
 use Rattle.gmpl_value.specs.Sets.{Elements as Set, with_element}
-use Rattle.gmpl_fault.specs.declared.fault.EvalFault.TheVariants.{NoValue}
-use Rattle.gmpl_fault.specs.Outcome.{Outcome, then_do}
+use Rattle.gmpl_value.specs.declared.eval_fault.EvalFault.TheVariants.{NoValue}
+use Rattle.gmpl_value.specs.Outcome.{Outcome, then_do}
 use Rattle.gmpl_functions.specs.Numbers.{greater_of, lesser_of}
 use Rattle.gmpl_operations.specs.declared.value.Value.{Value}
 use Rattle.gmpl_operations.specs.declared.value.Value.TheVariants.{Truth, Elements}

@@ -4,13 +4,13 @@ use Rattle.rational.specs.Rational.{Rational}
 use Rattle.gmpl_syntax.specs.declared.expression.Operator.{Operator}
 use Rattle.gmpl_syntax.specs.declared.expression.Operator.TheVariants as o
 use Rattle.gmpl_value.specs.Sets.{Elements as Set, union_of, diff_of, symdiff_of, inter_of, cross_of}
-use Rattle.gmpl_fault.specs.declared.fault.EvalFault.TheVariants.{NotANumber}
-use Rattle.gmpl_fault.specs.Outcome.{Outcome, then_do}
+use Rattle.gmpl_value.specs.declared.eval_fault.EvalFault.TheVariants.{NotANumber}
+use Rattle.gmpl_value.specs.Outcome.{Outcome, then_do}
 use Rattle.gmpl_functions.specs.Numbers.{less_of, div_of, mod_of}
 use Rattle.gmpl_functions.specs.Strings.{joined_texts}
-use Rattle.gmpl_forms.specs.declared.amount.Amount.{Amount}
-use Rattle.gmpl_forms.specs.declared.terms.Sign.TheVariants as sign
-use Rattle.gmpl_forms.specs.Amounts.{sum_of, product_of, ratio_of}
+use Rattle.gmpl_functions.specs.declared.amount.Amount.{Amount}
+use Rattle.gmpl_functions.specs.declared.terms.Sign.TheVariants as sign
+use Rattle.gmpl_functions.specs.Amounts.{sum_of, product_of, ratio_of}
 use Rattle.gmpl_operations.specs.declared.value.Value.{Value}
 use Rattle.gmpl_operations.specs.declared.value.Value.TheVariants.{Scalar, Truth, Elements}
 use Rattle.gmpl_operations.specs.Values.{number_in, symbol_in, truth_in, set_in, amount_in, as_value, as_number, as_truth, as_elements}

@@ -7,7 +7,7 @@ use Rattle.gmpl_syntax.specs.declared.expression.Relation.TheVariants as r
 use Rattle.gmpl_value.specs.declared.symbol.Symbol.{Symbol}
 use Rattle.gmpl_value.specs.SymbolOrder.{symbol_order}
 use Rattle.gmpl_value.specs.Sets.{is_member, is_within}
-use Rattle.gmpl_fault.specs.Outcome.{Outcome, then_do}
+use Rattle.gmpl_value.specs.Outcome.{Outcome, then_do}
 use Rattle.gmpl_operations.specs.declared.value.Value.{Value}
 use Rattle.gmpl_operations.specs.declared.value.Value.TheVariants.{Scalar, Truth, Group, Elements}
 use Rattle.gmpl_operations.specs.Values.{symbol_in, set_in, tuple_in}

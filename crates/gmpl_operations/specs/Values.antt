@@ -6,11 +6,11 @@ use Rattle.gmpl_value.specs.declared.symbol.Symbol.{Symbol}
 use Rattle.gmpl_value.specs.declared.symbol.Symbol.TheVariants.{Number}
 use Rattle.gmpl_value.specs.declared.fault.SetFault.{SetFault}
 use Rattle.gmpl_value.specs.Sets.{Elements as Set}
-use Rattle.gmpl_fault.specs.declared.fault.EvalFault.TheVariants.{NotANumber, Nonlinear}
-use Rattle.gmpl_fault.specs.Outcome.{Outcome, then_do, as_eval_fault}
+use Rattle.gmpl_value.specs.declared.eval_fault.EvalFault.TheVariants.{NotANumber, Nonlinear}
+use Rattle.gmpl_value.specs.Outcome.{Outcome, then_do, as_eval_fault}
 use Rattle.gmpl_functions.specs.Numbers.{number_of, truth_of}
-use Rattle.gmpl_forms.specs.declared.amount.Amount.{Amount}
-use Rattle.gmpl_forms.specs.declared.amount.Amount.TheVariants as amount
+use Rattle.gmpl_functions.specs.declared.amount.Amount.{Amount}
+use Rattle.gmpl_functions.specs.declared.amount.Amount.TheVariants as amount
 use Rattle.gmpl_operations.specs.declared.value.Value.{Value}
 use Rattle.gmpl_operations.specs.declared.value.Value.TheVariants.{Scalar, Truth, Group, Elements, Linear}
 

@@ -1,18 +1,17 @@
 // Functions on the values of their arguments, signs and groups.
 ghost use Rattle.std.specs.Prelude.{◌≡◌};
-ghost use Rattle.gmpl_fault.specs.Outcome.{Gives, then_do};
+ghost use Rattle.gmpl_value.specs.Outcome.{Gives, then_do};
 ghost use Rattle.gmpl_operations.specs.Functions as spec;
 ghost use Rattle.gmpl_operations.specs.Values.{as_number, as_value, amount_in};
-ghost use Rattle.gmpl_forms.specs.Amounts.{negative_of};
+ghost use Rattle.gmpl_functions.specs.Amounts.{negative_of};
 
 use crate::value::Value;
 use fraction::Frac;
-use gmpl_fault::EvalFault;
 use gmpl_functions::{
     ceil, floor, greatest, least, round, round_to, substring, substring_from, trunc, trunc_to,
 };
 use gmpl_syntax::{Function, Sign};
-use gmpl_value::Symbol;
+use gmpl_value::{EvalFault, Symbol};
 use std::alloc::Global;
 
 fn of_one(function: Function, number: Frac) -> Result<Frac, EvalFault>

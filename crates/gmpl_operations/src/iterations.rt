@@ -1,15 +1,14 @@
 // What goes over the elements of an indexing expression.
 ghost use Rattle.std.specs.Prelude.{◌≡◌};
-ghost use Rattle.gmpl_fault.specs.Outcome.{Gives};
+ghost use Rattle.gmpl_value.specs.Outcome.{Gives};
 ghost use Rattle.gmpl_operations.specs.Iterations as spec;
 
 use crate::operators::{applied, decides, taken};
 use crate::value::Value;
 use fraction::Frac;
-use gmpl_fault::EvalFault;
 use gmpl_functions::{greater, lesser};
 use gmpl_syntax::{Iteration, Operator};
-use gmpl_value::SetValue;
+use gmpl_value::{EvalFault, SetValue};
 use std::alloc::Global;
 
 fn with_tuple(alloc: Global, total: Value, value: Value) -> Result<Value, EvalFault>

@@ -1,6 +1,6 @@
 // Operators between two parts of a chain.
 ghost use Rattle.std.specs.Prelude.{◌≡◌};
-ghost use Rattle.gmpl_fault.specs.Outcome.{Gives, then_do};
+ghost use Rattle.gmpl_value.specs.Outcome.{Gives, then_do};
 ghost use Rattle.gmpl_operations.specs.Operators as spec;
 ghost use Rattle.gmpl_operations.specs.Values.{amount_in, as_value, set_in, truth_in, as_truth, symbol_in, number_in, as_number};
 ghost use Rattle.gmpl_operations.specs.declared.value.Value.TheVariants as values;
@@ -8,11 +8,9 @@ ghost use Rattle.std.specs.Prelude.{Ok};
 
 use crate::value::Value;
 use fraction::Frac;
-use gmpl_fault::EvalFault;
-use gmpl_forms::{Amount, Sign};
-use gmpl_functions::{div, join, less, modulo};
+use gmpl_functions::{Amount, Sign, div, join, less, modulo};
 use gmpl_syntax::Operator;
-use gmpl_value::{SetValue, cross, diff, inter, symdiff, union};
+use gmpl_value::{EvalFault, SetValue, cross, diff, inter, symdiff, union};
 use std::alloc::Global;
 
 /// The left operand, as its operator takes it.

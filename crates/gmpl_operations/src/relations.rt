@@ -1,12 +1,11 @@
 // Relations between two values.
 ghost use Rattle.std.specs.Prelude.{◌≡◌};
-ghost use Rattle.gmpl_fault.specs.Outcome.{Gives};
+ghost use Rattle.gmpl_value.specs.Outcome.{Gives};
 ghost use Rattle.gmpl_operations.specs.Relations as spec;
 
 use crate::value::Value;
-use gmpl_fault::EvalFault;
 use gmpl_syntax::Relation;
-use gmpl_value::Symbol;
+use gmpl_value::{EvalFault, Symbol};
 use std::alloc::Global;
 use std::cmp::Ordering;
 

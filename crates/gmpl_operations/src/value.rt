@@ -1,13 +1,11 @@
 // What an expression comes to.
 ghost use Rattle.std.specs.Prelude.{◌≡◌};
-ghost use Rattle.gmpl_fault.specs.Outcome.{Gives};
+ghost use Rattle.gmpl_value.specs.Outcome.{Gives};
 ghost use Rattle.gmpl_operations.specs.Values.{number_in, symbol_in, truth_in, set_in, tuple_in, amount_in, of_amount, of_number};
 
 use fraction::Frac;
-use gmpl_fault::EvalFault;
-use gmpl_forms::{Amount, Form};
-use gmpl_functions::{number_of, truth_of};
-use gmpl_value::{SetValue, Symbol, Tuple};
+use gmpl_functions::{Amount, Form, number_of, truth_of};
+use gmpl_value::{EvalFault, SetValue, Symbol, Tuple};
 use std::alloc::Global;
 
 /// What an expression comes to.

@@ -9,8 +9,8 @@ use Rattle.gmpl_resolved.specs.declared.statement.Numbered.{Numbered as Resolved
 use Rattle.gmpl_resolved.specs.declared.statement.Statements.{Statements as ResolvedStatements}
 use Rattle.gmpl_names.specs.Names.{Name}
 use Rattle.gmpl_kinds.specs.declared.shape.Object.{Object}
-use Rattle.gmpl_statement_names.specs.declared.resolved.Resolved.{Resolved}
-use Rattle.gmpl_statement_names.specs.Statements.{JudgedBoth, judged, none, statements, statements_from, behind}
+use Rattle.gmpl_names.specs.declared.resolved.Resolved.{Resolved}
+use Rattle.gmpl_names.specs.Statements.{JudgedBoth, judged, none, statements, statements_from, behind}
 use Rattle.gmpl_statement_kinds.specs.declared.judgement.Judgement.{Judgement}
 use Rattle.gmpl_statement_kinds.specs.StatementKinds.{behind_all, declared, go_on, stopped, judged_from, judgement}
 use Rattle.gmpl_parse.specs.declared.model.Model.{Model}

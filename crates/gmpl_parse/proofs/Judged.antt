@@ -3,7 +3,7 @@ use Rattle.std.proofs.Common.{◌≡◌, ◌∙◌, ℕ, List, Option, None, Ok,
 use Rattle.gmpl_syntax.specs.declared.statement.Statements.{Statements}
 use Rattle.gmpl_resolved.specs.declared.statement.Statements.{Statements as ResolvedStatements}
 use Rattle.gmpl_kinds.specs.declared.shape.Object.{Object}
-use Rattle.gmpl_statement_names.specs.Statements.{statements}
+use Rattle.gmpl_names.specs.Statements.{statements}
 use Rattle.gmpl_statement_kinds.specs.declared.judgement.Judgement.{Judgement}
 use Rattle.gmpl_statement_kinds.specs.StatementKinds.{judgement}
 use Rattle.gmpl_parse.specs.declared.model.Model.{Model}

@@ -8,7 +8,7 @@ use Rattle.gmpl_syntax.specs.declared.statement.Statements.{Statements}
 use Rattle.gmpl_statements.specs.declared.reader.Next.{Next}
 use Rattle.gmpl_statements.specs.declared.reader.Next.TheVariants as next
 use Rattle.gmpl_statements.specs.Statements.{Reading, beginning, behind_next, ended, statements_left, statements_of}
-use Rattle.gmpl_statement_names.specs.Statements.{Resolving, goes_on, nothing_resolved, resolved_behind, statements, stopped}
+use Rattle.gmpl_names.specs.Statements.{Resolving, goes_on, nothing_resolved, resolved_behind, statements, stopped}
 use Rattle.gmpl_parse.specs.Models.{IsResolved}
 
 -- behind what is resolved so far, the statements from this number on are left of the whole

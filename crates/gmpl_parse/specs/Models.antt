@@ -6,7 +6,7 @@ use Rattle.gmpl_token.specs.Token.{Tokens}
 use Rattle.gmpl_syntax.specs.declared.statement.Statements.{Statements}
 use Rattle.gmpl_resolved.specs.declared.statement.Statements.{Statements as ResolvedStatements}
 use Rattle.gmpl_statements.specs.Statements.{statements_of}
-use Rattle.gmpl_statement_names.specs.Statements.{none, statements, statements_from}
+use Rattle.gmpl_names.specs.Statements.{none, statements, statements_from}
 use Rattle.gmpl_statement_kinds.specs.StatementKinds.{judgement, judged_from}
 use Rattle.gmpl_parse.specs.declared.model.Model.{Model}
 use Rattle.gmpl_parse.specs.declared.model.ParseError.{ParseError}

@@ -1,11 +1,11 @@
 // The first two passes, statement by statement.
 ghost use Rattle.std.specs.Prelude.{◌≡◌, IfOk};
 ghost use Rattle.gmpl_statements.specs.Statements.{statements_of};
-ghost use Rattle.gmpl_statement_names.specs.Statements.{stopped};
+ghost use Rattle.gmpl_names.specs.Statements.{stopped};
 ghost use Rattle.gmpl_parse.specs.Models.{IsResolved};
 
+use gmpl_names::Resolver;
 use gmpl_resolved::Statements;
-use gmpl_statement_names::Resolver;
 use gmpl_statements::{Next, StatementReader};
 use gmpl_syntax::SyntaxFault;
 use gmpl_token::Tokens;

@@ -4,8 +4,8 @@ use Rattle.gmpl_token.specs.Token.{Tokens}
 use Rattle.gmpl_resolved.specs.declared.statement.Numbered.{Numbered}
 use Rattle.gmpl_kinds.specs.declared.shape.Object.{Object}
 use Rattle.gmpl_parse.specs.declared.model.Model.{Model as Parsed}
-use Rattle.gmpl_object_names.specs.Names.{names_of}
-use Rattle.gmpl_data_input.specs.declared.fault.DataFault.{DataFault}
+use Rattle.gmpl_reader.specs.Names.{names_of}
+use Rattle.gmpl_blocks.specs.declared.fault.DataFault.{DataFault}
 use Rattle.gmpl_load.specs.declared.objects.DataObject.{DataObject}
 use Rattle.gmpl_load.specs.Tables.{Tables}
 use Rattle.gmpl_load.specs.Texts.{all_tables}

@@ -12,7 +12,7 @@ use Rattle.gmpl_rows.specs.declared.declared.Declared.{Declared}
 use Rattle.gmpl_rows.specs.Premises.{AreObjects, declared_name}
 use Rattle.gmpl_load.specs.Tables.{Tables}
 use Rattle.gmpl_generate.specs.Problem.{all_declared, declared_at, declared_by}
-use Rattle.gmpl_object_names.specs.Names.{names_of, head_of}
+use Rattle.gmpl_reader.specs.Names.{names_of, head_of}
 use Rattle.gmpl_reader.specs.MathProg.{loaded, model_in}
 
 same_name : (x : Statement) → declared_name (declared_by x) ≡ (head_of x).name

@@ -12,10 +12,10 @@ use Rattle.gmpl_kinds.specs.declared.shape.Sort.{Sort}
 use Rattle.gmpl_kinds.specs.declared.shape.Sort.TheVariants as sort
 use Rattle.gmpl_kinds.specs.Demands.{or_one}
 use Rattle.gmpl_parse.specs.declared.model.Model.{Model as Parsed}
-use Rattle.gmpl_object_names.specs.Names.{names_of}
+use Rattle.gmpl_reader.specs.Names.{names_of}
 use Rattle.gmpl_token.specs.Token.{Tokens}
-use Rattle.gmpl_data_tokens.specs.Tokens.{data_tokens}
-use Rattle.gmpl_data_input.specs.declared.fault.DataFault.{DataFault}
+use Rattle.gmpl_lexer.specs.DataTokens.{data_tokens}
+use Rattle.gmpl_blocks.specs.declared.fault.DataFault.{DataFault}
 use Rattle.gmpl_load.specs.declared.objects.DataObject.{DataObject}
 use Rattle.gmpl_load.specs.declared.objects.DataSort.{DataSort}
 use Rattle.gmpl_load.specs.declared.objects.DataSort.TheVariants as given_as

@@ -10,7 +10,7 @@ use Rattle.gmpl_syntax.specs.declared.fault.SyntaxFault.{SyntaxFault}
 use Rattle.gmpl_parse.specs.Models.{parsed}
 use Rattle.gmpl_parse.specs.declared.model.Model.{Model as Parsed}
 use Rattle.gmpl_data.specs.declared.tables.LoadedModel.{LoadedModel}
-use Rattle.gmpl_data_input.specs.declared.fault.DataFault.{DataFault}
+use Rattle.gmpl_blocks.specs.declared.fault.DataFault.{DataFault}
 use Rattle.gmpl_load.specs.Tables.{Tables}
 use Rattle.gmpl_rows.specs.Draft.{Draft}
 use Rattle.gmpl_rows.specs.Problem.{column_members, problem_of, row_members}

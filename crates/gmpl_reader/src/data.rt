@@ -1,13 +1,13 @@
 // What data give to the objects of a model.
 ghost use Rattle.std.specs.Prelude.{◌≡◌, map, IfOk, IfErr, Ok};
-ghost use Rattle.gmpl_object_names.specs.Names.{object_name, names_of};
+ghost use Rattle.gmpl_reader.specs.Names.{object_name, names_of};
 ghost use Rattle.gmpl_reader.specs.Data as spec;
 ghost use Rattle.gmpl_reader.specs.Data.{IsNoData};
 
 use crate::fault::MathProgFault;
 use gmpl_data::DataTables;
-use gmpl_data_tokens::read_data_tokens;
 use gmpl_kinds::{Object, Sort, or_one};
+use gmpl_lexer::read_data_tokens;
 use gmpl_load::{DataObject, DataSort, LoadError, load};
 use gmpl_parse::Model;
 use gmpl_resolved::{Attribute, Declaration, Numbered, Statement};

@@ -1,5 +1,5 @@
 // What is wrong with a MathProg text or its data.
-use gmpl_data_input::DataFault;
+use gmpl_blocks::DataFault;
 use gmpl_generate::ModelFault;
 use gmpl_syntax::SyntaxFault;
 

@@ -12,12 +12,12 @@ ghost use Rattle.gmpl_generate.specs.Solved.{RowsFit, made_after};
 
 use crate::data::given;
 use crate::fault::MathProgFault;
+use crate::objects_have_names;
 use gmpl_data::{DataTables, LoadedModel};
 use gmpl_generate::{
     Afterwards, End, Executed, Generated, ModelFault, Pause, TableFile, generate, resume,
 };
 use gmpl_lexer::read_tokens;
-use gmpl_object_names::objects_have_names;
 use gmpl_parse::{Model, ParseError, parse};
 use gmpl_solution::Member;
 use instance::{Instance, Point};

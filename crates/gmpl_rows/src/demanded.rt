@@ -7,7 +7,7 @@ ghost use Rattle.gmpl_rows.specs.Demanded.{none_demanded, demand, place_of, give
 
 use crate::member_column::{Cell, MemberColumn};
 use crate::term::{Bounds, Term};
-use gmpl_forms::Variable;
+use gmpl_functions::Variable;
 use gmpl_value::Tuple;
 use indexmap::IndexSet;
 use std::alloc::{AllocError, Global};

@@ -1,6 +1,6 @@
 // What a row is made of.
 use fraction::Frac;
-use gmpl_forms::Variable;
+use gmpl_functions::Variable;
 
 /// The bounds of a variable's member; an absent one is none.
 #[derive(Clone, Copy)]

@@ -13,10 +13,10 @@ use Rattle.gmpl_words.specs.declared.statements.Beginning.{Beginning}
 use Rattle.gmpl_words.specs.declared.statements.Beginning.TheVariants as b
 use Rattle.gmpl_words.specs.Statements.{begins_with, is_to}
 use Rattle.gmpl_expressions.specs.Grammar.{max_depth}
-use Rattle.gmpl_declarations.specs.Parts.{titled_name}
-use Rattle.gmpl_declarations.specs.Declarations.{declaration, constraint, objective}
-use Rattle.gmpl_tables.specs.Tables.{input_word, table_input, table_output}
-use Rattle.gmpl_actions.specs.Actions.{action}
+use Rattle.gmpl_statements.specs.Parts.{titled_name}
+use Rattle.gmpl_statements.specs.Declarations.{declaration, constraint, objective}
+use Rattle.gmpl_statements.specs.Tables.{input_word, table_input, table_output}
+use Rattle.gmpl_statements.specs.Actions.{action}
 
 -- ---- "subject" "to" and a constraint
 

@@ -3,12 +3,12 @@ ghost use Rattle.std.specs.Prelude.{◌≡◌};
 ghost use Rattle.gmpl_input.specs.Rules.{Reads};
 ghost use Rattle.gmpl_statements.specs.Statement as spec;
 
-use gmpl_actions::action;
-use gmpl_declarations::{constraint, declaration, objective, titled_name};
+use crate::{
+    action, constraint, declaration, input_word, objective, table_input, table_output, titled_name,
+};
 use gmpl_expressions::Reader;
 use gmpl_input::{Cursor, ParseError};
 use gmpl_syntax::{Action, Constraint, Direction, Statement};
-use gmpl_tables::{input_word, table_input, table_output};
 use gmpl_text::Text;
 use gmpl_token::TokenKind;
 use gmpl_words::{Beginning, Declared, begins_with, is_to};

@@ -3,3 +3,4 @@ pub mod Range
 pub mod Sets
 pub mod SymbolEquality
 pub mod SymbolOrder
+pub mod Outcome

@@ -1,8 +1,7 @@
 // The time that work on large sets takes.
 use fraction::Frac;
-use gmpl_fault::EvalFault;
-use gmpl_forms::{Form, Sign, Variable};
-use gmpl_value::{SetFault, SetValue, Symbol, Tuple, cross, range, union};
+use gmpl_functions::{Form, Sign, Variable};
+use gmpl_value::{EvalFault, SetFault, SetValue, Symbol, Tuple, cross, range, union};
 use std::alloc::Global;
 use std::io;
 use std::time::{Clock, Instant};

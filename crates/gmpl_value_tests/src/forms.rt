@@ -1,10 +1,9 @@
 // Linear forms: operands first, then the operator. A letter is a variable, `~` is the sign.
 use crate::rows::{Subject, check};
 use crate::texts::{fault_word, number};
-use gmpl_fault::EvalFault;
-use gmpl_forms::{Amount, Form, Sign, Variable};
+use gmpl_functions::{Amount, Form, Sign, Variable};
 use gmpl_text::Text;
-use gmpl_value::{Symbol, Tuple};
+use gmpl_value::{EvalFault, Symbol, Tuple};
 use std::alloc::{AllocError, Global};
 use std::test::Fail;
 

@@ -3,12 +3,11 @@
 use crate::rows::{Subject, check};
 use crate::texts::{fault_word, number, split, symbol, symbol_word};
 use fraction::Frac;
-use gmpl_fault::EvalFault;
 use gmpl_functions::{
     ceil, div, floor, greater, greatest, join, least, length, less, lesser, modulo, number_of,
     power, quotient, round, round_to, substring, substring_from, trunc, trunc_to, truth_of,
 };
-use gmpl_value::Symbol;
+use gmpl_value::{EvalFault, Symbol};
 use std::alloc::{AllocError, Global};
 use std::test::Fail;
 

@@ -1,9 +1,8 @@
 // How the tables write symbols, tuples and faults.
 use fraction::{Frac, NoFit, Op};
-use gmpl_fault::EvalFault;
 use gmpl_functions::plain_text;
 use gmpl_text::Text;
-use gmpl_value::{SetFault, Symbol, Tuple};
+use gmpl_value::{EvalFault, SetFault, Symbol, Tuple};
 use std::alloc::{AllocError, Global};
 
 /// The first word, and the words behind it.

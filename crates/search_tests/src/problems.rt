@@ -1,6 +1,6 @@
 // Problems of all kinds with their verdicts.
 use crate::rows::{Row, read_row, verdict_words};
-use mixed_solve::{VerdictFault, Wanted, solve};
+use branch_search::{VerdictFault, Wanted, solve};
 use std::alloc::{AllocError, Global};
 use std::process::Abort;
 use std::test::Fail;

@@ -10,3 +10,8 @@ mod Pinned
 mod AnyWhole
 mod Treated
 pub mod Laws
+mod Combined
+mod NodePoints
+mod Paths
+mod OwnValues
+pub mod CheckLaws

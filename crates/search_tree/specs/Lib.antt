@@ -9,3 +9,8 @@ pub mod Finished
 pub mod Honest
 pub mod Pinned
 pub mod AnyWhole
+pub mod Points
+pub mod Faults
+pub mod Paths
+pub mod Optimum
+pub mod Told

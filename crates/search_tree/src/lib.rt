@@ -5,7 +5,11 @@
 mod boards;
 mod event;
 mod leaf;
+mod optimum;
+mod path;
+mod points;
 mod subtree;
+mod telling;
 mod way;
 
 pub use boards::{
@@ -14,5 +18,9 @@ pub use boards::{
 };
 pub use event::{Entry, Event, Reply};
 pub use leaf::{Hint, Leaf, Lease, Slot};
+pub use optimum::is_optimal;
+pub use path::Path;
+pub use points::{form_value, is_node_point};
 pub use subtree::Subtree;
+pub use telling::shows_told;
 pub use way::Way;

@@ -3,7 +3,7 @@ use Rattle.std.specs.Prelude.{ℕ, List, ◌++◌, codes}
 use Rattle.std.specs.Fmt.{decimal}
 use Rattle.fraction.specs.declared.frac.NoFit.{NoFit}
 use Rattle.gmpl_syntax.specs.declared.fault.SyntaxFault.{SyntaxFault}
-use Rattle.gmpl_data_input.specs.declared.fault.DataFault.{DataFault}
+use Rattle.gmpl_blocks.specs.declared.fault.DataFault.{DataFault}
 use Rattle.gmpl_generate.specs.declared.fault.ModelFault.{ModelFault}
 use Rattle.model_text.specs.KindText.{kind_text}
 use Rattle.model_text.specs.declared.fault.FileFault.{FileFault}

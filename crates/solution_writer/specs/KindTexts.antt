@@ -6,10 +6,10 @@ use Rattle.fraction.specs.declared.frac.Op.TheVariants.{Add, Sub, Mul, Div}
 use Rattle.fraction.specs.declared.frac.NoFit.{NoFit}
 use Rattle.gmpl_syntax.specs.declared.fault.SyntaxFaultKind.{SyntaxFaultKind}
 use Rattle.gmpl_syntax.specs.declared.fault.SyntaxFaultKind.TheVariants as syntax
-use Rattle.gmpl_data_input.specs.declared.fault.DataFaultKind.{DataFaultKind}
-use Rattle.gmpl_data_input.specs.declared.fault.DataFaultKind.TheVariants as given
-use Rattle.gmpl_fault.specs.declared.fault.EvalFault.{EvalFault}
-use Rattle.gmpl_fault.specs.declared.fault.EvalFault.TheVariants as eval
+use Rattle.gmpl_blocks.specs.declared.fault.DataFaultKind.{DataFaultKind}
+use Rattle.gmpl_blocks.specs.declared.fault.DataFaultKind.TheVariants as given
+use Rattle.gmpl_value.specs.declared.eval_fault.EvalFault.{EvalFault}
+use Rattle.gmpl_value.specs.declared.eval_fault.EvalFault.TheVariants as eval
 use Rattle.gmpl_generate.specs.declared.fault.ModelFaultKind.{ModelFaultKind}
 use Rattle.gmpl_generate.specs.declared.fault.ModelFaultKind.TheVariants.{Evaluation, CheckFailed, Table}
 use Rattle.csv_tables.specs.declared.fault.TableFault.{TableFault}

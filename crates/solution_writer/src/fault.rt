@@ -6,7 +6,7 @@ use crate::kind_texts::{data_kind_text, model_kind_text, operation_text, syntax_
 use cert_check::Part;
 use certificate_lines::{CertFault, FaultKind};
 use fraction::NoFit;
-use gmpl_data_input::DataFault;
+use gmpl_blocks::DataFault;
 use gmpl_generate::ModelFault;
 use gmpl_syntax::SyntaxFault;
 use instance::Name;

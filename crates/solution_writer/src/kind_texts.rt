@@ -4,10 +4,10 @@ ghost use Rattle.solution_writer.specs.KindTexts.{operator_text, operation_text,
 
 use csv_tables::TableFault;
 use fraction::{NoFit, Op};
-use gmpl_data_input::DataFaultKind;
-use gmpl_fault::EvalFault;
+use gmpl_blocks::DataFaultKind;
 use gmpl_generate::ModelFaultKind;
 use gmpl_syntax::SyntaxFaultKind;
+use gmpl_value::EvalFault;
 use std::alloc::{AllocError, Global};
 
 /// The word of a kind of faults that a text may have.

@@ -1,6 +1,6 @@
 -- A member that is evaluated anew, and the parts of ranges and comparisons.
 use Rattle.std.proofs.Common.{◌<◌, arith, subst, sym}
-use Rattle.gmpl_fault.specs.Outcome.{Gives}
+use Rattle.gmpl_value.specs.Outcome.{Gives}
 use Rattle.gmpl_expr.proofs.Demands.{member_none, member_some}
 use Rattle.gmpl_expr.specs.At as at
 use Rattle.gmpl_expr.proofs.Membership.{compared_in, compared_not_in}

@@ -6,7 +6,7 @@ use Rattle.gmpl_meaning.specs.Walks as walks
 use Rattle.gmpl_meaning.specs.Domains as domains
 use Rattle.gmpl_meaning.specs.Restrictions as restrictions
 use Rattle.gmpl_meaning.specs.Members.{member}
-use Rattle.gmpl_kept.specs.Right.{AreRight}
+use Rattle.gmpl_meaning.specs.Right.{AreRight}
 use Rattle.gmpl_expr.proofs.+evaluation.Given as goal
 
 abbrev pub decreases-variables::bounded : goal.decreases-variables::bounded

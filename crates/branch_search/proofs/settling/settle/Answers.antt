@@ -1,6 +1,6 @@
 use Rattle.std.proofs.Common.{subst}
-use Rattle.node_work.specs.declared.treatment.Treatment.{Treatment}
-use Rattle.node_work.specs.Treatment.{IsTreatment}
+use Rattle.branch_search.specs.declared.treatment.Treatment.{Treatment}
+use Rattle.branch_search.specs.Treatment.{IsTreatment}
 use Rattle.search_node.specs.Sides.{sides_of}
 use Rattle.search_tree.specs.Board.{value_of}
 use Rattle.branch_search.proofs.settling.settle.Goals as goal

@@ -1,6 +1,6 @@
 -- What is found is the range, and what is kept is right.
 use Rattle.std.proofs.Common.{subst, sym}
-use Rattle.gmpl_fault.specs.Outcome.{GivesAs, then_do}
+use Rattle.gmpl_value.specs.Outcome.{GivesAs, then_do}
 use Rattle.gmpl_operations.specs.Values.{set_in}
 use Rattle.gmpl_expr.proofs.parts.kept_range.Goals as goal
 

@@ -1,5 +1,5 @@
 use Rattle.std.proofs.Common.{◌≡◌, ◌∙◌, sym, arith, ◌-◌, ◌+◌, suc}
-use Rattle.gmpl_fault.specs.declared.fault.EvalFault.TheVariants.{NoFit}
+use Rattle.gmpl_value.specs.declared.eval_fault.EvalFault.TheVariants.{NoFit}
 use Rattle.gmpl_functions.proofs.Factors.{one_more, no_more, handed_on}
 use Rattle.gmpl_functions.proofs.powers.multiplied.Goals as goal
 

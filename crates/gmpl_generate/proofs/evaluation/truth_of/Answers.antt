@@ -1,5 +1,5 @@
 use Rattle.std.proofs.Common.{subst}
-use Rattle.gmpl_fault.specs.Outcome.{Gives}
+use Rattle.gmpl_value.specs.Outcome.{Gives}
 use Rattle.gmpl_data.specs.declared.tables.LoadedModel.{LoadedModel}
 use Rattle.gmpl_generate.specs.Checks.{truth_of}
 use Rattle.gmpl_generate.proofs.evaluation.truth_of.Goals as goal

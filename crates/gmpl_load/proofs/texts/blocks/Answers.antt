@@ -1,7 +1,7 @@
 -- One more turn, and no more.
 use Rattle.std.proofs.Common.{rules, arith}
 use Rattle.std.proofs.lemmas.Grind.{common_steps}
-use Rattle.gmpl_data_input.proofs.Turns.{one_more, no_more}
+use Rattle.gmpl_blocks.proofs.Turns.{one_more, no_more}
 use Rattle.gmpl_load.specs.Texts.{blocks_from}
 use Rattle.gmpl_load.proofs.texts.blocks.Goals as goal
 

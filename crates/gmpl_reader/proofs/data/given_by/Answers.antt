@@ -1,5 +1,5 @@
 use Rattle.std.proofs.Common.{◌∙◌, ap, subst, Ok, Err}
-use Rattle.gmpl_object_names.specs.Names.{names_of}
+use Rattle.gmpl_reader.specs.Names.{names_of}
 use Rattle.gmpl_load.specs.Texts.{all_tables, IsFault}
 use Rattle.gmpl_reader.proofs.Given.{is_given, same_objects}
 use Rattle.gmpl_reader.proofs.data.given_by.Goals as goal

@@ -1,0 +1,253 @@
+// The work at one node.
+ghost use Rattle.std.specs.Prelude.{ℕ, ◌≡◌, IfOk, IfSome};
+ghost use Rattle.basis.specs.Node.{IsOverColumns, IsNodePoint};
+ghost use Rattle.basis.specs.Relaxation.{IsOptimalRelaxation, IsInfeasibleRelaxation};
+ghost use Rattle.dictionary.specs.Table.{dictionary_of};
+ghost use Rattle.search_node.specs.Sides.{sides_of};
+ghost use Rattle.branch_search.specs.Treatment.{IsTreatment};
+
+use crate::testing::{Verdict, test_optimum};
+use crate::treatment::Treatment;
+use candidate::{Candidate, ProposedOptimum, propose};
+use certificate::{DerivedRows, Weights};
+use fraction::{Frac, NoFit};
+use instance::Instance;
+use search_node::{Basis, Node, Site, SplitsTaken, Stuck};
+use search_tree::{Hint, Path, is_node_point, optimal_points};
+use simplex::{Best, Dictionary, Relaxed, relax};
+use std::alloc::{AllocError, Global};
+
+/// The work at a node, given the best value so far: it has no point, none better than the best, a better feasible one that
+/// bounds it, or is to be split; or a ray improves the problem, from a point of the node's relaxation. A search that begins at the hint's basis proposes,
+/// within as many steps as the run may have, and what it proposes is taken where its tests pass. Else the simplex method
+/// by Bland's rule decides, and an operation of it that does not fit, or a run of more than `pivot_limit` steps, is what
+/// becomes of the node.
+pub fn treat(
+    alloc: Global,
+    problem: &Instance,
+    cuts: &DerivedRows,
+    node: &Node,
+    best: &Option<Frac>,
+    pivot_limit: u32,
+    hint: &Hint,
+) -> Result<Treatment, AllocError>
+    requires columns { IsOverColumns problem.now cuts.now (sides_of node.now.splits) }
+    ensures { IfOk result (IsTreatment problem.now cuts.now pivot_limit (sides_of node.now.splits) best.now) }
+{
+    let candidate = propose(alloc, problem, &node.splits, hint.basis(), pivot_limit)?;
+    treat_with(alloc, problem, cuts, node, best, pivot_limit, candidate)
+}
+
+/// The same with this candidate, if there is one, in place of what the search proposes.
+pub fn treat_with(
+    alloc: Global,
+    problem: &Instance,
+    cuts: &DerivedRows,
+    node: &Node,
+    best: &Option<Frac>,
+    pivot_limit: u32,
+    candidate: Option<Candidate>,
+) -> Result<Treatment, AllocError>
+    requires columns { IsOverColumns problem.now cuts.now (sides_of node.now.splits) }
+    ensures { IfOk result (IsTreatment problem.now cuts.now pivot_limit (sides_of node.now.splits) best.now) }
+{
+    let path = Path::below(alloc, &node.splits)?;
+    match proposed(problem, cuts, &node.splits, &path, best, candidate) {
+        Some(treatment) => Ok(treatment),
+        None => relaxed(alloc, problem, cuts, node, &path, best, pivot_limit),
+    }
+}
+
+// What is proposed, where its tests pass.
+fn proposed(
+    problem: &Instance,
+    cuts: &DerivedRows,
+    splits: &SplitsTaken,
+    path: &Path,
+    best: &Option<Frac>,
+    candidate: Option<Candidate>,
+) -> Option<Treatment>
+    requires columns { IsOverColumns problem.now cuts.now (sides_of splits.now) }
+    requires path { path.now ≡ sides_of splits.now }
+    ensures { IfSome result (λ t. (limit : ℕ) → IsTreatment problem.now cuts.now limit (sides_of splits.now) best.now t) }
+{
+    match candidate {
+        None => None,
+        Some(Candidate::Unbounded(_)) => None,
+        Some(Candidate::Infeasible(weights)) => {
+            proposed_weights(problem, cuts, splits, path, best, weights)
+        }
+        Some(Candidate::Optimal(found)) => {
+            proposed_optimum(problem, cuts, splits, path, best, found)
+        }
+    }
+}
+
+// The weights are to show that the node has no point.
+fn proposed_weights(
+    problem: &Instance,
+    cuts: &DerivedRows,
+    splits: &SplitsTaken,
+    path: &Path,
+    best: &Option<Frac>,
+    weights: Weights,
+) -> Option<Treatment>
+    requires { path.now ≡ sides_of splits.now }
+    ensures { IfSome result (λ t. (limit : ℕ) → IsTreatment problem.now cuts.now limit (sides_of splits.now) best.now t) }
+{
+    match path.shows_no_point(problem, cuts, &weights) {
+        Ok(true) => Some(Treatment::Refuted(weights)),
+        Ok(false) => None,
+        Err(_) => None,
+    }
+}
+
+// The point is to be an optimal one of the node's relaxation.
+fn proposed_optimum(
+    problem: &Instance,
+    cuts: &DerivedRows,
+    splits: &SplitsTaken,
+    path: &Path,
+    best: &Option<Frac>,
+    found: ProposedOptimum,
+) -> Option<Treatment>
+    requires columns { IsOverColumns problem.now cuts.now (sides_of splits.now) }
+    requires path { path.now ≡ sides_of splits.now }
+    ensures { IfSome result (λ t. (limit : ℕ) → IsTreatment problem.now cuts.now limit (sides_of splits.now) best.now t) }
+{
+    match is_node_point(problem, cuts, splits, &found.point) {
+        Ok(true) => proposed_point(problem, cuts, splits, path, best, found),
+        Ok(false) => None,
+        Err(_) => None,
+    }
+}
+
+// The point is one of the node's relaxation.
+fn proposed_point(
+    problem: &Instance,
+    cuts: &DerivedRows,
+    splits: &SplitsTaken,
+    path: &Path,
+    best: &Option<Frac>,
+    found: ProposedOptimum,
+) -> Option<Treatment>
+    requires columns { IsOverColumns problem.now cuts.now (sides_of splits.now) }
+    requires path { path.now ≡ sides_of splits.now }
+    requires point { IsNodePoint problem.now cuts.now (sides_of splits.now) found.point }
+    ensures { IfSome result (λ t. (limit : ℕ) → IsTreatment problem.now cuts.now limit (sides_of splits.now) best.now t) }
+{
+    match test_optimum(problem, cuts, path, best, found, false) {
+        Verdict::Passed(treatment) => Some(treatment),
+        Verdict::NotTold => None,
+        Verdict::Failed => None,
+        Verdict::NoFit(_) => None,
+    }
+}
+
+// What the simplex method finds, tested. None of its tests fails.
+fn relaxed(
+    alloc: Global,
+    problem: &Instance,
+    cuts: &DerivedRows,
+    node: &Node,
+    path: &Path,
+    best: &Option<Frac>,
+    pivot_limit: u32,
+) -> Result<Treatment, AllocError>
+    requires columns { IsOverColumns problem.now cuts.now (sides_of node.now.splits) }
+    requires path { path.now ≡ sides_of node.now.splits }
+    ensures { IfOk result (IsTreatment problem.now cuts.now pivot_limit (sides_of node.now.splits) best.now) }
+{
+    match relax(alloc, problem, node, cuts, pivot_limit) {
+        Ok(Relaxed::Infeasible(weights)) => Ok(infeasible(
+            problem,
+            cuts,
+            node,
+            path,
+            best,
+            pivot_limit,
+            weights,
+        )),
+        Ok(Relaxed::Optimal(found)) => optimal(
+            alloc,
+            problem,
+            cuts,
+            node,
+            path,
+            best,
+            pivot_limit,
+            found,
+        ),
+        Ok(Relaxed::Unbounded(endless)) => Ok(Treatment::Unbounded(endless)),
+        Err(Stuck::NoFit(site)) => Ok(Treatment::NotFitting(fault_at(site))),
+        Err(Stuck::PivotLimit(bases)) => Ok(Treatment::AtLimit(bases)),
+        Err(Stuck::NoMemory) => Err(AllocError),
+    }
+}
+
+fn fault_at(site: Site) -> NoFit
+    ensures { result ≡ site.fault }
+{
+    site.fault
+}
+
+// The relaxation has no point.
+fn infeasible(
+    problem: &Instance,
+    cuts: &DerivedRows,
+    node: &Node,
+    path: &Path,
+    best: &Option<Frac>,
+    pivot_limit: u32,
+    weights: Weights,
+) -> Treatment
+    requires columns { IsOverColumns problem.now cuts.now (sides_of node.now.splits) }
+    requires path { path.now ≡ sides_of node.now.splits }
+    requires infeasible { IsInfeasibleRelaxation problem.now cuts.now (sides_of node.now.splits) weights }
+    ensures { IsTreatment problem.now cuts.now pivot_limit (sides_of node.now.splits) best.now result }
+{
+    match path.shows_no_point(problem, cuts, &weights) {
+        Ok(true) => Treatment::Refuted(weights),
+        Ok(false) => unreachable!(),
+        Err(fault) => Treatment::NotFitting(fault),
+    }
+}
+
+// The relaxation has an optimal point.
+fn optimal(
+    alloc: Global,
+    problem: &Instance,
+    cuts: &DerivedRows,
+    node: &Node,
+    path: &Path,
+    best: &Option<Frac>,
+    pivot_limit: u32,
+    found: Best,
+) -> Result<Treatment, AllocError>
+    requires columns { IsOverColumns problem.now cuts.now (sides_of node.now.splits) }
+    requires path { path.now ≡ sides_of node.now.splits }
+    requires optimal { IsOptimalRelaxation problem.now cuts.now (sides_of node.now.splits) found.point found.weights found.dictionary.places (dictionary_of found.dictionary) }
+    ensures { IfOk result (IsTreatment problem.now cuts.now pivot_limit (sides_of node.now.splits) best.now) }
+{
+    let basis = basis_of(alloc, &found.dictionary)?;
+    let optimum = ProposedOptimum {
+        point: found.point,
+        weights: found.weights,
+        basis,
+        told: None,
+    };
+    optimal_points();
+    match test_optimum(problem, cuts, path, best, optimum, true) {
+        Verdict::Passed(treatment) => Ok(treatment),
+        Verdict::Failed => unreachable!(),
+        Verdict::NotTold => unreachable!(),
+        Verdict::NoFit(fault) => Ok(Treatment::NotFitting(fault)),
+    }
+}
+
+// The basis of a dictionary.
+fn basis_of(alloc: Global, dictionary: &Dictionary) -> Result<Basis, AllocError>
+    ensures { IfOk result (λ b. b ≡ dictionary.now.places) }
+{
+    Ok(Basis::from_vec(dictionary.places().to_vec(alloc)?))
+}

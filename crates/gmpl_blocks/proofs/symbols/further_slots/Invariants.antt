@@ -1,0 +1,7 @@
+-- What is read of the whole is what is read from here, behind what was found.
+use Rattle.std.proofs.Common.{◌≡◌, ◌-◌}
+use Rattle.gmpl_blocks.specs.Symbols.{further_slots, slots_from}
+use Rattle.gmpl_blocks.proofs.symbols.further_slots.Given as goal
+
+abbrev pub invariant-loop-turn : goal.invariant-loop-turn
+invariant-loop-turn l = further_slots l.close l.fn.found l.fn.tokens ≡ slots_from l.close (l._turn-end - l._turn) l.found l.tokens

@@ -1,4 +1,0 @@
-pub mod Input
-pub mod Rules
-pub mod Strings
-pub mod Symbols

@@ -1,3 +1,0 @@
-pub mod TokenKinds
-pub mod Scanned
-pub mod TokenExamples

@@ -1,7 +1,0 @@
--- What is read of the whole is what is read from here, behind what was found.
-use Rattle.std.proofs.Common.{◌≡◌, ◌-◌, []}
-use Rattle.gmpl_declarations.specs.Attributes.{attributes, attributes_from}
-use Rattle.gmpl_declarations.proofs.attributes.attributes.Given as goal
-
-abbrev pub invariant-loop-turn : goal.invariant-loop-turn
-invariant-loop-turn l = attributes l.reader.depth l.declared l.fn.tokens ≡ attributes_from l.reader.depth l.declared (l._turn-end - l._turn) l.words l.found l.tokens

@@ -1,2 +1,0 @@
-pub mod ScalingSteps
-pub mod SumSteps

@@ -1,4 +1,0 @@
-pub mod Amounts
-pub mod Linear
-pub mod Scalings
-pub mod Sums

@@ -1,0 +1,169 @@
+// Linear forms.
+ghost use Rattle.std.specs.Prelude.{◌≡◌, [], ◌∷◌, IfOk, length, map, slice_get};
+ghost use Rattle.std.specs.List.{IsDistinct};
+ghost use Rattle.std.specs.Option.{option_map};
+ghost use Rattle.rational.specs.Rational.{one_ℚ, zero_ℚ};
+ghost use Rattle.gmpl_value.specs.Outcome.{Gives, Follows};
+ghost use Rattle.gmpl_functions.specs.Linear.{Linear, linear, coefficient_of, variable_eq};
+ghost use Rattle.gmpl_functions.specs.Scalings.{scaled, scaled_terms, value_at, with_value_at};
+ghost use Rattle.gmpl_functions.specs.Sums.{combined, put_all, put_found};
+
+use crate::scaling::Scaling;
+use crate::terms::{Sign, coefficient, put};
+use crate::variable::Variable;
+use fraction::Frac;
+use gmpl_value::EvalFault;
+use indexmap::IndexMap;
+use std::alloc::{AllocError, Global};
+use std::marker::Model;
+
+/// A linear form: members with their coefficients, each member once, in the order of first mention, and a constant. A
+/// coefficient may be 0. Clauses see the list of its terms and its constant.
+#[derive(Drop)]
+pub struct Form {
+    terms: IndexMap<Variable, Frac>,
+    constant: Frac,
+}
+
+impl Model for Form {
+    ghost use Rattle.gmpl_functions.specs.Linear.{Linear, linear};
+
+    ghost Value = { Linear };
+
+    ghost view = { λ f. linear f.terms.entries f.constant };
+}
+
+impl Form {
+    /// The form of a number.
+    pub fn number(alloc: Global, constant: Frac) -> Form
+        ensures { result ≡ linear [] constant }
+    {
+        Form {
+            terms: IndexMap::new(alloc),
+            constant,
+        }
+    }
+
+    /// The form of a member, with the coefficient 1.
+    pub fn variable(alloc: Global, variable: Variable) -> Result<Form, AllocError>
+        ensures { IfOk result (λ made. made ≡ linear ((variable, one_ℚ) ∷ []) zero_ℚ) }
+    {
+        let mut terms = IndexMap::new(alloc);
+        terms.insert(variable, Frac::one())?;
+        Ok(Form {
+            terms,
+            constant: Frac::zero(),
+        })
+    }
+
+    /// The constant.
+    pub fn constant(&self) -> Frac
+        ensures { result ≡ self.now.constant }
+    {
+        self.constant
+    }
+
+    /// The number of terms, those with the coefficient 0 too.
+    pub fn len(&self) -> usize
+        ensures count { result ≡ length self.now.terms }
+        ensures distinct { IsDistinct variable_eq (map (λ t. t.0) self.now.terms) }
+    {
+        self.terms.len()
+    }
+
+    /// The term at a place.
+    pub fn term(&self, place: usize) -> Option<(&Variable, &Frac)>
+        ensures { option_map (λ t. (t.0.now, t.1.now)) result ≡ slice_get self.now.terms place }
+    {
+        self.terms.get_index(place)
+    }
+
+    /// The coefficient of a member, and 0 where the form has none.
+    pub fn coefficient(&self, variable: &Variable) -> Frac
+        ensures { result ≡ coefficient_of self.now.terms variable.now }
+    {
+        coefficient(&self.terms, variable)
+    }
+
+    /// The form with another added or taken off: its terms in order, and then the constant. A new member stands at the end.
+    pub fn combined(self, alloc: Global, sign: Sign, other: &Form) -> Result<Form, EvalFault>
+        ensures { Gives result (combined sign self other.now) }
+    {
+        let Form {
+            mut terms,
+            constant,
+        } = self;
+        put_all(alloc, &mut terms, sign, other)?;
+        let constant = sign.applied(constant, other.constant())?;
+        Ok(Form { terms, constant })
+    }
+
+    /// The form with each coefficient, zeros too, and then the constant scaled.
+    pub fn scaled(self, scaling: &Scaling) -> Result<Form, EvalFault>
+        ensures { Gives result (scaled scaling.now self) }
+    {
+        let Form {
+            mut terms,
+            constant,
+        } = self;
+        scale_terms(&mut terms, scaling)?;
+        let constant = scaling.applied(constant)?;
+        Ok(Form { terms, constant })
+    }
+}
+
+fn put_all(
+    alloc: Global,
+    terms: &mut IndexMap<Variable, Frac>,
+    sign: Sign,
+    other: &Form,
+) -> Result<(), EvalFault>
+    ensures { Follows result terms.new.entries (put_all sign terms.old.entries other.now.terms) }
+{
+    for place in 0..other.len() {
+        put_term(alloc, terms, sign, other, place)?;
+    }
+    Ok(())
+}
+
+fn put_term(
+    alloc: Global,
+    terms: &mut IndexMap<Variable, Frac>,
+    sign: Sign,
+    other: &Form,
+    place: usize,
+) -> Result<(), EvalFault>
+    ensures { Follows result terms.new.entries (put_found sign terms.old.entries (slice_get other.now.terms place)) }
+{
+    match other.term(place) {
+        Some((variable, change)) => put(alloc, terms, sign, variable, *change),
+        None => Ok(()),
+    }
+}
+
+fn scale_terms(terms: &mut IndexMap<Variable, Frac>, scaling: &Scaling) -> Result<(), EvalFault>
+    ensures { Follows result terms.new.entries (scaled_terms scaling.now terms.old.entries) }
+{
+    for place in 0..terms.len() {
+        let scaled = scaling.applied(coefficient_at(terms, place))?;
+        set_coefficient(terms, place, scaled);
+    }
+    Ok(())
+}
+
+fn coefficient_at(terms: &IndexMap<Variable, Frac>, place: usize) -> Frac
+    ensures { result ≡ value_at terms.now.entries place }
+{
+    match terms.get_index(place) {
+        Some((_, coefficient)) => *coefficient,
+        None => Frac::zero(),
+    }
+}
+
+fn set_coefficient(terms: &mut IndexMap<Variable, Frac>, place: usize, coefficient: Frac)
+    ensures { terms.new.entries ≡ with_value_at terms.old.entries place coefficient }
+{
+    if let Some(slot) = terms.get_index_mut(place) {
+        *slot = coefficient;
+    }
+}

@@ -1,0 +1,57 @@
+// The terms of forms: members with their coefficients.
+ghost use Rattle.std.specs.Prelude.{◌≡◌};
+ghost use Rattle.std.specs.Option.{unwrap_or};
+ghost use Rattle.gmpl_value.specs.Outcome.{Follows, Gives};
+ghost use Rattle.gmpl_functions.specs.Linear.{Terms, coefficient_of};
+ghost use Rattle.gmpl_functions.specs.Sums.{operation, put};
+
+use crate::variable::Variable;
+use fraction::Frac;
+use gmpl_value::EvalFault;
+use indexmap::IndexMap;
+use std::alloc::Global;
+
+/// Whether a form is added or taken off.
+#[derive(Clone, Copy)]
+pub enum Sign {
+    Plus,
+    Minus,
+}
+
+impl Sign {
+    // a + b or a - b.
+    pub(crate) fn applied(self, a: Frac, b: Frac) -> Result<Frac, EvalFault>
+        ensures { Gives result (operation self a b) }
+    {
+        match self {
+            Sign::Plus => Ok(a.add(b)?),
+            Sign::Minus => Ok(a.sub(b)?),
+        }
+    }
+}
+
+// The coefficient of a member, and 0 where it has none.
+pub(crate) fn coefficient(terms: &IndexMap<Variable, Frac>, variable: &Variable) -> Frac
+    ensures { result ≡ coefficient_of terms.now.entries variable.now }
+{
+    match terms.get(variable) {
+        Some(coefficient) => *coefficient,
+        None => Frac::zero(),
+    }
+}
+
+// A member's coefficient with another added or taken off; a new member stands at the end.
+pub(crate) fn put(
+    alloc: Global,
+    terms: &mut IndexMap<Variable, Frac>,
+    sign: Sign,
+    variable: &Variable,
+    change: Frac,
+) -> Result<(), EvalFault>
+    ensures { Follows result terms.new.entries (put sign terms.old.entries variable.now change) }
+{
+    let before = coefficient(terms, variable);
+    let after = sign.applied(before, change)?;
+    terms.insert(variable.copied(alloc)?, after)?;
+    Ok(())
+}

@@ -1,0 +1,59 @@
+-- What is kept of a model is right: it is what the definition gives, evaluated anew.
+use Rattle.std.specs.Prelude.{◌≡◌, Bool, None, Ok, List, [], ◌∷◌}
+use Rattle.std.specs.List.{AllByRecursion}
+use Rattle.indexmap.specs.IndexMap.{insert_entry}
+use Rattle.rational.specs.Rational.{one_ℚ, zero_ℚ}
+use Rattle.gmpl_data.specs.declared.tables.LoadedModel.{LoadedModel}
+use Rattle.gmpl_value.specs.Outcome.{Outcome}
+use Rattle.gmpl_functions.specs.declared.variable.Variable.{Variable}
+use Rattle.gmpl_functions.specs.Linear.{linear, variable_eq}
+use Rattle.gmpl_operations.specs.declared.value.Value.{Value}
+use Rattle.gmpl_operations.specs.declared.value.Value.TheVariants as values
+use Rattle.gmpl_meaning.specs.declared.bounds.Bounds.{Bounds}
+use Rattle.gmpl_meaning.specs.Members.{bounds_at, member}
+use Rattle.gmpl_meaning.specs.Expressions.{range_by}
+use Rattle.gmpl_meaning.specs.contracts.asked.AskedPartialEq.TheImpl as impl
+use Rattle.gmpl_meaning.specs.declared.asked.Asked.{Asked}
+use Rattle.gmpl_meaning.specs.declared.asked.Asked.TheVariants as asked
+use Rattle.gmpl_meaning.specs.declared.value.KeptValue.{KeptValue}
+use Rattle.gmpl_meaning.specs.declared.value.KeptValue.TheVariants as kept
+
+-- values by what was asked for, and the bounds of variables' members
+pub record Table : Type 0 where
+  pub values : List (Asked × KeptValue)
+  pub bounds : List (Variable × Bounds)
+
+abbrev pub nothing_kept : Table
+nothing_kept = record { values = []; bounds = [] }
+
+abbrev pub asked_eq : Asked → Asked → Bool
+asked_eq = (impl.ghosts).eq
+
+abbrev pub with_value : Table → Asked → KeptValue → Table
+with_value k asked value = record { values = insert_entry asked_eq k.values asked value; bounds = k.bounds }
+
+abbrev pub with_bounds : Table → Variable → Bounds → Table
+with_bounds k variable bounds = record { values = k.values; bounds = insert_entry variable_eq k.bounds variable bounds }
+
+-- a variable's member stands for its form
+abbrev pub value_seen : KeptValue → Value
+value_seen (kept.Scalar s) = values.Scalar s
+value_seen (kept.Elements set) = values.Elements set.value
+value_seen (kept.Variable v) = values.Linear (linear ((v, one_ℚ) ∷ []) zero_ℚ)
+value_seen (kept.Other v) = v
+
+-- what is asked for, evaluated anew: a member without suffix
+abbrev pub anew : LoadedModel → Asked → Outcome Value
+anew model (asked.Member place height subscripts) = member model height place None subscripts
+anew model (asked.Range from to by) = range_by from to by
+
+abbrev pub IsRight : LoadedModel → Asked × KeptValue → Type 0
+IsRight model entry = anew model entry.0 ≡ Ok (value_seen entry.1)
+
+-- bounds of a member that is the first in the chain of demands
+abbrev pub HasBounds : LoadedModel → Variable × Bounds → Type 0
+HasBounds model entry = bounds_at model entry.0.statement entry.0.subscripts ≡ Ok entry.1
+
+pub record AreRight (model : LoadedModel) (k : Table) : Type 0 where
+  pub values_are : AllByRecursion (IsRight model) k.values
+  pub bounds_are : AllByRecursion (HasBounds model) k.bounds

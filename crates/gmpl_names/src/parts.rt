@@ -1,0 +1,159 @@
+// The names of the parts of statements, resolved.
+ghost use Rattle.gmpl_names.specs.Expressions.{Follows};
+ghost use Rattle.gmpl_names.specs.Expressions as names;
+ghost use Rattle.gmpl_names.specs.Statements as spec;
+
+use crate::{Names, NamesError, resolve_expr, resolve_indexing, room_for};
+use gmpl_resolved as resolved;
+use gmpl_syntax::{Attribute, Constraint, Declaration, Expr, Head, Indexing, Objective};
+use sqlite_items::{Boxed, Items};
+use std::alloc::Global;
+
+pub(crate) fn optional_indexing(
+    alloc: Global,
+    objects: &Names,
+    scope: &mut Names,
+    whole: &Option<Indexing>,
+) -> Result<Option<resolved::Indexing>, NamesError>
+    ensures { Follows (spec.optional_indexing objects.now whole.now scope.old) result scope.new }
+{
+    match whole {
+        None => Ok(None),
+        Some(whole) => Ok(Some(resolve_indexing(alloc, objects, scope, whole)?)),
+    }
+}
+
+// A resolved part is held in a `Boxed` while others are resolved, since a function that owns a tree by value is dear to prove.
+pub(crate) fn boxed_expr(
+    alloc: Global,
+    objects: &Names,
+    scope: &mut Names,
+    whole: &Expr,
+) -> Result<Boxed<resolved::Expr>, NamesError>
+    ensures { Follows (names.expr objects.now whole.now scope.old) result scope.new }
+{
+    let made = resolve_expr(alloc, objects, scope, whole)?;
+    Ok(Boxed::new(alloc, made)?)
+}
+
+pub(crate) fn optional_side(
+    alloc: Global,
+    objects: &Names,
+    scope: &mut Names,
+    whole: &Option<Expr>,
+) -> Result<Option<resolved::Expr>, NamesError>
+    ensures { Follows (spec.optional_side objects.now whole.now scope.old) result scope.new }
+{
+    match whole {
+        None => Ok(None),
+        Some(whole) => Ok(Some(resolve_expr(alloc, objects, scope, whole)?)),
+    }
+}
+
+fn head(
+    alloc: Global,
+    objects: &Names,
+    scope: &mut Names,
+    whole: &Head,
+) -> Result<resolved::Head, NamesError>
+    ensures { Follows (spec.head objects.now whole.now scope.old) result scope.new }
+{
+    let domain = optional_indexing(alloc, objects, scope, &whole.domain)?;
+    Ok(resolved::Head {
+        name: whole.name.copied(alloc)?,
+        domain,
+    })
+}
+
+fn attribute(
+    alloc: Global,
+    objects: &Names,
+    scope: &mut Names,
+    whole: &Attribute,
+) -> Result<resolved::Attribute, NamesError>
+    ensures { Follows (spec.attribute objects.now whole.now scope.old) result scope.new }
+{
+    match whole {
+        Attribute::Dimension(dimension) => Ok(resolved::Attribute::Dimension(*dimension)),
+        Attribute::Restriction(relation, value) => Ok(resolved::Attribute::Restriction(
+            *relation,
+            resolve_expr(alloc, objects, scope, value)?,
+        )),
+        Attribute::Assigned(value) => Ok(resolved::Attribute::Assigned(resolve_expr(
+            alloc, objects, scope, value,
+        )?)),
+        Attribute::Default(value) => Ok(resolved::Attribute::Default(resolve_expr(
+            alloc, objects, scope, value,
+        )?)),
+        Attribute::Integer => Ok(resolved::Attribute::Integer),
+        Attribute::Binary => Ok(resolved::Attribute::Binary),
+        Attribute::Symbolic => Ok(resolved::Attribute::Symbolic),
+    }
+}
+
+fn attributes(
+    alloc: Global,
+    objects: &Names,
+    scope: &mut Names,
+    all: &[Attribute],
+) -> Result<Items<resolved::Attribute>, NamesError>
+    ensures { Follows (spec.attributes objects.now all.now scope.old) result scope.new }
+{
+    let mut made = room_for(alloc, all.len())?;
+    for one in all {
+        made.push(attribute(alloc, objects, scope, one)?)?;
+    }
+    Ok(made)
+}
+
+/// The declaration of a set, a parameter or a variable.
+pub(crate) fn declaration(
+    alloc: Global,
+    objects: &Names,
+    scope: &mut Names,
+    whole: &Declaration,
+) -> Result<resolved::Declaration, NamesError>
+    ensures { Follows (spec.declaration objects.now whole.now scope.old) result scope.new }
+{
+    let head = head(alloc, objects, scope, &whole.head)?;
+    let attributes = attributes(alloc, objects, scope, whole.attributes.as_slice())?;
+    Ok(resolved::Declaration { head, attributes })
+}
+
+pub(crate) fn constraint(
+    alloc: Global,
+    objects: &Names,
+    scope: &mut Names,
+    whole: &Constraint,
+) -> Result<resolved::Constraint, NamesError>
+    ensures { Follows (spec.constraint objects.now whole.now scope.old) result scope.new }
+{
+    let head = head(alloc, objects, scope, &whole.head)?;
+    let left = boxed_expr(alloc, objects, scope, &whole.left)?;
+    let right = boxed_expr(alloc, objects, scope, &whole.right)?;
+    let last = optional_side(alloc, objects, scope, &whole.last)?;
+    Ok(resolved::Constraint {
+        head,
+        left: left.into_inner(),
+        relation: whole.relation,
+        right: right.into_inner(),
+        last,
+    })
+}
+
+pub(crate) fn objective(
+    alloc: Global,
+    objects: &Names,
+    scope: &mut Names,
+    whole: &Objective,
+) -> Result<resolved::Objective, NamesError>
+    ensures { Follows (spec.objective objects.now whole.now scope.old) result scope.new }
+{
+    let head = head(alloc, objects, scope, &whole.head)?;
+    let form = resolve_expr(alloc, objects, scope, &whole.form)?;
+    Ok(resolved::Objective {
+        direction: whole.direction,
+        head,
+        form,
+    })
+}

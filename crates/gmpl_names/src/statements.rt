@@ -1,0 +1,107 @@
+// The names of a statement, resolved.
+ghost use Rattle.gmpl_names.specs.Statements as spec;
+ghost use Rattle.gmpl_names.specs.Statements.{Judges, JudgesBoth};
+
+use crate::actions::action;
+use crate::parts::{constraint, declaration, objective};
+use crate::resolved::Resolved;
+use crate::table_names::{declare, tables_behind};
+use crate::tables::table_input;
+use crate::{Names, NamesError};
+use gmpl_resolved as resolved;
+use gmpl_syntax::{Action, Constraint, Declaration, Objective, Statement, TableInput};
+use sqlite_items::Boxed;
+use std::alloc::Global;
+
+fn declared(
+    alloc: Global,
+    objects: &mut Names,
+    whole: &Declaration,
+) -> Result<resolved::Declaration, NamesError>
+    ensures { Judges (spec.declared whole.now objects.old) result objects.new }
+{
+    declare(alloc, objects, &whole.head.name)?;
+    let mut scope = Names::new(alloc);
+    declaration(alloc, objects, &mut scope, whole)
+}
+
+fn declared_constraint(
+    alloc: Global,
+    objects: &mut Names,
+    whole: &Constraint,
+) -> Result<Boxed<resolved::Constraint>, NamesError>
+    ensures { Judges (spec.declared_constraint whole.now objects.old) result objects.new }
+{
+    declare(alloc, objects, &whole.head.name)?;
+    let mut scope = Names::new(alloc);
+    let made = constraint(alloc, objects, &mut scope, whole)?;
+    Ok(Boxed::new(alloc, made)?)
+}
+
+fn declared_objective(
+    alloc: Global,
+    objects: &mut Names,
+    whole: &Objective,
+) -> Result<Boxed<resolved::Objective>, NamesError>
+    ensures { Judges (spec.declared_objective whole.now objects.old) result objects.new }
+{
+    declare(alloc, objects, &whole.head.name)?;
+    let mut scope = Names::new(alloc);
+    let made = objective(alloc, objects, &mut scope, whole)?;
+    Ok(Boxed::new(alloc, made)?)
+}
+
+fn read(alloc: Global, objects: &Names, whole: &TableInput) -> Result<Resolved, NamesError>
+    ensures { Judges (spec.read whole.now objects.now) result objects.now }
+{
+    let mut scope = Names::new(alloc);
+    let made = table_input(alloc, objects, &mut scope, whole)?;
+    Ok(Resolved::Step(resolved::Step::TableInput(made)))
+}
+
+fn executed(alloc: Global, objects: &Names, whole: &Action) -> Result<Resolved, NamesError>
+    ensures { Judges (spec.executed whole.now objects.now) result objects.now }
+{
+    let mut scope = Names::new(alloc);
+    let made = action(alloc, objects, &mut scope, whole)?;
+    Ok(Resolved::Step(resolved::Step::Action(made)))
+}
+
+fn statement(alloc: Global, objects: &mut Names, whole: &Statement) -> Result<Resolved, NamesError>
+    ensures { Judges (spec.statement whole.now objects.old) result objects.new }
+{
+    match whole {
+        Statement::Set(whole) => Ok(Resolved::Declaration(resolved::Statement::Set(declared(
+            alloc, objects, whole,
+        )?))),
+        Statement::Param(whole) => Ok(Resolved::Declaration(resolved::Statement::Param(declared(
+            alloc, objects, whole,
+        )?))),
+        Statement::Var(whole) => Ok(Resolved::Declaration(resolved::Statement::Var(declared(
+            alloc, objects, whole,
+        )?))),
+        Statement::Constraint(whole) => Ok(Resolved::Declaration(resolved::Statement::Constraint(
+            declared_constraint(alloc, objects, whole)?,
+        ))),
+        Statement::Objective(whole) => Ok(Resolved::Declaration(resolved::Statement::Objective(
+            declared_objective(alloc, objects, whole)?,
+        ))),
+        Statement::TableInput(whole) => read(alloc, objects, whole),
+        Statement::Solve => Ok(Resolved::Step(resolved::Step::Solve)),
+        Statement::Action(whole) => executed(alloc, objects, whole),
+        Statement::Data => Ok(Resolved::Nothing),
+    }
+}
+
+/// What becomes of the next statement, behind these names of objects and of tables; those that it declares are added.
+pub(crate) fn judged(
+    alloc: Global,
+    objects: &mut Names,
+    tables: &mut Names,
+    whole: &Statement,
+) -> Result<Resolved, NamesError>
+    ensures { JudgesBoth (spec.judged whole.now objects.old tables.old) result objects.new tables.new }
+{
+    tables_behind(alloc, objects, tables, whole)?;
+    statement(alloc, objects, whole)
+}

@@ -1,6 +1,0 @@
--- The laws of the tests at a node that other crates cite.
-
--- the test of weights at a point's own value
-pub use Rattle.node_checks.proofs.OwnValues.{own_test}
--- a number that is read by its place
-pub use Rattle.node_checks.proofs.NodePoints.{number_is}

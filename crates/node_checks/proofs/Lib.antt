@@ -1,5 +1,0 @@
-mod Combined
-mod NodePoints
-mod Paths
-mod OwnValues
-pub mod Laws

@@ -1,2 +1,0 @@
-mod Floors
-mod Treating

@@ -1,3 +1,0 @@
-pub mod Treatment
-pub mod Fractions
-pub mod Tests

@@ -1,0 +1,207 @@
+-- A point that is in the columns and rows, meets the cuts, and is on the side of each split is one of the node's relaxation.
+use Rattle.std.proofs.Common.{◌≡◌, ◌∙◌, ℕ, zero, suc, ◌+◌, ◌==◌, ◌<◌, ◌≤◌, List, [], ◌∷◌, ◌++◌, length, Bool, true, false, Option, None, Some, IfSome, if◌then◌else◌, slice_get, get_or, nat_lt, refl, sym, ap, subst, arith, Result, Ok, Err, IfOk, IfErr, IsErrAnd}
+use Rattle.std.specs.Prelude.{ℤ, pos, ◌+ℤ◌}
+use Rattle.std.proofs.lemmas.Bool.{eqb-true, eq-eqb}
+use Rattle.std.proofs.lemmas.Bool.Decides.{nat_tests}
+use Rattle.std.proofs.lemmas.Option.{slice_get_read, slice_get_past}
+use Rattle.rational.specs.Rational.{Rational, zero_ℚ, one_ℚ, whole, ◌≤ℚ◌}
+use Rattle.fraction.specs.declared.frac.NoFit.{NoFit}
+use Rattle.fraction.specs.Answers.{add_answer}
+use Rattle.milp.specs.Problem.{Column, Row, Problem}
+use Rattle.milp.specs.Form.{number_at}
+use Rattle.milp.specs.Points.{IsWithin, Relaxed}
+use Rattle.cert_check.specs.Sums.{next_answer}
+use Rattle.cert_check.proofs.Laws.{next_ok}
+use Rattle.rational.specs.Compare.{is_at_most}
+use Rattle.rational.proofs.Laws.{at_most_true, at_most_false, lt-not-le, le_trans, le_of_lt}
+use Rattle.verdicts.specs.Certificate.{Split, Side, Low, High, Derived}
+use Rattle.verdicts.specs.Proves.{InsideBounds, AllDerived, greater, lesser, lower_under, upper_under}
+use Rattle.verdicts.proofs.Laws.{inside_own, inside_low, inside_high}
+use Rattle.basis.specs.Node.{IsNodePoint}
+use Rattle.certificate.specs.Ways.{side_of}
+use Rattle.search_node.specs.Sides.{sides_of}
+use Rattle.search_node.specs.declared.node.SplitTaken.{SplitTaken}
+use Rattle.instance.specs.Sums.{sum_answer}
+use Rattle.search_tree.specs.Faults.{IsCutFault}
+use Rattle.search_tree.specs.Points.{AreInColumns, AreInRows, IsOnSide, AreOnSides}
+
+pub at_most_is : (a b : Rational) → is_at_most a b ≡ true → a ≤ℚ b
+at_most_is a b h = at_most_true a b h
+
+pub not_at_most : (a b : Rational) → is_at_most a b ≡ false → a ≤ℚ b → ⊥
+not_at_most a b h k = lt-not-le b a (at_most_false a b h) k
+
+-- on each of the sides
+abbrev AllOnSides : List Rational → List Side → Type 0
+AllOnSides x [] = Unit {0}
+AllOnSides x (t ∷ sides) = IsOnSide x t × AllOnSides x sides
+
+on_both : (x : List Rational) (ts us : List Side) → AllOnSides x ts → AllOnSides x us → AllOnSides x (ts ++ us)
+on_both x [] us h k = k
+on_both x (t ∷ ts) us h k = (h.0, on_both x ts us h.1 k)
+
+all_on_sides : (x : List Rational) (taken : List SplitTaken) → AreOnSides x taken → AllOnSides x (sides_of taken)
+all_on_sides x [] h = tt
+all_on_sides x (t ∷ taken) h = on_both x (sides_of taken) (side_of t.split t.side ∷ []) (all_on_sides x taken (λ k. h (suc k))) (h zero, tt)
+
+each_of_both : (x : List Rational) (ts us : List Side) → AllOnSides x (ts ++ us) → AllOnSides x ts × AllOnSides x us
+each_of_both x [] us h = (tt, h)
+each_of_both x (t ∷ ts) us h = let k = each_of_both x ts us h.1 in ((h.0, k.0), k.1)
+
+each_on_its_side : (x : List Rational) (taken : List SplitTaken) → AllOnSides x (sides_of taken) → AreOnSides x taken
+each_on_its_side x [] h k = tt
+each_on_its_side x (t ∷ taken) h zero = (each_of_both x (sides_of taken) (side_of t.split t.side ∷ []) h).1.0
+each_on_its_side x (t ∷ taken) h (suc k) = each_on_its_side x taken (each_of_both x (sides_of taken) (side_of t.split t.side ∷ []) h).0 k
+
+inside : (p : Problem) (x : List Rational) → Relaxed p x → (sides : List Side) → AllOnSides x sides → InsideBounds p sides x
+inside p x r [] h = inside_own p x r
+inside p x r (Low s ∷ sides) h = inside_low p s sides x (inside p x r sides h.1) h.0
+inside p x r (High s ∷ sides) h = inside_high p s sides x (inside p x r sides h.1) h.0
+
+-- ---- and back: inside the bounds under the sides, a point is on each of them
+
+from_greater : (o : Option Rational) (b v : Rational) → greater o b ≤ℚ v → IfSome o (λ a. a ≤ℚ v) × (b ≤ℚ v)
+from_greater None b v h = (tt, h)
+from_greater (Some a) b v h = go (is_at_most a b) refl h
+  where
+    go : (t : Bool) → is_at_most a b ≡ t → (if t then b else a) ≤ℚ v → (a ≤ℚ v) × (b ≤ℚ v)
+    go true e k = (le_trans a b v (at_most_true a b e) k, k)
+    go false e k = (k, le_trans b a v (le_of_lt b a (at_most_false a b e)) k)
+
+from_lesser : (o : Option Rational) (b v : Rational) → v ≤ℚ lesser o b → IfSome o (λ a. v ≤ℚ a) × (v ≤ℚ b)
+from_lesser None b v h = (tt, h)
+from_lesser (Some a) b v h = go (is_at_most a b) refl h
+  where
+    go : (t : Bool) → is_at_most a b ≡ t → v ≤ℚ (if t then a else b) → (v ≤ℚ a) × (v ≤ℚ b)
+    go true e k = (k, le_trans v a b k (at_most_true a b e))
+    go false e k = (le_trans v b a k (le_of_lt b a (at_most_false a b e)), k)
+
+above_next : (p : Problem) (s : Split) (at : List Side) (x : List Rational) → InsideBounds p (High s ∷ at) x → InsideBounds p at x × IsOnSide x (High s)
+above_next p s at x h = (record { within = λ j. record { low = before j (s.column == j) (h.within j).low; high = (h.within j).high } }, on (s.column == s.column) (eq-eqb s.column s.column refl) (h.within s.column).low)
+  where
+    before : (j : ℕ) (t : Bool) → IfSome (if t then Some (greater (lower_under p at j) (whole (s.at +ℤ pos 1))) else lower_under p at j) (λ b. b ≤ℚ number_at x j) → IfSome (lower_under p at j) (λ b. b ≤ℚ number_at x j)
+    before j true k = (from_greater (lower_under p at j) (whole (s.at +ℤ pos 1)) (number_at x j) k).0
+    before j false k = k
+
+    on : (t : Bool) → t ≡ true → IfSome (if t then Some (greater (lower_under p at s.column) (whole (s.at +ℤ pos 1))) else lower_under p at s.column) (λ b. b ≤ℚ number_at x s.column) → whole (s.at +ℤ pos 1) ≤ℚ number_at x s.column
+    on true e k = (from_greater (lower_under p at s.column) (whole (s.at +ℤ pos 1)) (number_at x s.column) k).1
+    on false e k = let never : false ≡ true = e in cc
+
+below_it : (p : Problem) (s : Split) (at : List Side) (x : List Rational) → InsideBounds p (Low s ∷ at) x → InsideBounds p at x × IsOnSide x (Low s)
+below_it p s at x h = (record { within = λ j. record { low = (h.within j).low; high = before j (s.column == j) (h.within j).high } }, on (s.column == s.column) (eq-eqb s.column s.column refl) (h.within s.column).high)
+  where
+    before : (j : ℕ) (t : Bool) → IfSome (if t then Some (lesser (upper_under p at j) (whole s.at)) else upper_under p at j) (λ b. number_at x j ≤ℚ b) → IfSome (upper_under p at j) (λ b. number_at x j ≤ℚ b)
+    before j true k = (from_lesser (upper_under p at j) (whole s.at) (number_at x j) k).0
+    before j false k = k
+
+    on : (t : Bool) → t ≡ true → IfSome (if t then Some (lesser (upper_under p at s.column) (whole s.at)) else upper_under p at s.column) (λ b. number_at x s.column ≤ℚ b) → number_at x s.column ≤ℚ whole s.at
+    on true e k = (from_lesser (upper_under p at s.column) (whole s.at) (number_at x s.column) k).1
+    on false e k = let never : false ≡ true = e in cc
+
+on_all_sides : (p : Problem) (x : List Rational) (sides : List Side) → InsideBounds p sides x → AllOnSides x sides
+on_all_sides p x [] h = tt
+on_all_sides p x (Low s ∷ sides) h = let k = below_it p s sides x h in (k.1, on_all_sides p x sides k.0)
+on_all_sides p x (High s ∷ sides) h = let k = above_next p s sides x h in (k.1, on_all_sides p x sides k.0)
+
+-- the parts of a point of the node's relaxation
+pub in_columns : (p : Problem) (ds : List Derived) (sides : List Side) (x : List Rational) → IsNodePoint p ds sides x → AreInColumns p.columns x
+in_columns p ds sides x h = record { size = h.relaxed.size; within = h.relaxed.columns }
+
+pub on_its_sides : (p : Problem) (ds : List Derived) (taken : List SplitTaken) (x : List Rational) → IsNodePoint p ds (sides_of taken) x → AreOnSides x taken
+on_its_sides p ds taken x h = each_on_its_side x taken (on_all_sides p x (sides_of taken) h.columns)
+
+pub node_point : (p : Problem) (ds : List Derived) (taken : List SplitTaken) (x : List Rational) → AreInColumns p.columns x → AreInRows p.rows x → AllDerived x ds → AreOnSides x taken → IsNodePoint p ds (sides_of taken) x
+node_point p ds taken x columns rows cuts sides =
+    let r : Relaxed p x = record { size = columns.size; columns = columns.within; rows = rows } in
+    record { relaxed = r; columns = inside p x r (sides_of taken) (all_on_sides x taken sides); derived = cuts }
+
+-- the same, by parts that are lent
+pub node_point_by : (p : Problem) (ds : List Derived) (taken : List SplitTaken) (x : List Rational) (columns : List Column) (rows : List Row) (cuts : List Derived) (y : List Rational) → columns ≡ p.columns → rows ≡ p.rows → cuts ≡ ds → y ≡ x
+    → AreInColumns columns y → AreInRows rows y → AllDerived y cuts → AreOnSides y taken → IsNodePoint p ds (sides_of taken) x
+node_point_by p ds taken x columns rows cuts y e f g h in_columns in_rows met on =
+    let A : List Column → Type 0 = λ cs. AreInColumns cs y in
+    let B : List Row → Type 0 = λ rs. AreInRows rs y in
+    let C : List Derived → Type 0 = λ qs. AllDerived y qs in
+    let P : List Rational → Type 0 = λ z. IsNodePoint p ds (sides_of taken) z in
+    subst P h (node_point p ds taken y (subst A e in_columns) (subst B f in_rows) (subst C g met) on)
+
+pub same_within : (l m u v : Option Rational) (a b : Rational) → l ≡ m → u ≡ v → a ≡ b → IsWithin l u a → IsWithin m v b
+same_within l m u v a b e f g h = rw (sym e, sym f, sym g) h
+
+pub meets_by : (a b v u : Rational) → a ≡ b → v ≡ u → a ≤ℚ v → b ≤ℚ u
+meets_by a b v u e f h = rw (sym e, sym f) h
+
+-- not on each side, by parts that are lent
+pub not_node_point : (p : Problem) (ds : List Derived) (taken splits : List SplitTaken) (x y : List Rational) → taken ≡ splits → y ≡ x → (AreOnSides y taken → ⊥) → IsNodePoint p ds (sides_of splits) x → ⊥
+not_node_point p ds taken splits x y e f fails point =
+    let P : List SplitTaken → Type 0 = λ ts. AreOnSides y ts in
+    let Q : List Rational → Type 0 = λ z. AreOnSides z splits in
+    fails (subst P (sym e) (subst Q (sym f) (on_its_sides p ds splits x point)))
+
+-- ---- along a list
+
+-- what holds of the first n elements and of the next one
+pub one_more : {A : Type 0} (P : ℕ → A → Type 0) (xs : List A) (n : ℕ) (x : A) → n < length xs → x ≡ get_or xs n x → P n x → ((k : ℕ) → k < n → IfSome (slice_get xs k) (P k)) → (k : ℕ) → k < n + 1 → IfSome (slice_get xs k) (P k)
+one_more {A} P xs n x h e new old k less = go (k == n) refl
+  where
+    before : (a b : ℕ) → a < b + 1 → (a == b) ≡ false → a < b
+    before a b h e = grind (arith, nat_tests)
+
+    here : slice_get xs n ≡ Some x
+    here = slice_get_read xs (length xs) n x refl h e
+
+    go : (t : Bool) → (k == n) ≡ t → IfSome (slice_get xs k) (P k)
+    go true f =
+        let same : k ≡ n = eqb-true k n f in
+        let Q : Option A → Type 0 = λ o. IfSome o (P n) in
+        let R : ℕ → Type 0 = λ m. IfSome (slice_get xs m) (P m) in
+        subst R (sym same) (subst Q (sym here) new)
+    go false f = old k (before k n less f)
+
+-- what holds of as many elements as the list has
+pub all_hold : {A : Type 0} (P : ℕ → A → Type 0) (xs : List A) (n : ℕ) → length xs ≤ n → ((k : ℕ) → k < n → IfSome (slice_get xs k) (P k)) → (k : ℕ) → IfSome (slice_get xs k) (P k)
+all_hold {A} P xs n h all k = go (nat_lt k (length xs)) refl
+  where
+    less : (a b : ℕ) → nat_lt a b ≡ true → a < b
+    less a b e = grind (arith, nat_tests)
+
+    past : (a b : ℕ) → nat_lt a b ≡ false → b ≤ a
+    past a b e = grind (arith, nat_tests)
+
+    go : (t : Bool) → nat_lt k (length xs) ≡ t → IfSome (slice_get xs k) (P k)
+    go true e = let l = less k (length xs) e in all k (omega arith)
+    go false e = let Q : Option A → Type 0 = λ o. IfSome o (P k) in subst Q (sym (slice_get_past xs k (past k (length xs) e))) tt
+
+-- an element of which it does not hold
+pub not_all : {A : Type 0} (P : ℕ → A → Type 0) (xs : List A) (n : ℕ) (x : A) → n < length xs → x ≡ get_or xs n x → (P n x → ⊥) → ((k : ℕ) → IfSome (slice_get xs k) (P k)) → ⊥
+not_all {A} P xs n x h e fails all =
+    let Q : Option A → Type 0 = λ o. IfSome o (P n) in
+    fails (subst Q (slice_get_read xs (length xs) n x refl h e) (all n))
+
+-- ---- the next whole number
+
+pub next_is : (at : ℤ) (v one : Rational) (r : Result Rational NoFit) (b : Rational) → v ≡ whole at → one ≡ whole (pos 1) → r ≡ add_answer v one → r ≡ Ok b → b ≡ whole (at +ℤ pos 1)
+next_is at v one r b e f g h =
+    let P : Result Rational NoFit → Type 0 = λ a. IfOk a (λ c. c ≡ whole (at +ℤ pos 1)) in
+    let same : next_answer at ≡ r = ap (λ a. add_answer a one_ℚ) (sym e) ∙ ap (λ a. add_answer v a) (sym f) ∙ sym g in
+    subst P (same ∙ h) (next_ok at)
+
+-- ---- elements that are read by their place
+
+pub number_is : (xs : List Rational) (n : ℕ) (a : Rational) → n < length xs → a ≡ get_or xs n a → a ≡ number_at xs n
+number_is [] n a h e = absurd (omega arith)
+number_is (y ∷ ys) zero a h e = e
+number_is (y ∷ ys) (suc n) a h e = number_is ys n a (omega arith) e
+
+pub if_ok : {A E : Type 0} (r : Result A E) (P Q : A → Type 0) → ((x : A) → P x → Q x) → IfOk r P → IfOk r Q
+if_ok (Ok x) P Q f h = f x h
+if_ok (Err e) P Q f h = tt
+
+-- ---- faults
+
+pub err_from : {X : Type 0} (r : Result X NoFit) (e : NoFit) (P : NoFit → Type 0) → IsErrAnd r (λ d. d ≡ e) → P e → IfErr r P
+err_from (Ok u) e P h p = tt
+err_from (Err d) e P h p = subst P (sym h) p
+
+pub cut_fault : (ds : List Derived) (x : List Rational) (n : ℕ) (d : Derived) (e : NoFit) → n < length ds → d ≡ get_or ds n d → sum_answer x zero_ℚ d.form ≡ Err e → IsCutFault ds x e
+cut_fault ds x n d e h is fault = record { place = n; cut = d; there = slice_get_read ds (length ds) n d refl h is; fault = fault }

@@ -1,0 +1,12 @@
+use Rattle.std.proofs.Common.{ℕ, ◌<◌, ◌≤◌, ◌-◌, IfSome, slice_get, length}
+use Rattle.search_tree.specs.Told.{IsColumnAtRest}
+use Rattle.search_tree.proofs.telling.are_columns_at_rest.Given as goal
+
+abbrev pub invariant-loop-k : goal.invariant-loop-k
+invariant-loop-k l = record {
+  at_most : l.k ≤ length l.items;
+  rest : (n : ℕ) → n < l.k → IfSome (slice_get l.items n) (λ i. IsColumnAtRest l.problem l.path l.x i.index);
+}
+
+abbrev pub decreases-loop-k : goal.decreases-loop-k
+decreases-loop-k l = length l.items - l.k
