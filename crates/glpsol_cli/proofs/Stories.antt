@@ -104,7 +104,7 @@ module _ (words : List (List ℕ)) (told : ToldNames) (old new : Outside) (files
 -- ---- the end of the execution
 
 module _ (words : List (List ℕ)) (told : ToldNames) (start now : Moment) (s : Settings) (texts : List (List ℕ)) (halt : Halt) (h : IsWhole words told start now s texts halt) where
-  means : Meaning
+  abbrev means : Meaning
   means = meaning_in s h.text h.data_texts h.tables
 
   done_so : (P : List Piece → Type 0) → P means.done → HasDone P s texts

@@ -27,14 +27,15 @@ pub fn finding(alloc: Global, problem: &Instance, inputs: &Inputs) -> Result<Fin
     ensures finding { IfOk result (IsFinding problem.now inputs.now.settings (texts_in inputs.now)) }
     ensures fault { IfErr result (λ unfound. IsUnfound unfound inputs.now.settings (texts_in inputs.now)) }
 {
-    match &inputs.settings.get().task {
-        Task::Solve(_) => match solved(alloc, problem, inputs.settings.get()) {
+    let settings = inputs.settings.get();
+    match &settings.task {
+        Task::Solve(_) => match solved(alloc, problem, settings) {
             Ok(certificate) => Ok(Finding::Verdict(certificate)),
             Err(fault) => Err(Unfound::Solve(fault)),
         },
         Task::Translate => Ok(Finding::Size),
         Task::CheckCertificate(_) => {
-            let count = inputs.settings.get().data_files.as_slice().len();
+            let count = settings.data_files.as_slice().len();
             match accept_behind(alloc, problem, count, &inputs.texts) {
                 Ok(()) => Ok(Finding::Acceptance),
                 Err(stop) => Err(Unfound::Check(stop)),

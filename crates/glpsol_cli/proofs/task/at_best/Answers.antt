@@ -1,4 +1,8 @@
+use Rattle.std.proofs.Common.{sym, subst}
+use Rattle.std.specs.Prelude.{IsSomeAnd}
 use Rattle.outside.specs.Causes.{Rose}
+use Rattle.verdicts.specs.Certificate.{Certificate}
+use Rattle.solution_writer.specs.Report.{IsShownPoint}
 use Rattle.glpsol_cli.specs.Pieces.{Outside}
 use Rattle.glpsol_cli.specs.Stages.{texts_in}
 use Rattle.glpsol_cli.proofs.Carried.{best_point, behind_cause, behind_written, unrun_cause, unrun_written}
@@ -6,17 +10,18 @@ use Rattle.glpsol_cli.proofs.task.at_best.Goals as goal
 
 pub afterwards-behind-requires : goal.afterwards-behind-requires
 afterwards-behind-requires g c =
-    best_point c.args.inputs.now.settings (texts_in c.args.inputs.now) c.args.problem.now c.args.later c.requires.subject c.args.certificate c.requires.found c.requires.best
+    subst (λ (d : Certificate). IsSomeAnd d.point (IsShownPoint c.args.problem.now)) (sym c.get-2.ensures)
+    (best_point c.args.inputs.now.settings (texts_in c.args.inputs.now) c.args.problem.now c.args.later c.requires.subject c.args.certificate c.requires.found c.requires.best)
 
 pub returns-in-Ok-clause-cause : goal.returns-in-Ok-clause-cause
 returns-in-Ok-clause-cause g c =
-    behind_cause c.args.inputs.now.settings (texts_in c.args.inputs.now) c.args.problem.now c.args.later c.requires.subject c.args.certificate c.requires.found c.requires.best c.in-Ok.behind c.in-Ok.ensures (Rose (g.S.Store.faults c.args.files.now) (g.S.Store.faults c.end_behind.new.files)) (Rose (g.O.Sink.faults c.args.out.now) (g.O.Sink.faults c.end_behind.new.out)) c.end_behind.result c.end_behind.ensures.cause
+    behind_cause c.args.inputs.now.settings (texts_in c.args.inputs.now) c.args.problem.now c.args.later c.requires.subject c.args.certificate c.requires.found c.requires.best c.in-Ok.behind (rw c.get.ensures at (rw c.get-2.ensures at c.in-Ok.ensures)) (Rose (g.S.Store.faults c.args.files.now) (g.S.Store.faults c.end_behind.new.files)) (Rose (g.O.Sink.faults c.args.out.now) (g.O.Sink.faults c.end_behind.new.out)) c.end_behind.result c.end_behind.ensures.cause
 
 pub returns-in-Ok-clause-written : goal.returns-in-Ok-clause-written
 returns-in-Ok-clause-written g c =
     let old : Outside = record { taken = g.O.Sink.taken c.args.out.now; told = g.S.Store.told c.args.files.now } in
     let new : Outside = record { taken = g.O.Sink.taken c.end_behind.new.out; told = g.S.Store.told c.end_behind.new.files } in
-    behind_written c.args.inputs.now.settings (texts_in c.args.inputs.now) c.args.problem.now c.args.later c.requires.subject c.args.certificate c.requires.found c.requires.best c.in-Ok.behind c.in-Ok.ensures (Rose (g.S.Store.faults c.args.files.now) (g.S.Store.faults c.end_behind.new.files)) (Rose (g.O.Sink.faults c.args.out.now) (g.O.Sink.faults c.end_behind.new.out)) old new c.end_behind.result c.end_behind.ensures.cause c.end_behind.ensures.written
+    behind_written c.args.inputs.now.settings (texts_in c.args.inputs.now) c.args.problem.now c.args.later c.requires.subject c.args.certificate c.requires.found c.requires.best c.in-Ok.behind (rw c.get.ensures at (rw c.get-2.ensures at c.in-Ok.ensures)) (Rose (g.S.Store.faults c.args.files.now) (g.S.Store.faults c.end_behind.new.files)) (Rose (g.O.Sink.faults c.args.out.now) (g.O.Sink.faults c.end_behind.new.out)) old new c.end_behind.result c.end_behind.ensures.cause c.end_behind.ensures.written
 
 pub returns-in-Err-clause-cause : goal.returns-in-Err-clause-cause
 returns-in-Err-clause-cause g c =

@@ -16,7 +16,7 @@ returns-in-Ok-clause-written g c =
     let old : Outside = record { taken = g.O.Sink.taken c.args.out.now; told = g.S.Store.told c.args.files.now } in
     let middle : Outside = record { taken = g.O.Sink.taken c.publish-published.new.out; told = g.S.Store.told c.publish-published.new.files } in
     let new : Outside = record { taken = g.O.Sink.taken c.from_report.new.out; told = g.S.Store.told c.from_report.new.files } in
-    reported_written c.args.inputs.now.settings (texts_in c.args.inputs.now) c.args.problem.now c.args.later c.requires.subject c.args.finding old middle new c.from_report.result c.in-Ok.ensures.published c.from_report.ensures.written
+    reported_written c.args.inputs.now.settings (texts_in c.args.inputs.now) c.args.problem.now c.args.later c.requires.subject c.args.finding old middle new c.from_report.result (rw c.get.ensures at c.in-Ok.ensures.published) c.from_report.ensures.written
 
 pub returns-in-Err-clause-cause : goal.returns-in-Err-clause-cause
 returns-in-Err-clause-cause g c =
@@ -32,4 +32,4 @@ returns-in-Err-clause-written g c =
     let old : Outside = record { taken = g.O.Sink.taken c.args.out.now; told = g.S.Store.told c.args.files.now } in
     let middle : Outside = record { taken = g.O.Sink.taken c.publish-published.new.out; told = g.S.Store.told c.publish-published.new.files } in
     unreported_written c.args.inputs.now.settings (texts_in c.args.inputs.now) c.args.problem.now c.args.later c.requires.subject c.args.finding old middle c.in-Err.fault c.reached.result c.unwritten_answer.result c.tell.result c.reached.ensures c.unwritten_answer.ensures c.tell.ensures.same
-    (g.O.Sink.taken c.tell.new.out) c.in-Err.ensures.published c.tell.ensures.prefix
+    (g.O.Sink.taken c.tell.new.out) (rw c.get.ensures at c.in-Err.ensures.published) c.tell.ensures.prefix

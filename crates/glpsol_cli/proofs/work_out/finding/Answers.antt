@@ -8,26 +8,26 @@ use Rattle.glpsol_cli.proofs.work_out.finding.Goals as goal
 pub returns-in-Err-clause-fault : goal.returns-in-Err-clause-fault
 returns-in-Err-clause-fault c =
     let inputs = c.args.inputs.now in
-    unsolved inputs.settings (texts_in inputs) c.args.problem.now c.requires.asked (solves_by inputs.settings.task c.in-Solve.field-0 c.in-Solve.is) c.in-Err.fault c.in-Err.ensures.fault
+    unsolved inputs.settings (texts_in inputs) c.args.problem.now c.requires.asked (solves_by inputs.settings.task c.in-Solve.field-0 (rw c.get-settings.ensures at c.in-Solve.is)) c.in-Err.fault (rw c.get-settings.ensures at c.in-Err.ensures.fault)
 
 pub returns-in-Ok-accept_behind-clause-finding : goal.returns-in-Ok-accept_behind-clause-finding
 returns-in-Ok-accept_behind-clause-finding c =
     let inputs = c.args.inputs.now in
-    of_checked inputs.settings (texts_in inputs) c.args.problem.now c.in-CheckCertificate.field-0 c.in-CheckCertificate.is c.requires.asked IsAccepted
-    (subst (λ names. OfNext (IsAccepted c.args.problem.now) (length names) (texts_in inputs)) c.as_slice-count.ensures
+    of_checked inputs.settings (texts_in inputs) c.args.problem.now c.in-CheckCertificate.field-0 (rw c.get-settings.ensures at c.in-CheckCertificate.is) c.requires.asked IsAccepted
+    (subst (λ names. OfNext (IsAccepted c.args.problem.now) (length names) (texts_in inputs)) (rw c.get-settings.ensures at c.as_slice-count.ensures)
     (subst (λ texts. OfNext (IsAccepted c.args.problem.now) (length c.as_slice-count.result.now) (map (λ text. text.items) texts)) c.deref.ensures.value c.in-Ok-accept_behind.ensures.accepted))
 
 pub returns-in-Err-accept_behind-clause-fault : goal.returns-in-Err-accept_behind-clause-fault
 returns-in-Err-accept_behind-clause-fault c =
     let inputs = c.args.inputs.now in
-    unchecked inputs.settings (texts_in inputs) c.args.problem.now c.in-CheckCertificate.field-0 c.in-CheckCertificate.is c.requires.asked c.in-Err-accept_behind.stop
-    (subst (λ names. OfNext (λ bytes. IsCheckStop c.args.problem.now bytes c.in-Err-accept_behind.stop) (length names) (texts_in inputs)) c.as_slice-count.ensures
+    unchecked inputs.settings (texts_in inputs) c.args.problem.now c.in-CheckCertificate.field-0 (rw c.get-settings.ensures at c.in-CheckCertificate.is) c.requires.asked c.in-Err-accept_behind.stop
+    (subst (λ names. OfNext (λ bytes. IsCheckStop c.args.problem.now bytes c.in-Err-accept_behind.stop) (length names) (texts_in inputs)) (rw c.get-settings.ensures at c.as_slice-count.ensures)
     (subst (λ texts. OfNext (λ bytes. IsCheckStop c.args.problem.now bytes c.in-Err-accept_behind.stop) (length c.as_slice-count.result.now) (map (λ text. text.items) texts)) c.deref.ensures.value c.in-Err-accept_behind.ensures.stop))
 
 pub accept_behind-requires : goal.accept_behind-requires
 accept_behind-requires c =
     let inputs = c.args.inputs.now in
     subst (λ texts. suc (length c.as_slice-count.result.now) < length texts) (sym c.deref.ensures.value)
-    (subst (λ names. suc (length names) < length inputs.texts.items) (sym c.as_slice-count.ensures)
+    (subst (λ names. suc (length names) < length inputs.texts.items) (sym (rw c.get-settings.ensures at c.as_slice-count.ensures))
     (subst (λ n. suc (length inputs.settings.data_files) < n) (length-map inputs.texts.items (λ text. text.items))
-    (one_behind inputs.settings c.in-CheckCertificate.field-0 (length (texts_in inputs)) c.in-CheckCertificate.is c.requires.enough)))
+    (one_behind inputs.settings c.in-CheckCertificate.field-0 (length (texts_in inputs)) (rw c.get-settings.ensures at c.in-CheckCertificate.is) c.requires.enough)))
