@@ -62,7 +62,7 @@ continuous_fault p pivots f e is h k splits = subst (λ (v : VerdictFault). IsFa
 told_ray : (p : Problem) (splits pivots : ℕ) (wanted : Wanted) (f : SearchFault) → of_search.IsFault p [] splits pivots f → IfOk (ray_or_fault wanted f) (IsEndlessAt p [] splits)
 told_ray p splits pivots wanted (in_search.NoFit site) h = tt
 told_ray p splits pivots wanted (in_search.PivotLimit bases) h = tt
-told_ray p splits pivots wanted in_search.SplitLimit h = tt
+told_ray p splits pivots wanted (in_search.SplitLimit board) h = tt
 told_ray p splits pivots wanted (in_search.Unbounded ray) h = h
 told_ray p splits pivots wanted in_search.NoMemory h = tt
 
@@ -72,7 +72,7 @@ ray_found p splits pivots wanted f ray is h = subst (λ (r : Result EndlessAt Ve
 told_search : (p : Problem) (splits pivots : ℕ) (wanted : Wanted) (f : SearchFault) → IsWanted p wanted → of_search.IsFault (searched p wanted) [] splits pivots f → IfErr (ray_or_fault wanted f) (IsFault p splits pivots)
 told_search p splits pivots wanted (in_search.NoFit site) w h = (w, h)
 told_search p splits pivots wanted (in_search.PivotLimit bases) w h = (w, h)
-told_search p splits pivots wanted in_search.SplitLimit w h = (w, h)
+told_search p splits pivots wanted (in_search.SplitLimit board) w h = (w, h)
 told_search p splits pivots wanted (in_search.Unbounded endless) w h = tt
 told_search p splits pivots wanted in_search.NoMemory w h = tt
 
@@ -101,7 +101,7 @@ after : (p : Problem) (splits pivots : ℕ) (e : VerdictFault) → IsAfterSearch
 after p splits pivots (of.NoFit Best site) h = (tt, h)
 after p splits pivots (of.NoFit Any site) h = absurd h
 after p splits pivots (of.PivotLimit wanted bases) h = absurd h
-after p splits pivots (of.SplitLimit wanted) h = absurd h
+after p splits pivots (of.SplitLimit wanted board) h = absurd h
 after p splits pivots of.NoMemory h = tt
 
 pub after_search : {A : Type 0} → (p : Problem) (splits pivots : ℕ) (r : Result A VerdictFault) → IfErr r (IsAfterSearch p splits) → IfErr r (IsFault p splits pivots)

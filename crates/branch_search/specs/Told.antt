@@ -14,7 +14,7 @@ use Rattle.branch_search.specs.declared.whole_fault.VerdictFault.TheVariants.{No
 abbrev pub ray_or_fault : Wanted → SearchFault → Result EndlessAt VerdictFault
 ray_or_fault wanted (in_search.NoFit site) = Err (NoFit wanted site)
 ray_or_fault wanted (in_search.PivotLimit bases) = Err (PivotLimit wanted bases)
-ray_or_fault wanted in_search.SplitLimit = Err (SplitLimit wanted)
+ray_or_fault wanted (in_search.SplitLimit board) = Err (SplitLimit wanted board)
 ray_or_fault wanted (in_search.Unbounded endless) = Ok endless
 ray_or_fault wanted in_search.NoMemory = Err NoMemory
 

@@ -14,7 +14,7 @@ pub(crate) fn ray_or_fault(wanted: Wanted, fault: SearchFault) -> Result<Endless
         SearchFault::Unbounded(endless) => Ok(endless),
         SearchFault::NoFit(site) => Err(VerdictFault::NoFit(wanted, site)),
         SearchFault::PivotLimit(bases) => Err(VerdictFault::PivotLimit(wanted, bases)),
-        SearchFault::SplitLimit => Err(VerdictFault::SplitLimit(wanted)),
+        SearchFault::SplitLimit(board) => Err(VerdictFault::SplitLimit(wanted, board)),
         SearchFault::NoMemory => Err(VerdictFault::NoMemory),
     }
 }

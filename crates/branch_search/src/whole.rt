@@ -2,6 +2,7 @@
 ghost use Rattle.std.specs.Prelude.{◌≡◌, [], IfOk, IfErr};
 ghost use Rattle.verdicts.specs.Proves.{Proves};
 ghost use Rattle.cert_check.specs.Outcome.{Acceptance, outcome, trials};
+ghost use Rattle.search_tree.specs.Finished.{IsFinished};
 ghost use Rattle.search_tree.specs.Tree.{AllLeaves, IsTodo};
 ghost use Rattle.branch_search.specs.Underway.{IsGoing, IsAtEnd, IsNext, AreSame};
 ghost use Rattle.branch_search.specs.Faults.{IsFault};
@@ -12,6 +13,7 @@ use crate::settling::Round;
 use certificate::{Certificate, DerivedRows};
 use instance::Instance;
 use search_tree::{finished_boards, kept_boards};
+use sqlite_items::Boxed;
 use std::alloc::Global;
 use tree_pool::Board;
 
@@ -20,7 +22,7 @@ use tree_pool::Board;
 /// at most `pivot_limit` steps.
 ///
 /// A fault tells an operation of the work at a node that does not fit, or a run that is too long, each on an honest way;
-/// that all splits are made, and nodes are left that are to be split; or a ray that improves the problem.
+/// the board on which all splits are made, and nodes are left that are to be split; or a ray that improves the problem.
 pub fn search(
     alloc: Global,
     problem: &Instance,
@@ -87,10 +89,27 @@ fn ended(alloc: Global, board: Board) -> Result<Certificate, SearchFault>
     board.keeps_its_log();
     finished_boards();
     if !board.is_finished() {
-        return Err(SearchFault::SplitLimit);
+        return Err(out_of_splits(alloc, board));
     }
     match board.into_certificate(alloc).ok() {
         Some(certificate) => Ok(certificate),
         None => Err(SearchFault::NoMemory),
+    }
+}
+
+// Why a board is at its end and not finished: all splits are made. Leaves that were left are given back before it is told, so
+// that none is leased.
+fn out_of_splits(alloc: Global, mut board: Board) -> SearchFault
+    requires at_end { IsAtEnd board }
+    requires unfinished { ¬ (IsFinished board) }
+    ensures { IsFault board.problem board.cuts board.split_limit board.pivot_limit result }
+{
+    if board.reclaim(alloc).is_err() {
+        return SearchFault::NoMemory;
+    }
+    board.keeps_its_log();
+    match Boxed::new(alloc, board) {
+        Ok(board) => SearchFault::SplitLimit(board),
+        Err(_) => SearchFault::NoMemory,
     }
 }
