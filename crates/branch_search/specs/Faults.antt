@@ -4,7 +4,9 @@ use Rattle.rational.specs.Rational.{Rational}
 use Rattle.milp.specs.Problem.{Problem}
 use Rattle.verdicts.specs.Certificate.{Side, Derived}
 use Rattle.basis.specs.Node.{system_of}
+use Rattle.basis.specs.Numbers.{node_numbers}
 use Rattle.simplex.specs.Run.{IsLimited}
+use Rattle.search_node.specs.Faults.{IsSiteFault}
 use Rattle.search_node.specs.Sides.{sides_of}
 use Rattle.search_node.specs.declared.fault.Site.{Site}
 use Rattle.basis.specs.declared.Place.{Place}
@@ -22,10 +24,11 @@ use Rattle.branch_search.specs.declared.fault.EndlessAt.{EndlessAt}
 use Rattle.branch_search.specs.declared.fault.SearchFault.{SearchFault}
 use Rattle.branch_search.specs.declared.fault.SearchFault.TheVariants.{NoFit, PivotLimit, SplitLimit, Unbounded, NoMemory}
 
--- an operation of the work at a node on an honest way does not fit
+-- an operation of the work at a node on an honest way does not fit; it is on site numbers of the node
 pub record IsStuckAt (p : Problem) (ds : List Derived) (splits : ℕ) (site : Site) : Type 0 where
   pub way : IsHonestWay p ds splits (sides_of site.node.splits)
   pub fault : IsWorkFault p ds (sides_of site.node.splits) site.fault
+  pub on_site : IsSiteFault (node_numbers p ds (sides_of site.node.splits)) site.fault
 
 -- Bland's run at a node on an honest way goes through these bases, and further
 pub record IsRunTooLong (p : Problem) (ds : List Derived) (splits pivots : ℕ) (bases : List (List Place)) : Type 0 where
@@ -50,7 +53,7 @@ pub record IsOutOfSplits (p : Problem) (ds : List Derived) (splits pivots : ℕ)
   pub leaves : AllLeaves (IsClosedOrTreated p ds (value_of board)) [] board.tree
   pub unfinished : ¬ (IsFinished board)
 
--- the relaxation of a node on an honest way is unbounded by the last basis of Bland's run there, which gives the ray
+-- a ray that is found at a node on an honest way improves the problem
 pub record IsEndlessAt (p : Problem) (ds : List Derived) (splits : ℕ) (e : EndlessAt) : Type 0 where
   pub way : IsHonestWay p ds splits (sides_of e.node.splits)
   pub endless : IsEndless p ds (sides_of e.node.splits) e.endless
