@@ -1,5 +1,5 @@
 -- Honest ways are over the problem's columns; how a search begins and ends.
-use Rattle.std.proofs.Common.{◌≡◌, ◌∙◌, ℕ, zero, suc, ◌<◌, ◌⊎◌, inl, inr, List, [], ◌∷◌, length, Bool, true, false, refl, sym, subst, Some, IfSome, slice_get, Result, Ok, Err, IfOk, arith}
+use Rattle.std.proofs.Common.{◌≡◌, ℕ, zero, suc, ◌<◌, ◌≤◌, ◌+◌, ◌∙◌, ◌⊎◌, inl, inr, List, [], ◌∷◌, length, Bool, true, false, refl, sym, subst, Option, Some, IfSome, slice_get, Result, Ok, Err, IfOk, arith}
 use Rattle.milp.specs.Problem.{Column, Problem}
 use Rattle.verdicts.specs.Certificate.{Side as SideOf, Low as LowOf, High as HighOf, Derived}
 use Rattle.verdicts.specs.Proves.{is_integer}
@@ -7,9 +7,12 @@ use Rattle.certificate.specs.declared.split.Side.{Side}
 use Rattle.basis.specs.Node.{IsOverColumns, column_of}
 use Rattle.search_tree.specs.declared.leaf.Lease.{Lease}
 use Rattle.search_tree.specs.declared.leaf.Leaf.{Leaf}
-use Rattle.search_tree.specs.declared.leaf.Leaf.TheVariants.{Leased}
-use Rattle.search_tree.specs.Tree.{Tree, Divided, AtLeaf, IsTodo, at_place, replaced}
-use Rattle.search_tree.specs.Steps.{IsLease}
+use Rattle.search_tree.specs.declared.leaf.Leaf.TheVariants.{Todo, Treated, Leased, Refuted, Bounded, NotFitting, AtLimit}
+use Rattle.search_tree.specs.declared.event.Event.TheVariants.{Reclaiming}
+use Rattle.search_tree.specs.declared.event.Reply.TheVariants.{Done}
+use Rattle.search_tree.specs.Tree.{Tree, Divided, AtLeaf, IsTodo, AllLeaves, lease_of, at_place, replaced, made, granted, given_back, reclaimed}
+use Rattle.search_tree.specs.Steps.{IsLease, IsReclaim, IsReplay}
+use Rattle.search_tree.proofs.Laws.{made_reclaimed}
 use Rattle.tree_pool.specs.Answers.{IsAnswer}
 use Rattle.tree_pool.specs.declared.answer.LeaseAnswer.{LeaseAnswer}
 use Rattle.tree_pool.specs.declared.answer.LeaseAnswer.TheVariants as answers
@@ -18,15 +21,15 @@ use Rattle.branch_search.specs.declared.settling.Round.TheVariants as rounds
 use Rattle.branch_search.specs.declared.fault.SearchFault.{SearchFault}
 use Rattle.branch_search.specs.Settled.{seat, IsSettled, IsRound}
 use Rattle.certificate.specs.declared.split.Side.TheVariants.{Low, High}
-use Rattle.search_tree.specs.Nodes.{IsTreated}
-use Rattle.search_tree.specs.Board.{Board, value_of}
+use Rattle.search_tree.specs.Board.{Board, value_of, after}
 use Rattle.search_tree.specs.Honest.{AreHonest, IsHonestWay}
 use Rattle.search_tree.specs.Kept.{IsKept, closed_node}
 use Rattle.search_tree.specs.Finished.{IsFinished, IsThere}
 use Rattle.tree_pool.specs.Places.{IsOpen}
 use Rattle.branch_search.specs.Underway.{IsStanding, IsUnderway, IsAtEnd}
-use Rattle.branch_search.specs.Faults.{IsOutOfSplits}
+use Rattle.branch_search.specs.Faults.{IsClosedOrTreated, IsOutOfSplits}
 use Rattle.branch_search.proofs.Leased.{all_of_both}
+use Rattle.branch_search.proofs.Standing.{not_leased}
 
 -- ---- honest ways
 
@@ -50,35 +53,60 @@ over_columns p ds limit sides q qs e f none root way =
 
 -- ---- the end
 
--- where no leaf is to be worked on, it is closed, or of a treated node
-abbrev IsEnd : Board → List SideOf → Leaf → Type 0
-IsEnd b sides leaf = IsThere (closed_node leaf) ⊎ IsTreated b.problem b.cuts sides (value_of b)
-
-end : (b : Board) (sides : List SideOf) (leaf : Leaf) → IsStanding b.problem b.cuts (value_of b) true sides leaf → ¬ (IsTodo leaf) → IsEnd b sides leaf
-end b sides leaf (inl k) none = absurd (none k)
-end b sides leaf (inr (inl k)) none = inl k
-end b sides leaf (inr (inr k)) none = inr k.treated
-
 closed : (b : Board) (sides : List SideOf) (leaf : Leaf) → IsStanding b.problem b.cuts (value_of b) false sides leaf → ¬ (IsTodo leaf) → IsThere (closed_node leaf)
 closed b sides leaf (inl k) none = absurd (none k)
 closed b sides leaf (inr (inl k)) none = k
 closed b sides leaf (inr (inr k)) none = let never : false ≡ true = k.is_out in cc
 
-pub out_of_splits : (b : Board) → IsKept b → IsAtEnd b → ¬ (IsFinished b) → IsOutOfSplits b.problem b.cuts b.split_limit
-out_of_splits b kept h unfinished = go h.going.0 h.going.1
+-- a leaf that was left is given back: it is to be worked on again
+end : (b : Board) (sides : List SideOf) (leaf : Leaf) → IsStanding b.problem b.cuts (value_of b) true sides leaf → ¬ (IsTodo leaf) → IsClosedOrTreated b.problem b.cuts (value_of b) sides (given_back leaf (lease_of leaf))
+end b sides leaf (inl k) none = absurd (none k)
+end b sides leaf (inr (inl k)) none = let P : Option Lease → Type 0 = λ o. IsClosedOrTreated b.problem b.cuts (value_of b) sides (given_back leaf o) in subst P (sym (not_leased leaf k)) (inl k)
+end b sides leaf (inr (inr k)) none = let P : Option Lease → Type 0 = λ o. IsClosedOrTreated b.problem b.cuts (value_of b) sides (given_back leaf o) in subst P (sym k.leased) (inr (tt, k.treated))
+
+ends : (b : Board) (t : Tree) (sides : List SideOf) → AllLeaves (IsStanding b.problem b.cuts (value_of b) true) sides t → AllLeaves (λ at leaf. ¬ (IsTodo leaf)) sides t → AllLeaves (IsClosedOrTreated b.problem b.cuts (value_of b)) sides (reclaimed t)
+ends b (Divided s low high) sides h none = (ends b low (LowOf s ∷ sides) h.0 none.0, ends b high (HighOf s ∷ sides) h.1 none.1)
+ends b (AtLeaf leaf) sides h none = end b sides leaf h none
+
+closed_before : (leaf : Leaf) → IsThere (closed_node (given_back leaf (lease_of leaf))) → IsThere (closed_node leaf)
+closed_before (Todo hint) h = h
+closed_before (Treated hint) h = h
+closed_before (Leased lease) h = absurd h
+closed_before (Refuted w) h = h
+closed_before (Bounded w) h = h
+closed_before (NotFitting e) h = h
+closed_before (AtLimit bases) h = h
+
+-- no leaf is closed by being given back
+finished_before : (t : Tree) (sides : List SideOf) → AllLeaves (λ at leaf. IsThere (closed_node leaf)) sides (reclaimed t) → AllLeaves (λ at leaf. IsThere (closed_node leaf)) sides t
+finished_before (Divided s low high) sides h = (finished_before low (LowOf s ∷ sides) h.0, finished_before high (HighOf s ∷ sides) h.1)
+finished_before (AtLeaf leaf) sides h = closed_before leaf h
+
+all_made : (made granted limit : ℕ) → made + granted ≤ limit → limit ≤ made → made ≡ limit
+all_made made granted limit h k = omega (arith, h, k)
+
+pub out_of_splits : (b c : Board) → IsAtEnd b → ¬ (IsFinished b) → IsReclaim b c → IsReplay c → IsKept c → IsOutOfSplits b.problem b.cuts b.split_limit b.pivot_limit c
+out_of_splits b c h unfinished back = subst P (sym back.new) (go h.going.0 h.going.1)
   where
-    go : (out : Bool) → IsUnderway b (value_of b) out → IsOutOfSplits b.problem b.cuts b.split_limit
-    go false u = absurd (unfinished (all_of_both (IsStanding b.problem b.cuts (value_of b) false) (λ sides leaf. ¬ (IsTodo leaf)) (λ sides leaf. IsThere (closed_node leaf)) (closed b) b.tree [] u.leaves h.none_todo))
-    go true u = record {
-      board = b;
-      kept = kept;
-      problem = refl;
-      cuts = refl;
-      limit = refl;
-      all_made = u.all_made refl;
-      leaves = all_of_both (IsStanding b.problem b.cuts (value_of b) true) (λ sides leaf. ¬ (IsTodo leaf)) (IsEnd b) (end b) b.tree [] u.leaves h.none_todo;
-      unfinished = unfinished;
-    }
+    P : Board → Type 0
+    P d = IsReplay d → IsKept d → IsOutOfSplits b.problem b.cuts b.split_limit b.pivot_limit d
+
+    go : (out : Bool) → IsUnderway b (value_of b) out → P (after b (reclaimed b.tree) b.best Reclaiming Done)
+    go false u replay kept = absurd (unfinished (all_of_both (IsStanding b.problem b.cuts (value_of b) false) (λ sides leaf. ¬ (IsTodo leaf)) (λ sides leaf. IsThere (closed_node leaf)) (closed b) b.tree [] u.leaves h.none_todo))
+    go true u replay kept =
+        let same = made_reclaimed b.tree in
+        let all = u.all_made refl in
+        record {
+          replay = replay;
+          problem = refl;
+          cuts = refl;
+          split_limit = refl;
+          pivot_limit = refl;
+          all_made = all_made (made (reclaimed b.tree)) (granted (reclaimed b.tree)) b.split_limit kept.within (omega (arith, same, all));
+          honest = kept.splits;
+          leaves = ends b b.tree [] u.leaves h.none_todo;
+          unfinished = λ k. unfinished (finished_before b.tree [] k);
+        }
 
 -- ---- a lease
 

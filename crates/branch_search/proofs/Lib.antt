@@ -4,6 +4,8 @@ mod Leased
 mod Standing
 mod Further
 mod Ends
+mod Sites
 pub mod Without
 pub mod Causes
 pub mod WholeEnds
+mod PlainEnds

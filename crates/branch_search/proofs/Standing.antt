@@ -1,5 +1,5 @@
 -- Trees that may be put in the place of a leased leaf.
-use Rattle.std.proofs.Common.{◌≡◌, ◌∙◌, ◌≤◌, List, [], cond, refl, sym, ap, subst, Option, Some, None, IfSome, option_map, Result, Ok, Err, IfOk, arith}
+use Rattle.std.proofs.Common.{◌≡◌, ◌∙◌, ◌≤◌, List, [], cond, false, refl, sym, ap, subst, Option, Some, None, IfSome, option_map, Result, Ok, Err, IfOk, OnOk, is_err, arith}
 use Rattle.std.specs.Result.{result_ok}
 use Rattle.std.proofs.lemmas.Option.{same_Some}
 use Rattle.rational.specs.Rational.{Rational}
@@ -31,7 +31,11 @@ pub value_of_ok : {A E : Type 0} (r : Result A E) (x : A) (P : A → Type 0) →
 value_of_ok (Ok y) x P e h = subst P (same_Some y x e) h
 value_of_ok (Err f) x P e h = cc
 
-not_leased : (leaf : Leaf) → IsThere (closed_node leaf) → lease_of leaf ≡ None
+pub where_ok : {A E : Type 0} (r : Result A E) (P : Type 0) → is_err r ≡ false → OnOk r P → P
+where_ok (Ok x) P e h = h
+where_ok (Err f) P e h = cc
+
+pub not_leased : (leaf : Leaf) → IsThere (closed_node leaf) → lease_of leaf ≡ None
 not_leased (Todo hint) h = absurd h
 not_leased (Treated hint) h = absurd h
 not_leased (Leased lease) h = absurd h

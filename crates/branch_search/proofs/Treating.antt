@@ -33,7 +33,7 @@ use Rattle.search_tree.specs.Pinned.{IsPinned}
 use Rattle.search_tree.specs.Nodes.{IsRelaxedOptimum, IsHonestSplit, Beats}
 use Rattle.search_tree.specs.Kept.{IsNoBetter}
 use Rattle.branch_search.specs.Fractions.{IsFraction}
-use Rattle.branch_search.specs.Treatment.{IsTreatment, IsToSplit, IsEndless}
+use Rattle.branch_search.specs.Treatment.{IsTreatment, IsToSplit, IsRayFound, IsEndless}
 use Rattle.branch_search.specs.Tests.{IsTestFault, of_value, of_weights, of_point, IsVerdict}
 use Rattle.branch_search.specs.declared.treatment.Fractional.{Fractional}
 use Rattle.branch_search.specs.declared.treatment.Treatment.{Treatment}
@@ -64,7 +64,8 @@ holds p ds sides r found e h = let P : Result Relaxed Stuck → Type 0 = λ a. I
 pub endless_of : (p : Problem) (ds : List Derived) (sides : List Side) (found : Relaxed) (endless : Endless) → IsOverColumns p ds sides → found ≡ Unbounded endless → IsRelaxed p ds sides found → IsEndless p ds sides endless
 endless_of p ds sides found endless over e h =
     let P : Relaxed → Type 0 = IsRelaxed p ds sides in
-    record { found = subst P e h; point = unbounded_point p ds sides endless.point endless.ray over (subst P e h); ray = unbounded_ray p ds sides endless.point endless.ray over (subst P e h) }
+    let run = subst P e h in
+    record { point = unbounded_point p ds sides endless.point endless.ray over run; ray = unbounded_ray p ds sides endless.point endless.ray over run; found = IsRayFound.of_run run }
 
 pub infeasible : (p : Problem) (ds : List Derived) (sides : List Side) (found : Relaxed) (w : Weights) → found ≡ Infeasible w → IsRelaxed p ds sides found → IsInfeasibleRelaxation p ds sides w
 infeasible p ds sides found w e h = let P : Relaxed → Type 0 = IsRelaxed p ds sides in subst P e h

@@ -1,7 +1,9 @@
 -- From the certificate of the problem without its objective to that of the problem.
-use Rattle.std.proofs.Common.{◌≡◌, ◌∙◌, ℕ, List, [], length, Bool, true, false, ◌&&◌, ◌==◌, refl, sym, ap, subst, Some, Result, Ok, Err}
+use Rattle.std.proofs.Common.{◌≡◌, ◌↔◌, ◌∙◌, ℕ, List, [], length, Bool, true, false, ◌&&◌, ◌==◌, refl, sym, ap, subst, Some, Result, Ok, Err, IfOk, IsTrue}
 use Rattle.rational.specs.Rational.{Rational}
 use Rattle.fraction.specs.declared.frac.NoFit.{NoFit}
+use Rattle.instance.specs.Sums.{meets_answer}
+use Rattle.instance.specs.WellFormed.{IsWellFormed}
 use Rattle.milp.specs.Problem.{Problem}
 use Rattle.milp.specs.Points.{Feasible, IsImprovingRay}
 use Rattle.verdicts.specs.Certificate.{Verdict, Optimal, Unbounded, Certificate}
@@ -20,11 +22,13 @@ use Rattle.search_node.specs.declared.fault.Site.{Site}
 use Rattle.search_node.specs.Sides.{sides_of}
 use Rattle.search_tree.specs.Honest.{IsHonestWay}
 use Rattle.search_tree.specs.Work.{IsWorkFault}
+use Rattle.branch_search.specs.Treatment.{IsRayFound}
 use Rattle.branch_search.specs.Faults.{IsStuckAt, IsEndlessAt}
 use Rattle.branch_search.specs.declared.fault.EndlessAt.{EndlessAt}
 use Rattle.branch_search.specs.WholeFaults.{without_objective}
 use Rattle.branch_search.specs.Points.{IsTestedPoint, HasPoint}
 use Rattle.branch_search.proofs.Causes.{none_improves}
+use Rattle.branch_search.proofs.Sites.{stuck_at}
 
 -- ---- the verdict of the problem without its objective
 
@@ -68,6 +72,12 @@ has_point p c h k e =
       };
     }
 
+-- the test of a point passes
+pub tested_by : (p : Problem) (x : List Rational) (r : Result Bool NoFit) → r ≡ meets_answer p x → IfOk r (λ b. IsTrue b ↔ Feasible p x) → r ≡ Ok true → IsTestedPoint p x
+tested_by p x r e h is =
+    let exact = subst (λ (a : Result Bool NoFit). IfOk a (λ b. IsTrue b ↔ Feasible p x)) is h in
+    record { feasible = exact.0 refl; passes = sym e ∙ is }
+
 -- ---- the certificate of a point and a ray
 
 pub ray_proves : (p : Problem) (x r : List Rational) (c : Certificate) → c ≡ point_certificate p x r → IsTestedPoint p x → IsImprovingRay p r → Proves p c
@@ -98,9 +108,16 @@ ray_fault p x r c part e is h ray k =
     let rest = past_point (point_answer p (Some x)) (outcome (ray_trials p (point_certificate p x r))) part e h.passes (fault_past_size ((length p.rows == length p.rows) && (length p.columns == length p.columns)) (outcome (verdict_trials p (point_certificate p x r) Unbounded)) part e (subst H is k)) in
     in_ray (ray_answer p (Some r)) part e rest
 
--- it is an operation of the work at the node where the ray was found
-pub stuck_by_ray : (p : Problem) (splits : ℕ) (ray : EndlessAt) (site : Site) → IsEndlessAt p [] splits ray → ray_answer p (Some ray.endless.ray) ≡ Err site.fault → site.node ≡ ray.node → IsStuckAt p [] splits site
-stuck_by_ray p splits ray site found fault same =
-    let Way : Node → Type 0 = λ n. IsHonestWay p [] splits (sides_of n.splits) in
-    let Work : Node → Type 0 = λ n. IsWorkFault p [] (sides_of n.splits) site.fault in
-    record { way = subst Way (sym same) found.way; fault = subst Work (sym same) (IsWorkFault.in_ray ray.endless.point ray.endless.ray found.endless.found fault) }
+-- it is an operation of the work at the node where the ray was found, and there not of a ray that was judged
+pub stuck_by_ray : (p : Problem) (splits : ℕ) (ray : EndlessAt) (site : Site) → IsWellFormed p.columns p.rows p.objective → IsEndlessAt p [] splits ray → ray_answer p (Some ray.endless.ray) ≡ Err site.fault → site.node ≡ ray.node → IsStuckAt p [] splits site
+stuck_by_ray p splits ray site formed found fault same = go found.endless.found
+  where
+    Way : Node → Type 0
+    Way n = IsHonestWay p [] splits (sides_of n.splits)
+
+    Work : Node → Type 0
+    Work n = IsWorkFault p [] (sides_of n.splits) site.fault
+
+    go : IsRayFound p [] (sides_of ray.node.splits) ray.endless → IsStuckAt p [] splits site
+    go (IsRayFound.judged passes) = let never : ◌≡◌ {A = Result Bool NoFit} (Ok true) (Err site.fault) = sym passes ∙ fault in cc
+    go (IsRayFound.of_run run) = stuck_at p [] splits site formed refl (subst Way (sym same) found.way) (subst Work (sym same) (IsWorkFault.in_ray ray.endless.point ray.endless.ray run fault))

@@ -1,28 +1,34 @@
 -- What it says where a search finds no verdict.
-use Rattle.std.specs.Prelude.{ℕ, ◌≤◌, ◌≡◌, ◌⊎◌, List, []}
+use Rattle.std.specs.Prelude.{ℕ, ◌≡◌, ◌⊎◌, List, [], Option}
+use Rattle.rational.specs.Rational.{Rational}
 use Rattle.milp.specs.Problem.{Problem}
 use Rattle.verdicts.specs.Certificate.{Side, Derived}
 use Rattle.basis.specs.Node.{system_of}
+use Rattle.basis.specs.Numbers.{node_numbers}
 use Rattle.simplex.specs.Run.{IsLimited}
+use Rattle.search_node.specs.Faults.{IsSiteFault}
 use Rattle.search_node.specs.Sides.{sides_of}
 use Rattle.search_node.specs.declared.fault.Site.{Site}
 use Rattle.basis.specs.declared.Place.{Place}
-use Rattle.search_tree.specs.Tree.{AllLeaves, made}
-use Rattle.search_tree.specs.Nodes.{IsTreated}
+use Rattle.search_tree.specs.declared.leaf.Leaf.{Leaf}
+use Rattle.search_tree.specs.Tree.{IsTodo, AllSplits, AllLeaves, made}
+use Rattle.search_tree.specs.Nodes.{IsHonestSplit, IsTreated}
 use Rattle.search_tree.specs.Work.{IsWorkFault}
 use Rattle.search_tree.specs.Board.{Board, value_of}
 use Rattle.search_tree.specs.Honest.{IsHonestWay}
 use Rattle.search_tree.specs.Finished.{IsFinished, IsThere}
-use Rattle.search_tree.specs.Kept.{IsKept, closed_node}
+use Rattle.search_tree.specs.Kept.{closed_node}
+use Rattle.search_tree.specs.Steps.{IsReplay}
 use Rattle.branch_search.specs.Treatment.{IsEndless}
 use Rattle.branch_search.specs.declared.fault.EndlessAt.{EndlessAt}
 use Rattle.branch_search.specs.declared.fault.SearchFault.{SearchFault}
 use Rattle.branch_search.specs.declared.fault.SearchFault.TheVariants.{NoFit, PivotLimit, SplitLimit, Unbounded, NoMemory}
 
--- an operation of the work at a node on an honest way does not fit
+-- an operation of the work at a node on an honest way does not fit; it is on site numbers of the node
 pub record IsStuckAt (p : Problem) (ds : List Derived) (splits : ℕ) (site : Site) : Type 0 where
   pub way : IsHonestWay p ds splits (sides_of site.node.splits)
   pub fault : IsWorkFault p ds (sides_of site.node.splits) site.fault
+  pub on_site : IsSiteFault (node_numbers p ds (sides_of site.node.splits)) site.fault
 
 -- Bland's run at a node on an honest way goes through these bases, and further
 pub record IsRunTooLong (p : Problem) (ds : List Derived) (splits pivots : ℕ) (bases : List (List Place)) : Type 0 where
@@ -30,19 +36,24 @@ pub record IsRunTooLong (p : Problem) (ds : List Derived) (splits pivots : ℕ) 
   pub way : IsHonestWay p ds splits sides
   pub limited : IsLimited (system_of p ds sides) pivots bases
 
--- a kept board of the problem has made all splits that are allowed, and is not finished: each leaf that isn't closed is of
--- a node that is treated against the best value, and would have to be split
-pub record IsOutOfSplits (p : Problem) (ds : List Derived) (splits : ℕ) : Type 0 where
-  pub board : Board
-  pub kept : IsKept board
+-- a leaf is closed; or it is to be worked on, and its node is treated against the best value, so that it would have to be split
+abbrev pub IsClosedOrTreated : Problem → List Derived → Option Rational → List Side → Leaf → Type 0
+IsClosedOrTreated p ds best sides leaf = IsThere (closed_node leaf) ⊎ (IsTodo leaf × IsTreated p ds sides best)
+
+-- The board is the replay of its log, from the opening board of the problem with these cuts and limits. As many splits are made
+-- as are allowed, all honest, and it is not finished: each leaf that isn't closed is of a node that would have to be split.
+pub record IsOutOfSplits (p : Problem) (ds : List Derived) (splits pivots : ℕ) (board : Board) : Type 0 where
+  pub replay : IsReplay board
   pub problem : board.problem ≡ p
   pub cuts : board.cuts ≡ ds
-  pub limit : board.split_limit ≡ splits
-  pub all_made : splits ≤ made board.tree
-  pub leaves : AllLeaves (λ sides leaf. IsThere (closed_node leaf) ⊎ IsTreated p ds sides (value_of board)) [] board.tree
+  pub split_limit : board.split_limit ≡ splits
+  pub pivot_limit : board.pivot_limit ≡ pivots
+  pub all_made : made board.tree ≡ splits
+  pub honest : AllSplits (IsHonestSplit p ds) [] board.tree
+  pub leaves : AllLeaves (IsClosedOrTreated p ds (value_of board)) [] board.tree
   pub unfinished : ¬ (IsFinished board)
 
--- the relaxation of a node on an honest way is unbounded by the last basis of Bland's run there, which gives the ray
+-- a ray that is found at a node on an honest way improves the problem
 pub record IsEndlessAt (p : Problem) (ds : List Derived) (splits : ℕ) (e : EndlessAt) : Type 0 where
   pub way : IsHonestWay p ds splits (sides_of e.node.splits)
   pub endless : IsEndless p ds (sides_of e.node.splits) e.endless
@@ -50,6 +61,6 @@ pub record IsEndlessAt (p : Problem) (ds : List Derived) (splits : ℕ) (e : End
 abbrev pub IsFault : Problem → List Derived → ℕ → ℕ → SearchFault → Type 0
 IsFault p ds splits pivots (NoFit site) = IsStuckAt p ds splits site
 IsFault p ds splits pivots (PivotLimit bases) = IsRunTooLong p ds splits pivots bases
-IsFault p ds splits pivots SplitLimit = IsOutOfSplits p ds splits
+IsFault p ds splits pivots (SplitLimit board) = IsOutOfSplits p ds splits pivots board
 IsFault p ds splits pivots (Unbounded endless) = IsEndlessAt p ds splits endless
 IsFault p ds splits pivots NoMemory = Unit {0}

@@ -8,3 +8,4 @@ pub mod Faults
 pub mod WholeFaults
 pub mod Told
 pub mod Points
+pub mod Plain

@@ -1,11 +1,12 @@
 -- What becomes of a node of a search, given the best value so far.
-use Rattle.std.specs.Prelude.{ℕ, ◌≡◌, List, Option, Some}
+use Rattle.std.specs.Prelude.{ℕ, ◌≡◌, true, List, Option, Some, Ok}
 use Rattle.rational.specs.Rational.{Rational}
 use Rattle.milp.specs.Problem.{Problem}
 use Rattle.milp.specs.Points.{Feasible, IsImprovingRay, objective_value}
 use Rattle.verdicts.specs.Certificate.{Side, Derived}
 use Rattle.basis.specs.Node.{system_of, IsNodePoint}
 use Rattle.basis.specs.Relaxation.{IsUnboundedRelaxation}
+use Rattle.cert_check.specs.Parts.{ray_answer}
 use Rattle.simplex.specs.Run.{IsLimited}
 use Rattle.simplex.specs.declared.answers.Endless.{Endless}
 use Rattle.search_tree.specs.declared.leaf.Leaf.TheVariants as leaf
@@ -30,12 +31,17 @@ pub record IsToSplit (p : Problem) (ds : List Derived) (sides : List Side) (best
   pub split : IsHonestSplit p ds sides f.split
   pub treated : IsTreated p ds sides best
 
--- the relaxation is unbounded by the last basis of Bland's run at the node, with this point and ray: so the point is one of the
--- relaxation, and the ray improves the problem
+-- how a ray is found: it was proposed, and the checker's test of it passes, so that no operation of that test is a fault; or the
+-- relaxation is unbounded by the last basis of Bland's run at the node, with this point and ray
+pub data IsRayFound (p : Problem) (ds : List Derived) (sides : List Side) (e : Endless) : Type 0 where
+  judged : ray_answer p (Some e.ray) ≡ Ok true → IsRayFound p ds sides e
+  of_run : IsUnboundedRelaxation p ds sides e.point e.ray → IsRayFound p ds sides e
+
+-- a ray that is found so improves the problem, from a point of the relaxation
 pub record IsEndless (p : Problem) (ds : List Derived) (sides : List Side) (e : Endless) : Type 0 where
-  pub found : IsUnboundedRelaxation p ds sides e.point e.ray
   pub point : IsNodePoint p ds sides e.point
   pub ray : IsImprovingRay p e.ray
+  pub found : IsRayFound p ds sides e
 
 -- what is said of the node: it has no point, none that beats the best, a feasible one that bounds it, or is to be split;
 -- or a ray improves the problem, or an operation of the work at it does not fit; or Bland's run is longer than the limit

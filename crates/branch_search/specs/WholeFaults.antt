@@ -27,7 +27,7 @@ IsWanted p Any = (ray : List Rational) × IsImprovingRay p ray
 abbrev pub IsFault : Problem → ℕ → ℕ → VerdictFault → Type 0
 IsFault p splits pivots (NoFit wanted site) = IsWanted p wanted × IsStuckAt (searched p wanted) [] splits site
 IsFault p splits pivots (PivotLimit wanted bases) = IsWanted p wanted × IsRunTooLong (searched p wanted) [] splits pivots bases
-IsFault p splits pivots (SplitLimit wanted) = IsWanted p wanted × IsOutOfSplits (searched p wanted) [] splits
+IsFault p splits pivots (SplitLimit wanted board) = IsWanted p wanted × IsOutOfSplits (searched p wanted) [] splits pivots board
 IsFault p splits pivots NoMemory = Unit {0}
 
 -- a fault after the last search: in the test of the ray that the first one found, or want of memory
@@ -35,5 +35,5 @@ abbrev pub IsAfterSearch : Problem → ℕ → VerdictFault → Type 0
 IsAfterSearch p splits (NoFit Best site) = IsStuckAt p [] splits site
 IsAfterSearch p splits (NoFit Any site) = ⊥
 IsAfterSearch p splits (PivotLimit wanted bases) = ⊥
-IsAfterSearch p splits (SplitLimit wanted) = ⊥
+IsAfterSearch p splits (SplitLimit wanted board) = ⊥
 IsAfterSearch p splits NoMemory = Unit {0}

@@ -4,6 +4,7 @@ ghost use Rattle.verdicts.specs.Proves.{Proves};
 ghost use Rattle.basis.specs.Relaxation.{point_certificate};
 ghost use Rattle.cert_check.specs.Outcome.{Acceptance, outcome, trials};
 ghost use Rattle.branch_search.specs.Faults.{IsEndlessAt};
+ghost use Rattle.branch_search.specs.Plain.{NoneInteger, IsPlainCertificate};
 ghost use Rattle.branch_search.specs.Points.{IsTestedPoint, HasPoint};
 ghost use Rattle.branch_search.specs.WholeFaults.{without_objective, IsFault, IsAfterSearch};
 
@@ -12,11 +13,12 @@ use crate::whole_fault::{VerdictFault, Wanted};
 use crate::{EndlessAt, search};
 use cert_check::{CheckFault, Checked, check};
 use certificate::{Certificate, Verdict};
-use instance::{Instance, Point};
+use instance::{Instance, Point, meets};
 use search_node::Site;
 use std::alloc::Global;
 
-/// The verdict of a problem that a ray improves, by a search for any feasible point.
+/// The verdict of a problem that a ray improves: at once where the ray's own point is feasible, and else by a search for any
+/// feasible point.
 pub(crate) fn beyond(
     alloc: Global,
     problem: &Instance,
@@ -27,6 +29,46 @@ pub(crate) fn beyond(
     requires { IsEndlessAt problem.now [] split_limit ray }
     ensures proves { IfOk result (λ c. Proves problem.now c) }
     ensures accepted { IfOk result (λ c. outcome (trials problem.now c) ≡ Acceptance) }
+    ensures plain { NoneInteger problem.now.columns → IfOk result (λ c. IsPlainCertificate problem.now c) }
+    ensures fault { IfErr result (IsFault problem.now split_limit pivot_limit) }
+{
+    match meets(problem, &ray.endless.point) {
+        Ok(true) => at_once(alloc, problem, ray, split_limit),
+        Ok(false) => searched(alloc, problem, ray, split_limit, pivot_limit),
+        Err(_) => searched(alloc, problem, ray, split_limit, pivot_limit),
+    }
+}
+
+// The ray with its own point.
+fn at_once(
+    alloc: Global,
+    problem: &Instance,
+    ray: EndlessAt,
+    split_limit: usize,
+) -> Result<Certificate, VerdictFault>
+    requires point { IsTestedPoint problem.now ray.endless.point }
+    requires ray { IsEndlessAt problem.now [] split_limit ray }
+    ensures proves { IfOk result (λ c. Proves problem.now c) }
+    ensures accepted { IfOk result (λ c. outcome (trials problem.now c) ≡ Acceptance) }
+    ensures plain { NoneInteger problem.now.columns → IfOk result (λ c. IsPlainCertificate problem.now c) }
+    ensures fault { IfErr result (IsAfterSearch problem.now split_limit) }
+{
+    let point = ray.endless.point.copy(alloc)?;
+    checked(alloc, problem, point, ray, split_limit)
+}
+
+// The verdict by a search for any feasible point.
+fn searched(
+    alloc: Global,
+    problem: &Instance,
+    ray: EndlessAt,
+    split_limit: usize,
+    pivot_limit: u32,
+) -> Result<Certificate, VerdictFault>
+    requires { IsEndlessAt problem.now [] split_limit ray }
+    ensures proves { IfOk result (λ c. Proves problem.now c) }
+    ensures accepted { IfOk result (λ c. outcome (trials problem.now c) ≡ Acceptance) }
+    ensures plain { NoneInteger problem.now.columns → IfOk result (λ c. IsPlainCertificate problem.now c) }
     ensures fault { IfErr result (IsFault problem.now split_limit pivot_limit) }
 {
     let feasibility = problem.copy(alloc)?.without_objective(alloc);
@@ -49,9 +91,11 @@ fn decided(
 ) -> Result<Certificate, VerdictFault>
     requires proves { Proves (without_objective problem.now) certificate }
     requires accepted { outcome (trials (without_objective problem.now) certificate) ≡ Acceptance }
+    requires plain { NoneInteger problem.now.columns → IsPlainCertificate (without_objective problem.now) certificate }
     requires ray { IsEndlessAt problem.now [] split_limit ray }
     ensures proves { IfOk result (λ c. Proves problem.now c) }
     ensures accepted { IfOk result (λ c. outcome (trials problem.now c) ≡ Acceptance) }
+    ensures plain { NoneInteger problem.now.columns → IfOk result (λ c. IsPlainCertificate problem.now c) }
     ensures fault { IfErr result (IsAfterSearch problem.now split_limit) }
 {
     match certificate.verdict() {
@@ -73,6 +117,7 @@ fn improved(
     requires ray { IsEndlessAt problem.now [] split_limit ray }
     ensures proves { IfOk result (λ c. Proves problem.now c) }
     ensures accepted { IfOk result (λ c. outcome (trials problem.now c) ≡ Acceptance) }
+    ensures plain { NoneInteger problem.now.columns → IfOk result (λ c. IsPlainCertificate problem.now c) }
     ensures fault { IfErr result (IsAfterSearch problem.now split_limit) }
 {
     match certificate.point() {
@@ -96,8 +141,10 @@ fn checked(
     requires ray { IsEndlessAt problem.now [] split_limit ray }
     ensures proves { IfOk result (λ c. Proves problem.now c) }
     ensures accepted { IfOk result (λ c. outcome (trials problem.now c) ≡ Acceptance) }
+    ensures plain { NoneInteger problem.now.columns → IfOk result (λ c. IsPlainCertificate problem.now c) }
     ensures fault { IfErr result (IsAfterSearch problem.now split_limit) }
 {
+    problem.keeps_its_limits();
     let EndlessAt { node, endless } = ray;
     let certificate = of_ray(alloc, problem, point, endless.ray);
     match check(problem, &certificate) {

@@ -4,7 +4,9 @@ ghost use Rattle.branch_search.specs.declared.fault.SearchFault.TheVariants.{NoM
 
 use search_node::{Bases, Node, Site};
 use simplex::Endless;
+use sqlite_items::Boxed;
 use std::alloc::AllocError;
+use tree_pool::Board;
 
 /// A node whose relaxation is unbounded, and the ray there that improves the problem without end.
 #[derive(Drop)]
@@ -20,8 +22,8 @@ pub enum SearchFault {
     NoFit(Site),
     /// Bland's run at a node is longer than the limit of steps: the bases of the first steps.
     PivotLimit(Bases),
-    /// All splits that are allowed were made, and nodes are left that are to be split.
-    SplitLimit,
+    /// All splits that are allowed are made on this board, and nodes are left that are to be split.
+    SplitLimit(Boxed<Board>),
     /// A ray improves the problem without end, where it has a feasible point.
     Unbounded(EndlessAt),
     /// The memory is not there.

@@ -1,5 +1,5 @@
 // What becomes of a leased leaf.
-ghost use Rattle.std.specs.Prelude.{◌≡◌, ◌≤◌, Option, Some, IfOk, IfErr, OnOk};
+ghost use Rattle.std.specs.Prelude.{◌≡◌, ◌≤◌, [], Option, Some, IfOk, IfErr, OnOk};
 ghost use Rattle.rational.specs.Rational.{Rational};
 ghost use Rattle.milp.specs.Points.{Feasible};
 ghost use Rattle.search_node.specs.Sides.{sides_of};
@@ -9,6 +9,7 @@ ghost use Rattle.search_tree.specs.Finished.{IsThere};
 ghost use Rattle.search_tree.specs.Honest.{IsHonestWay};
 ghost use Rattle.search_tree.specs.Kept.{HasSums, closed_node};
 ghost use Rattle.search_tree.specs.Steps.{IsOffer};
+ghost use Rattle.search_tree.specs.Work.{IsWorkFault};
 ghost use Rattle.tree_pool.specs.Places.{IsOpen};
 ghost use Rattle.branch_search.specs.Treatment.{IsFound, IsToSplit, IsTreatment};
 ghost use Rattle.branch_search.specs.Places.{MayStand, LeadTo, IsLeafOf};
@@ -17,6 +18,7 @@ ghost use Rattle.branch_search.specs.Faults.{IsFault};
 
 use crate::fault::{EndlessAt, SearchFault};
 use crate::{Found, Fractional, Treatment};
+use fraction::NoFit;
 use instance::Point;
 use search_node::{Node, Site};
 use search_tree::{Hint, Leaf, Lease, Subtree};
@@ -46,6 +48,7 @@ pub(crate) fn settle(
     requires best { lease.best ≡ value_of board.old }
     requires leads { LeadTo board.old lease (sides_of node.splits) }
     requires honest { IsHonestWay board.old.problem board.old.cuts board.old.split_limit (sides_of node.splits) }
+    requires cuts { board.old.cuts ≡ [] }
     requires treatment { IsTreatment board.old.problem board.old.cuts board.old.pivot_limit (sides_of node.splits) (value_of board.old) treatment }
     ensures ok { IfOk result (λ round. IsSettled board.old lease round board.new) }
     ensures fault { IfErr result (IsFault board.old.problem board.old.cuts board.old.split_limit board.old.pivot_limit) }
@@ -60,9 +63,20 @@ pub(crate) fn settle(
         Treatment::Feasible(found) => Ok(offered(alloc, board, lease, &node, found)?),
         Treatment::ToSplit(fractional) => Ok(divided(alloc, board, lease, &node, fractional)?),
         Treatment::Unbounded(endless) => Err(SearchFault::Unbounded(EndlessAt { node, endless })),
-        Treatment::NotFitting(fault) => Err(SearchFault::NoFit(Site { node, fault })),
+        Treatment::NotFitting(fault) => Err(stuck(board, node, fault)),
         Treatment::AtLimit(bases) => Err(SearchFault::PivotLimit(bases)),
     }
+}
+
+// An operation of the work at the node does not fit.
+fn stuck(board: &Board, node: Node, fault: NoFit) -> SearchFault
+    requires honest { IsHonestWay board.now.problem board.now.cuts board.now.split_limit (sides_of node.splits) }
+    requires cuts { board.now.cuts ≡ [] }
+    requires fault { IsWorkFault board.now.problem board.now.cuts (sides_of node.splits) fault }
+    ensures { IsFault board.now.problem board.now.cuts board.now.split_limit board.now.pivot_limit result }
+{
+    board.problem().keeps_its_limits();
+    SearchFault::NoFit(Site { node, fault })
 }
 
 // The leaf is closed.

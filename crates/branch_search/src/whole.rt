@@ -2,9 +2,11 @@
 ghost use Rattle.std.specs.Prelude.{◌≡◌, [], IfOk, IfErr};
 ghost use Rattle.verdicts.specs.Proves.{Proves};
 ghost use Rattle.cert_check.specs.Outcome.{Acceptance, outcome, trials};
+ghost use Rattle.search_tree.specs.Finished.{IsFinished};
 ghost use Rattle.search_tree.specs.Tree.{AllLeaves, IsTodo};
 ghost use Rattle.branch_search.specs.Underway.{IsGoing, IsAtEnd, IsNext, AreSame};
 ghost use Rattle.branch_search.specs.Faults.{IsFault};
+ghost use Rattle.branch_search.specs.Plain.{NoneInteger, IsPlainCertificate};
 
 use crate::fault::SearchFault;
 use crate::rounds::round;
@@ -12,15 +14,16 @@ use crate::settling::Round;
 use certificate::{Certificate, DerivedRows};
 use instance::Instance;
 use search_tree::{finished_boards, kept_boards};
+use sqlite_items::Boxed;
 use std::alloc::Global;
 use tree_pool::Board;
 
 /// The verdict of a problem by a search over its integer columns, with its certificate, which proves it and which the
-/// checker accepts. It makes at most `split_limit` splits, and at each node Bland's run, where nothing else decides, takes
-/// at most `pivot_limit` steps.
+/// checker accepts; where no column is integer, it has no derived row and one leaf at most. The search makes at most
+/// `split_limit` splits, and at each node Bland's run, where nothing else decides, takes at most `pivot_limit` steps.
 ///
 /// A fault tells an operation of the work at a node that does not fit, or a run that is too long, each on an honest way;
-/// that all splits are made, and nodes are left that are to be split; or a ray that improves the problem.
+/// the board on which all splits are made, and nodes are left that are to be split; or a ray that improves the problem.
 pub fn search(
     alloc: Global,
     problem: &Instance,
@@ -29,6 +32,7 @@ pub fn search(
 ) -> Result<Certificate, SearchFault>
     ensures proves { IfOk result (λ c. Proves problem.now c) }
     ensures accepted { IfOk result (λ c. outcome (trials problem.now c) ≡ Acceptance) }
+    ensures plain { NoneInteger problem.now.columns → IfOk result (λ c. IsPlainCertificate problem.now c) }
     ensures fault { IfErr result (IsFault problem.now [] split_limit pivot_limit) }
 {
     let copy = problem.copy(alloc)?;
@@ -80,17 +84,36 @@ fn goes_on(alloc: Global, board: &mut Board, pivot_limit: u32) -> Result<bool, S
 // The certificate of a board on which no leaf is to be worked on, where all leaves are closed.
 fn ended(alloc: Global, board: Board) -> Result<Certificate, SearchFault>
     requires at_end { IsAtEnd board }
+    requires cuts { board.cuts ≡ [] }
     ensures proves { IfOk result (λ c. Proves board.problem c) }
     ensures accepted { IfOk result (λ c. outcome (trials board.problem c) ≡ Acceptance) }
+    ensures plain { NoneInteger board.problem.columns → IfOk result (λ c. IsPlainCertificate board.problem c) }
     ensures fault { IfErr result (IsFault board.problem board.cuts board.split_limit board.pivot_limit) }
 {
     board.keeps_its_log();
     finished_boards();
     if !board.is_finished() {
-        return Err(SearchFault::SplitLimit);
+        return Err(out_of_splits(alloc, board));
     }
     match board.into_certificate(alloc).ok() {
         Some(certificate) => Ok(certificate),
         None => Err(SearchFault::NoMemory),
+    }
+}
+
+// Why a board is at its end and not finished: all splits are made. Leaves that were left are given back before it is told, so
+// that none is leased.
+fn out_of_splits(alloc: Global, mut board: Board) -> SearchFault
+    requires at_end { IsAtEnd board }
+    requires unfinished { ¬ (IsFinished board) }
+    ensures { IsFault board.problem board.cuts board.split_limit board.pivot_limit result }
+{
+    if board.reclaim(alloc).is_err() {
+        return SearchFault::NoMemory;
+    }
+    board.keeps_its_log();
+    match Boxed::new(alloc, board) {
+        Ok(board) => SearchFault::SplitLimit(board),
+        Err(_) => SearchFault::NoMemory,
     }
 }

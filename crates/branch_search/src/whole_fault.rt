@@ -3,7 +3,9 @@ ghost use Rattle.std.specs.Prelude.{◌≡◌};
 ghost use Rattle.branch_search.specs.declared.whole_fault.VerdictFault.TheVariants.{NoMemory};
 
 use search_node::{Bases, Site};
+use sqlite_items::Boxed;
 use std::alloc::AllocError;
+use tree_pool::Board;
 
 /// What a search is for.
 #[derive(Clone, Copy, Debug, PartialEq, Eq)]
@@ -21,8 +23,8 @@ pub enum VerdictFault {
     NoFit(Wanted, Site),
     /// Bland's run at a node is longer than the limit of steps: the bases of the first steps.
     PivotLimit(Wanted, Bases),
-    /// All splits that are allowed were made, and nodes are left that are to be split.
-    SplitLimit(Wanted),
+    /// All splits that are allowed are made on this board, and nodes are left that are to be split.
+    SplitLimit(Wanted, Boxed<Board>),
     /// The memory is not there.
     NoMemory,
 }

@@ -1,5 +1,6 @@
 // The work at one node.
-ghost use Rattle.std.specs.Prelude.{ℕ, ◌≡◌, IfOk, IfSome};
+ghost use Rattle.std.specs.Prelude.{ℕ, ◌≡◌, true, IfOk, IfSome, Option};
+ghost use Rattle.rational.specs.Rational.{Rational};
 ghost use Rattle.basis.specs.Node.{IsOverColumns, IsNodePoint};
 ghost use Rattle.basis.specs.Relaxation.{IsOptimalRelaxation, IsInfeasibleRelaxation};
 ghost use Rattle.dictionary.specs.Table.{dictionary_of};
@@ -8,13 +9,14 @@ ghost use Rattle.branch_search.specs.Treatment.{IsTreatment};
 
 use crate::testing::{Verdict, test_optimum};
 use crate::treatment::Treatment;
-use candidate::{Candidate, ProposedOptimum, propose};
+use candidate::{Candidate, ProposedOptimum, ProposedRay, propose};
+use cert_check::is_improving_ray;
 use certificate::{DerivedRows, Weights};
 use fraction::{Frac, NoFit};
 use instance::Instance;
 use search_node::{Basis, Node, Site, SplitsTaken, Stuck};
 use search_tree::{Hint, Path, is_node_point, optimal_points};
-use simplex::{Best, Dictionary, Relaxed, relax};
+use simplex::{Best, Dictionary, Endless, Relaxed, relax};
 use std::alloc::{AllocError, Global};
 
 /// The work at a node, given the best value so far: it has no point, none better than the best, a better feasible one that
@@ -73,7 +75,7 @@ fn proposed(
 {
     match candidate {
         None => None,
-        Some(Candidate::Unbounded(_)) => None,
+        Some(Candidate::Unbounded(endless)) => proposed_ray(problem, cuts, splits, endless),
         Some(Candidate::Infeasible(weights)) => {
             proposed_weights(problem, cuts, splits, path, best, weights)
         }
@@ -99,6 +101,37 @@ fn proposed_weights(
         Ok(true) => Some(Treatment::Refuted(weights)),
         Ok(false) => None,
         Err(_) => None,
+    }
+}
+
+// The ray is to improve the problem, from a point of the node's relaxation.
+fn proposed_ray(
+    problem: &Instance,
+    cuts: &DerivedRows,
+    splits: &SplitsTaken,
+    found: ProposedRay,
+) -> Option<Treatment>
+    ensures { (best : Option Rational) → IfSome result (λ t. (limit : ℕ) → IsTreatment problem.now cuts.now limit (sides_of splits.now) best t) }
+{
+    if passes(is_improving_ray(problem, &found.ray))
+        && passes(is_node_point(problem, cuts, splits, &found.point))
+    {
+        Some(Treatment::Unbounded(Endless {
+            point: found.point,
+            ray: found.ray,
+        }))
+    } else {
+        None
+    }
+}
+
+// A test that is passed, with no operation that does not fit.
+fn passes(answer: Result<bool, NoFit>) -> bool
+    ensures { result ≡ true → answer ≡ Ok true }
+{
+    match answer {
+        Ok(passed) => passed,
+        Err(_) => false,
     }
 }
 

@@ -1,5 +1,5 @@
 -- Where all operations fit, the answer of each part is its test.
-use Rattle.std.proofs.Common.{◌≡◌, ◌∙◌, ℕ, ◌&&◌, cond, if◌then◌else◌, Bool, true, false, List, [], ◌∷◌, ◌++◌, length, Option, Some, None, is_some, Result, Ok, IfOk, refl, sym, ap}
+use Rattle.std.proofs.Common.{◌≡◌, ◌↔◌, ◌∙◌, ℕ, ◌&&◌, cond, if◌then◌else◌, Bool, true, false, List, [], ◌∷◌, ◌++◌, length, Option, Some, None, is_some, Result, Ok, Err, IfOk, refl, sym, ap, subst}
 use Rattle.std.specs.Prelude.{pos, negsuc, neg_ℤ, ◌+ℤ◌}
 use mathlib.Core.Path.{ap₂}
 use Rattle.rational.specs.Rational.{Rational, zero_ℚ, whole, ◌+ℚ◌, ◌*ℚ◌, ◌-ℚ◌}
@@ -7,7 +7,7 @@ use Rattle.rational.proofs.Laws as Q
 use Rattle.rational.proofs.Laws.{value_same, value_self}
 use Rattle.milp.specs.Form.{Entry, sum_at}
 use Rattle.milp.specs.Problem.{Row, Problem}
-use Rattle.milp.specs.Points.{sign_of, objective_value}
+use Rattle.milp.specs.Points.{IsImprovingRay, sign_of, objective_value}
 use Rattle.fraction.specs.declared.frac.NoFit.{NoFit}
 use Rattle.fraction.specs.Answers.{add_answer}
 use Rattle.rational.specs.Compare.{is_zero, is_less, is_at_most, is_same}
@@ -161,6 +161,14 @@ improving_ok p x =
 pub ray_ok : (p : Problem) (x : Option (List Rational)) → IfOk (ray_answer p x) (λ b. b ≡ ray_passes p x)
 ray_ok p None = refl
 ray_ok p (Some x) = improving_ok p x
+
+-- where the test of a ray holds, it improves
+pub ray_shown : (p : Problem) (x : List Rational) (r : Result Bool NoFit) → r ≡ ray_answer p (Some x) → (is_improving_ray p x ≡ true) ↔ IsImprovingRay p x → IfOk r (λ b. b ≡ true → IsImprovingRay p x)
+ray_shown p x r e exact = subst (λ (a : Result Bool NoFit). IfOk a (λ b. b ≡ true → IsImprovingRay p x)) (sym e) (go (ray_answer p (Some x)) (ray_ok p (Some x)))
+  where
+    go : (a : Result Bool NoFit) → IfOk a (λ b. b ≡ is_improving_ray p x) → IfOk a (λ b. b ≡ true → IsImprovingRay p x)
+    go (Ok b) h = λ t. exact.0 (sym h ∙ t)
+    go (Err f) h = tt
 
 pub value_ok : (p : Problem) (x : Option (List Rational)) (v : Option Rational) → IfOk (value_answer p x v) (λ b. b ≡ value_passes p x v)
 value_ok p None v = refl

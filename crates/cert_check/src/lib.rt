@@ -19,3 +19,4 @@ pub use bounds::{lower_at, upper_at};
 pub use checking::check;
 pub use leaves::{makes_column, shows_no_point, shows_none_better};
 pub use part::{CheckFault, Checked, Part};
+pub use points::is_improving_ray;

@@ -1,11 +1,13 @@
 // Sums at points, and the tests of the value and of the ray.
-ghost use Rattle.std.specs.Prelude.{◌≡◌, ◌&&◌, true, Some};
+ghost use Rattle.std.specs.Prelude.{◌≡◌, ◌&&◌, true, Some, IfOk};
 ghost use Rattle.std.specs.Option.{option_map};
+ghost use Rattle.milp.specs.Points.{IsImprovingRay};
 ghost use Rattle.verdicts.specs.Proves.{lies_above, lies_below, bound_for, meets_columns};
 ghost use Rattle.cert_check.specs.Parts.{point_answer, form_value_answer, goal_answer, ray_rows_answer, is_improving_answer, ray_answer};
 
 use fraction::{Frac, NoFit};
 use instance::{Column, Instance, Point, Row, meets, signed, sum};
+use verdicts::tests_are_exact;
 
 // The point is feasible.
 pub(crate) fn point_passes(problem: &Instance, point: Option<&Point>) -> Result<bool, NoFit>
@@ -110,6 +112,16 @@ fn is_improving(problem: &Instance, ray: &Point) -> Result<bool, NoFit>
     }
     let value = sum(problem.objective().as_slice(), x)?;
     Ok(signed(problem.direction(), value).is_negative())
+}
+
+/// Whether a ray improves the problem without end from each of its points: the test of a certificate's ray, or the first
+/// operation on the way that does not fit. It takes no memory.
+pub fn is_improving_ray(problem: &Instance, ray: &Point) -> Result<bool, NoFit>
+    ensures exact { result ≡ ray_answer problem.now (Some ray.now) }
+    ensures improving { IfOk result (λ b. b ≡ true → IsImprovingRay problem.now ray.now) }
+{
+    tests_are_exact();
+    is_improving(problem, ray)
 }
 
 // There is a ray, and it improves without end.

@@ -247,7 +247,7 @@ overflow_over (InPart part) e s ts h = declared_over s ts h.problem h.asked
 
 undecided_over : (limit : Limit) (s : Settings) (ts : List (List ℕ)) → IsUndecided limit s ts → IsOver s ts
 undecided_over (Pivots wanted bases) s ts h = declared_over s ts h.problem h.asked
-undecided_over (Splits wanted) s ts h = declared_over s ts h.problem h.asked
+undecided_over (Splits wanted board) s ts h = declared_over s ts h.problem h.asked
 
 module _ (words : List (List ℕ)) (told : ToldNames) (files_rose out_rose : Type 0) (right : AreRight) (k : IsComplete words told files_rose out_rose) where
   over : IsOver k.settings (k.texts ++ k.tables)
@@ -340,7 +340,7 @@ behind_them (t ∷ texts) more text = behind_them texts more text
 
 undecided_solves : (limit : Limit) (s : Settings) (texts : List (List ℕ)) → IsUndecided limit s texts → Solves s
 undecided_solves (Pivots wanted bases) s texts h = h.solves
-undecided_solves (Splits wanted) s texts h = h.solves
+undecided_solves (Splits wanted board) s texts h = h.solves
 
 module _ (c : Certificate) (again : List (List ℕ)) (told : ToldNames) (files_rose out_rose : Type 0) (k : IsRecheck c again told) (read_back : read_of (certificate_text c) ≡ Ok c) where
   as_many : length k.texts ≡ suc (length k.settings.data_files)

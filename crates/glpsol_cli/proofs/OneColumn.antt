@@ -22,7 +22,6 @@ use Rattle.basis.specs.declared.Place.{Place}
 use Rattle.basis.specs.declared.Place.TheVariants.{AtLower}
 use Rattle.basis.proofs.Laws.{neg_above, start_is_dictionary, same_gains}
 use Rattle.cert_check.specs.Parts.{point_answer, node_answer}
-use Rattle.cert_check.specs.Parts as of
 use Rattle.simplex.specs.Run.{IsLimited}
 use Rattle.search_tree.specs.Work.{IsWorkFault, node_setting}
 
@@ -150,10 +149,6 @@ value_fits = refl
 point_fits : IsOk (point_answer problem (Some (whole (pos 2) ∷ [])))
 point_fits = refl
 
-claim_fits : (v : Rational) → IsOk (of.value_answer problem (Some (whole (pos 2) ∷ [])) (Some v))
-unfolding ◌+ℚ◌ ◌*ℚ◌ over gcd gcd_within
-claim_fits v = refl
-
 bound_fits : (goal : Option Rational) → IsOk (node_answer (node_setting problem [] []) goal (Bound (record { rows = []; columns = record { index = 0; weight = one_ℚ } ∷ []; derived = [] })))
 unfolding ◌+ℚ◌ ◌*ℚ◌ over gcd gcd_within
 bound_fits None = refl
@@ -180,9 +175,7 @@ pub no_fault : (e : NoFit) → ¬ (IsWorkFault problem [] [] e)
 no_fault e (IsWorkFault.in_method h) = no_operation e.a _ e.b h.operation
 no_fault e (IsWorkFault.in_value x w b d h is) = no_err (value_answer problem x) e (subst (λ y. IsOk (value_answer problem y)) (sym (point_is x w b d h)) value_fits) is
 no_fault e (IsWorkFault.in_point x w b d h is) = no_err (point_answer problem (Some x)) e (subst (λ y. IsOk (point_answer problem (Some y))) (sym (point_is x w b d h)) point_fits) is
-no_fault e (IsWorkFault.in_claim x w b d v h is) = no_err (of.value_answer problem (Some x) (Some v)) e (subst (λ y. IsOk (of.value_answer problem (Some y) (Some v))) (sym (point_is x w b d h)) (claim_fits v)) is
 no_fault e (IsWorkFault.in_bound x w b d goal h is) =
     no_err (node_answer (node_setting problem [] []) goal (Bound w)) e (subst (λ u. IsOk (node_answer (node_setting problem [] []) goal (Bound u))) (sym (weights_are x w b d h)) (bound_fits goal)) is
 no_fault e (IsWorkFault.in_empty w goal h is) = never_infeasible w h
-no_fault e (IsWorkFault.in_endless_point x ray h is) = never_unbounded h.basis h.dictionary h.values h.mover h.direction h.is_unbounded
 no_fault e (IsWorkFault.in_ray x ray h is) = never_unbounded h.basis h.dictionary h.values h.mover h.direction h.is_unbounded

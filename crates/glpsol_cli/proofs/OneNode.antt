@@ -7,7 +7,7 @@ use Rattle.rational.specs.Compare.{is_less}
 use Rattle.rational.proofs.Laws as Q
 use Rattle.milp.specs.Form.{number_at}
 use Rattle.milp.specs.Points.{IsBetter, IsImprovingRay, IsWithin, Relaxed, objective_value}
-use Rattle.verdicts.specs.Certificate.{Derived, Side, Low, High, Split}
+use Rattle.verdicts.specs.Certificate.{Side, Low, High, Split}
 use Rattle.verdicts.specs.Proves.{lower_under, upper_under}
 use Rattle.basis.specs.Node.{IsNodePoint, integer_at}
 use Rattle.basis.specs.declared.Place.{Place}
@@ -18,6 +18,7 @@ use Rattle.basis.specs.Node.{system_of}
 use Rattle.search_tree.specs.Honest.{AreHonest}
 use Rattle.search_tree.specs.Nodes.{IsHonestSplit, IsRelaxedOptimum}
 use Rattle.search_tree.specs.Tree.{Tree, Divided, AtLeaf, AllSplits, made}
+use Rattle.search_tree.specs.Board.{Board}
 use Rattle.search_tree.specs.Work.{IsWorkFault}
 use Rattle.branch_search.specs.Faults.{IsStuckAt, IsRunTooLong, IsOutOfSplits}
 use Rattle.glpsol_cli.proofs.OneColumn.{problem, no_fault, never_limited}
@@ -109,12 +110,12 @@ never_too_long splits pivots bases h = at_sides h.sides h.way.splits h.limited
     at_sides (side ∷ above) way limited = none_honest side above way
 
 -- where a split is allowed, none is made
-pub never_out_of_splits : (limit : ℕ) → 0 < limit → ¬ (IsOutOfSplits problem [] limit)
-never_out_of_splits limit some h = at_tree h.board.tree (subst (λ p. AllSplits (IsHonestSplit p []) [] h.board.tree) h.problem (subst (λ (ds : List Derived). AllSplits (IsHonestSplit h.board.problem ds) [] h.board.tree) h.cuts h.kept.splits)) h.all_made
+pub never_out_of_splits : (splits pivots : ℕ) (board : Board) → 0 < splits → ¬ (IsOutOfSplits problem [] splits pivots board)
+never_out_of_splits splits pivots board some h = at_tree board.tree h.honest h.all_made
   where
-    at_tree : (t : Tree) → AllSplits (IsHonestSplit problem []) [] t → limit ≤ made t → ⊥
-    at_tree (Divided s low high) splits all = no_split s splits.0
-    at_tree (AtLeaf leaf) splits all = absurd (omega (arith, some, all))
+    at_tree : (t : Tree) → AllSplits (IsHonestSplit problem []) [] t → made t ≡ splits → ⊥
+    at_tree (Divided s low high) honest all = no_split s honest.0
+    at_tree (AtLeaf leaf) honest all = absurd (omega (arith, some, all))
 
 -- ---- no ray improves
 

@@ -53,7 +53,7 @@ fits (InPart part) e h = solves_only h.name h.checks
 
 ends : (limit : Limit) → ¬ (IsUndecided limit plain_settings (example_text ∷ []))
 ends (Pivots wanted bases) h = never_searched wanted (λ p settings. IsRunTooLong p [] settings.split_limit settings.pivot_limit bases) (never_too_long 10000 100000 bases) h
-ends (Splits wanted) h = never_searched wanted (λ p settings. IsOutOfSplits p [] settings.split_limit) (never_out_of_splits 10000 (omega arith)) h
+ends (Splits wanted board) h = never_searched wanted (λ p settings. IsOutOfSplits p [] settings.split_limit settings.pivot_limit board) (never_out_of_splits 10000 100000 board (omega arith)) h
 
 -- nothing stands behind `solve`
 behind : (meaning : Meaning) → meaning_of plain_settings (example_text ∷ []) ≡ Some meaning → (x : List Rational) → IsOptimal problem x → (meaning.behind x).fault ≡ None

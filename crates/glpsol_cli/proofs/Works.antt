@@ -125,7 +125,7 @@ module _ (s : Settings) (texts : List (List ℕ)) (p : Problem) (asks : IsAsked 
   pub unsolved : (fault : VerdictFault) → IsFault p s.split_limit s.pivot_limit fault → IsUnfound (SolveStop fault) s texts
   unsolved (SearchNoFit wanted site) h = record { problem = p; asked = asks; solves = solves; is_wanted = h.0; holds = h.1 }
   unsolved (PivotLimit wanted bases) h = record { problem = p; asked = asks; solves = solves; is_wanted = h.0; holds = h.1 }
-  unsolved (SplitLimit wanted) h = record { problem = p; asked = asks; solves = solves; is_wanted = h.0; holds = h.1 }
+  unsolved (SplitLimit wanted board) h = record { problem = p; asked = asks; solves = solves; is_wanted = h.0; holds = h.1 }
   unsolved SearchNoMemory h = tt
 
 pub solves_by : (task : Task) (outputs : Outputs) → task ≡ Solve outputs → IsSolve task

@@ -148,11 +148,11 @@ IsOverflow (AtNode wanted node) e s texts = IsNodeOverflow wanted node e s texts
 IsOverflow (InPart part) e s texts = OfCertificate (IsCheckOverflow part e) s texts
 
 -- the limit is too small: the bases are the first of the simplex method's run at a node to which honest splits lead, as many
--- steps as are allowed, and there is one more step; or as many splits are made as are allowed, all honest, and nodes are left
--- that would have to be split
+-- steps as are allowed, and there is one more step; or the board is that of a search with these limits, as many splits are made
+-- on it as are allowed, all honest, and each leaf that is not closed is of a node that would have to be split
 abbrev pub IsUndecided : Limit → Settings → List (List ℕ) → Type 0
 IsUndecided (Pivots wanted bases) s texts = OfSearch wanted (λ p settings. IsRunTooLong p [] settings.split_limit settings.pivot_limit bases) s texts
-IsUndecided (Splits wanted) s texts = OfSearch wanted (λ p settings. IsOutOfSplits p [] settings.split_limit) s texts
+IsUndecided (Splits wanted board) s texts = OfSearch wanted (λ p settings. IsOutOfSplits p [] settings.split_limit settings.pivot_limit board) s texts
 
 -- ---- how far a run has come
 

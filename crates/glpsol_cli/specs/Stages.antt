@@ -212,7 +212,7 @@ pub record OfNext (P : List ℕ → Type 0) (count : ℕ) (texts : List (List �
 abbrev pub IsUnfound : Unfound → Settings → List (List ℕ) → Type 0
 IsUnfound (Solve (SearchNoFit wanted site)) s texts = IsOverflow (AtNode wanted site.node) site.fault s texts
 IsUnfound (Solve (PivotLimit wanted bases)) s texts = IsUndecided (Pivots wanted bases) s texts
-IsUnfound (Solve (SplitLimit wanted)) s texts = IsUndecided (Splits wanted) s texts
+IsUnfound (Solve (SplitLimit wanted board)) s texts = IsUndecided (Splits wanted board) s texts
 IsUnfound (Solve SearchNoMemory) s texts = Unit {0}
 IsUnfound (Check (BadText fault)) s texts = OfCertificate (IsNoCertificate fault) s texts
 IsUnfound (Check (CheckRefused part)) s texts = OfCertificate (IsRefusedAt part) s texts
@@ -284,7 +284,7 @@ unread_answer reached name LoadNoMemory = NoMemory reached
 abbrev pub solve_answer : VerdictFault → Answer
 solve_answer (SearchNoFit wanted site) = Overflow (AtNode wanted site.node) site.fault
 solve_answer (PivotLimit wanted bases) = Undecided (Pivots wanted bases)
-solve_answer (SplitLimit wanted) = Undecided (Splits wanted)
+solve_answer (SplitLimit wanted board) = Undecided (Splits wanted board)
 solve_answer SearchNoMemory = NoMemory Executed
 
 abbrev pub check_answer : CheckStop → Answer

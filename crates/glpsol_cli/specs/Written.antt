@@ -26,7 +26,7 @@ text_line (FileText fault) = file_line fault
 
 abbrev pub undecided_line : Limit → List ℕ
 undecided_line (Pivots wanted bases) = undecided_pivots_line
-undecided_line (Splits wanted) = undecided_nodes_line
+undecided_line (Splits wanted board) = undecided_nodes_line
 
 -- the line of a fault; an answer without a fault has none
 abbrev pub line_of : Answer → List ℕ

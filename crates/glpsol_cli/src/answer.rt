@@ -13,6 +13,7 @@ use instance::Name;
 use model_text::FileFault;
 use search_node::{Bases, Node};
 use sqlite_items::Boxed;
+use tree_pool::Board;
 
 /// Where a run writes.
 #[derive(Drop)]
@@ -50,8 +51,8 @@ pub enum OverflowSite {
 pub enum Limit {
     /// At a node the simplex method went through these bases, as many steps as are allowed, and has not ended.
     Pivots(Wanted, Bases),
-    /// As many splits are made as are allowed, and nodes are left that would have to be split.
-    Splits(Wanted),
+    /// As many splits are made as are allowed on this board, and nodes are left that would have to be split.
+    Splits(Wanted, Boxed<Board>),
 }
 
 /// How far a run has come.

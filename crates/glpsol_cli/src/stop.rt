@@ -98,7 +98,7 @@ fn solve_answer(fault: VerdictFault) -> Answer
             fault: site.fault,
         },
         VerdictFault::PivotLimit(wanted, bases) => Answer::Undecided(Limit::Pivots(wanted, bases)),
-        VerdictFault::SplitLimit(wanted) => Answer::Undecided(Limit::Splits(wanted)),
+        VerdictFault::SplitLimit(wanted, board) => Answer::Undecided(Limit::Splits(wanted, board)),
         VerdictFault::NoMemory => no_memory(Reached::Executed),
     }
 }

@@ -59,7 +59,7 @@ fn line(alloc: Global, answer: &Answer) -> Result<String, AllocError>
         Answer::BadCertificate(fault) => fault_line(alloc, &Fault::Certificate(*fault)),
         Answer::Overflow { fault, .. } => fault_line(alloc, &Fault::Overflow(*fault)),
         Answer::Undecided(Limit::Pivots(..)) => fault_line(alloc, &Fault::UndecidedPivots),
-        Answer::Undecided(Limit::Splits(_)) => fault_line(alloc, &Fault::UndecidedNodes),
+        Answer::Undecided(Limit::Splits(..)) => fault_line(alloc, &Fault::UndecidedNodes),
         Answer::Refused(part) => fault_line(alloc, &Fault::Refused(*part)),
         Answer::NoMemory { .. } => fault_line(alloc, &Fault::NoMemory),
     }

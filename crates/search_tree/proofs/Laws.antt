@@ -7,5 +7,7 @@ pub use Rattle.search_tree.proofs.Trees.{made_reclaimed, made_replaced, none_lea
 -- histories, and the boards that are kept
 pub use Rattle.search_tree.proofs.Histories.{one_more, replay_kept}
 pub use Rattle.search_tree.proofs.Covered.{covered}
+-- operations that do not fit
+pub use Rattle.search_tree.proofs.WorkFaults.{forms_ascend, on_site_numbers}
 -- the certificate of a finished board
 pub use Rattle.search_tree.proofs.Finished.{finished_accepted, finished_tree}

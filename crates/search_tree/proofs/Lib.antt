@@ -9,6 +9,12 @@ mod Honest
 mod Pinned
 mod AnyWhole
 mod Treated
+mod FaultsTold
+mod NodeNumbers
+mod NodeForms
+mod LeafWeights
+mod NodeTests
+mod WorkFaults
 pub mod Laws
 mod Combined
 mod NodePoints

@@ -2,6 +2,7 @@ pub mod Tree
 pub mod Slots
 pub mod Nodes
 pub mod Work
+pub mod Ascending
 pub mod Board
 pub mod Kept
 pub mod Steps

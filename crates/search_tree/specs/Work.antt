@@ -10,7 +10,6 @@ use Rattle.basis.specs.Relaxation.{IsOptimalRelaxation, IsInfeasibleRelaxation, 
 use Rattle.basis.specs.declared.Place.{Place}
 use Rattle.cert_check.specs.Setting.{Setting}
 use Rattle.cert_check.specs.Parts.{point_answer, ray_answer, node_answer}
-use Rattle.cert_check.specs.Parts as of
 use Rattle.simplex.specs.Answer.{IsNodeFault}
 
 -- what weights stand on at a node
@@ -18,14 +17,12 @@ abbrev pub node_setting : Problem → List Derived → List Side → Setting
 node_setting p ds sides = record { problem = p; derived = ds; sides = sides }
 
 -- e is an operation of the work at a node, and does not fit: one of the simplex method there, or the first that does not
--- fit in a test of what the method finds: of an optimal point, its value, its value as it is told and its weights at a leaf, of the
--- weights at an empty leaf, of the point and the ray of an unbounded node
+-- fit in a test of what the method finds: of an optimal point, its value and its weights at a leaf, of the weights at an empty
+-- leaf, of the ray of an unbounded node
 pub data IsWorkFault (p : Problem) (ds : List Derived) (sides : List Side) (e : NoFit) : Type 0 where
   in_method : IsNodeFault p ds sides e → IsWorkFault p ds sides e
   in_value : (x : List Rational) (w : Weights) (b : List Place) (d : Dictionary) → IsOptimalRelaxation p ds sides x w b d → value_answer p x ≡ Err e → IsWorkFault p ds sides e
   in_point : (x : List Rational) (w : Weights) (b : List Place) (d : Dictionary) → IsOptimalRelaxation p ds sides x w b d → point_answer p (Some x) ≡ Err e → IsWorkFault p ds sides e
-  in_claim : (x : List Rational) (w : Weights) (b : List Place) (d : Dictionary) (v : Rational) → IsOptimalRelaxation p ds sides x w b d → of.value_answer p (Some x) (Some v) ≡ Err e → IsWorkFault p ds sides e
   in_bound : (x : List Rational) (w : Weights) (b : List Place) (d : Dictionary) (goal : Option Rational) → IsOptimalRelaxation p ds sides x w b d → node_answer (node_setting p ds sides) goal (Bound w) ≡ Err e → IsWorkFault p ds sides e
   in_empty : (w : Weights) (goal : Option Rational) → IsInfeasibleRelaxation p ds sides w → node_answer (node_setting p ds sides) goal (Empty w) ≡ Err e → IsWorkFault p ds sides e
-  in_endless_point : (x ray : List Rational) → IsUnboundedRelaxation p ds sides x ray → point_answer p (Some x) ≡ Err e → IsWorkFault p ds sides e
   in_ray : (x ray : List Rational) → IsUnboundedRelaxation p ds sides x ray → ray_answer p (Some ray) ≡ Err e → IsWorkFault p ds sides e

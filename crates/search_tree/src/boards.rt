@@ -6,13 +6,18 @@ ghost use Rattle.milp.specs.Points.{objective_value};
 ghost use Rattle.verdicts.specs.Certificate.{Split, Side as SideOf, Weights, Derived, Bound};
 ghost use Rattle.verdicts.specs.Proves.{Proves};
 ghost use Rattle.basis.specs.Dictionary.{Dictionary};
+ghost use Rattle.fraction.specs.declared.frac.NoFit.{NoFit};
 ghost use Rattle.basis.specs.Node.{system_of, IsOverColumns, IsNodePoint};
+ghost use Rattle.basis.specs.Numbers.{node_numbers};
+ghost use Rattle.search_node.specs.Faults.{IsSiteFault};
 ghost use Rattle.basis.specs.Relaxation.{IsOptimalRelaxation};
 ghost use Rattle.basis.specs.declared.Place.{Place};
 ghost use Rattle.cert_check.specs.Outcome.{Acceptance, outcome, trials};
 ghost use Rattle.certificate.specs.declared.split.Side.{Side};
 ghost use Rattle.search_tree.specs.Nodes.{IsRelaxedOptimum, IsHonestSplit, IsTreated, IsWorthwhile, NodePasses};
 ghost use Rattle.search_tree.specs.AnyWhole.{any_whole_x};
+ghost use Rattle.search_tree.specs.Ascending.{AreFormsAscending};
+ghost use Rattle.search_tree.specs.Work.{IsWorkFault};
 ghost use Rattle.search_tree.specs.Pinned.{IsPinned};
 ghost use Rattle.search_tree.specs.Tree.{sides_to};
 ghost use Rattle.search_tree.specs.Board.{Board};
@@ -67,6 +72,13 @@ pub fn treated_nodes()
         IsTreated p ds sides best → IsTreated p ds sides None }
     ensures worthwhile { (p : Problem) (ds : List Derived) (sides : List SideOf) (best : Option Rational) →
         IsTreated p ds sides best → IsWorthwhile p ds best sides }
+{}
+
+/// Each operation of the work at a node that does not fit is on site numbers of the node: those of the simplex method, and
+/// those of the tests of what it finds.
+pub fn faults_are_on_site_numbers()
+    ensures { (p : Problem) (ds : List Derived) (sides : List SideOf) (e : NoFit) → IsOverColumns p ds sides →
+        AreFormsAscending p ds → IsWorkFault p ds sides e → IsSiteFault (node_numbers p ds sides) e }
 {}
 
 /// Far out on a face of optimal points that has no end no split is honest: `min 0, x >= 0 whole` has no honest split.

@@ -1,17 +1,10 @@
-use Rattle.std.proofs.Common.{◌∙◌, ap}
-use Rattle.branch_search.specs.WholeFaults.{without_objective}
-use Rattle.branch_search.proofs.Causes.{never_endless, any_fault, after_search}
+use Rattle.std.proofs.Common.{◌∙◌, ap, Ok}
+use Rattle.branch_search.proofs.Causes.{after_search}
+use Rattle.branch_search.proofs.WholeEnds.{tested_by}
 use Rattle.branch_search.proofs.endless.beyond.Goals as goal
 
-pub unreachable-requires : goal.unreachable-requires
-unreachable-requires c =
-    never_endless c.args.problem.now c.without_objective-feasibility.result c.args.split_limit c.args.pivot_limit c.in-Err.fault c.ray_or_fault.result c.in-Ok-ray_or_fault.field-0
-    (c.without_objective-feasibility.ensures ∙ ap without_objective c.in_ok-copy.ensures) c.ray_or_fault.ensures c.in-Ok-ray_or_fault.is c.in-Err.ensures.fault
+pub at_once-requires-clause-point : goal.at_once-requires-clause-point
+at_once-requires-clause-point c = tested_by c.args.problem.now c.args.ray.endless.point c.meets.result c.meets.ensures.exact c.meets.ensures.feasible (c.in-Ok-true.is ∙ ap Ok c.in-Ok-true.field-0-test)
 
-pub returns-in-Err-ray_or_fault-clause-fault : goal.returns-in-Err-ray_or_fault-clause-fault
-returns-in-Err-ray_or_fault-clause-fault c =
-    any_fault c.args.problem.now c.without_objective-feasibility.result c.args.split_limit c.args.pivot_limit c.in-Err.fault c.ray_or_fault.result c.in-Err-ray_or_fault.fault c.args.ray
-    (c.without_objective-feasibility.ensures ∙ ap without_objective c.in_ok-copy.ensures) c.ray_or_fault.ensures c.in-Err-ray_or_fault.is c.requires c.in-Err.ensures.fault
-
-pub returns-in-Ok-clause-fault : goal.returns-in-Ok-clause-fault
-returns-in-Ok-clause-fault c = after_search c.args.problem.now c.args.split_limit c.args.pivot_limit c.decided.result c.decided.ensures.fault
+pub returns-in-Ok-true-clause-fault : goal.returns-in-Ok-true-clause-fault
+returns-in-Ok-true-clause-fault c = after_search c.args.problem.now c.args.split_limit c.args.pivot_limit c.at_once.result c.at_once.ensures.fault

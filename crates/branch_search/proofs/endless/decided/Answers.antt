@@ -1,5 +1,6 @@
 use Rattle.std.proofs.Common.{sym}
 use Rattle.branch_search.proofs.Without.{none_accepted, none_proves}
+use Rattle.branch_search.proofs.PlainEnds.{none_plain}
 use Rattle.branch_search.proofs.WholeEnds.{has_point, not_unbounded}
 use Rattle.branch_search.proofs.endless.decided.Goals as goal
 
@@ -14,3 +15,6 @@ returns-in-Infeasible-clause-proves c = none_proves c.args.problem.now c.args.ce
 
 pub returns-in-Infeasible-clause-accepted : goal.returns-in-Infeasible-clause-accepted
 returns-in-Infeasible-clause-accepted c = none_accepted c.args.problem.now c.args.certificate c.requires.accepted (sym c.in-Infeasible.ensures)
+
+pub returns-in-Infeasible-clause-plain : goal.returns-in-Infeasible-clause-plain
+returns-in-Infeasible-clause-plain c = λ none. none_plain c.args.problem.now c.args.certificate (sym c.in-Infeasible.ensures) (c.requires.plain none)

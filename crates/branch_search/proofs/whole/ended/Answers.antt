@@ -1,5 +1,13 @@
-use Rattle.branch_search.proofs.Ends.{out_of_splits}
+use Rattle.std.proofs.Common.{◌≡◌, ◌∙◌, sym}
+use Rattle.search_tree.specs.Finished.{certificate_of}
+use Rattle.verdicts.specs.Certificate.{Certificate}
+use Rattle.branch_search.proofs.PlainEnds.{plain_board}
+use Rattle.branch_search.proofs.Standing.{value_of_ok}
 use Rattle.branch_search.proofs.whole.ended.Goals as goal
 
-pub returns-then-not-is_finished-clause-fault : goal.returns-then-not-is_finished-clause-fault
-returns-then-not-is_finished-clause-fault c = out_of_splits c.args.board c.keeps_its_log.ensures.kept c.requires.at_end (c.is_finished.ensures.no c.if-not-is_finished.true)
+pub returns-in-Some-clause-plain : goal.returns-in-Some-clause-plain
+returns-in-Some-clause-plain c = λ none.
+    let b = c.args.board in
+    let P : Certificate → Type 0 = λ d. d ≡ certificate_of b in
+    plain_board b c.in-Some.certificate c.keeps_its_log.ensures.kept (c.is_finished.ensures.yes c.if-not-is_finished.false) c.requires.cuts
+    (value_of_ok c.into_certificate.result c.in-Some.certificate P (sym c.ok.ensures.value ∙ c.in-Some.is) c.into_certificate.ensures.ok) none
