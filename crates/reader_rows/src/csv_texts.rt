@@ -1,4 +1,4 @@
-// What the rows of the tests are written in.
+// What the rows of tables in CSV are written in.
 use csv_tables::TableFault;
 use fraction::Frac;
 use gmpl_member_names::symbol_text;
@@ -6,22 +6,12 @@ use gmpl_text::Text;
 use gmpl_value::Tuple;
 use std::alloc::{AllocError, Global};
 
-// `$` stands for a line feed, `^` for a carriage return, `@` for a byte order mark and `~` for a byte that UTF-8 doesn't have.
-pub(crate) fn bytes_of(alloc: Global, text: &str) -> Result<Vec<u8>, AllocError> {
-    let mut made = Vec::new(alloc);
-    for byte in text.as_bytes() {
-        match *byte {
-            b'$' => made.push(b'\n')?,
-            b'^' => made.push(b'\r')?,
-            b'~' => made.push(0xff)?,
-            b'@' => made.extend_from_slice("\u{feff}".as_bytes())?,
-            other => made.push(other)?,
-        }
-    }
-    Ok(made)
+/// What stands in front of an arrow, and behind it.
+pub(crate) fn split(row: &str) -> (&str, &str) {
+    row.split_once(" => ").unwrap_or((row, ""))
 }
 
-// Names between blanks, `-` for none.
+/// Names between blanks, `-` for none.
 pub(crate) fn names(alloc: Global, text: &str) -> Result<Vec<Text>, AllocError> {
     let mut made = Vec::new(alloc);
     if text == "-" {
@@ -33,7 +23,7 @@ pub(crate) fn names(alloc: Global, text: &str) -> Result<Vec<Text>, AllocError> 
     Ok(made)
 }
 
-// Symbols with a character between them.
+/// Symbols with a character between them.
 pub(crate) fn push_tuple(
     alloc: Global,
     answer: &mut String,
@@ -51,6 +41,7 @@ pub(crate) fn push_tuple(
     Ok(())
 }
 
+/// The word of a fault.
 pub(crate) fn fault_text(fault: TableFault) -> &'static str {
     match fault {
         TableFault::NoField => "!NoField",
@@ -59,7 +50,7 @@ pub(crate) fn fault_text(fault: TableFault) -> &'static str {
     }
 }
 
-// The number that `n` or `n/d` writes.
+/// The number that `n` or `n/d` writes.
 pub(crate) fn number(digits: &str) -> Option<Frac> {
     Frac::read_canonical(digits).ok()
 }

@@ -1,29 +1,10 @@
 // Rows of tables with their CSV texts.
-use crate::rows::{Subject, check, split};
-use crate::texts::{names, number};
+use crate::csv_texts::{names, number, split};
 use csv_tables::table_text;
 use fraction::Frac;
 use gmpl_text::Text;
 use gmpl_value::{Symbol, Tuple};
 use std::alloc::{AllocError, Global};
-use std::test::Fail;
-
-// A row has the text that is wanted, the names of the fields and the rows of the table, which end in `;`. Each symbol stands behind
-// a bar, and a number behind `#`.
-const TEXTS: &str = "\
-k,v$1,1/3$2,2/3$ => k v => |#1|#1/3;|#2|#2/3;
-k,v$-5/2,a b$ => k v => |#-5/2|a b;
-k,v$\"a,b\",\"c\"\"d\"$ => k v => |a,b|c\"d;
-k,v$\"x$y\",\"x^y\"$ => k v => |x$y|x^y;
-k,v$,$ => k v => ||;
-k$\"\"$ => k => |;
-k$\"\"$a$ => k => |;|a;
-k$ a$ => k => | a;
-k$'a'$ => k => |'a';
-k$ => k =>\u{20}
-\"k,1\",v$1/3,1$ => k,1 v => |1/3|1;
-\u{e4}$\u{20ac}$ => \u{e4} => |\u{20ac};
-";
 
 // A number, or a string; what is no number behind `#` is 0.
 fn symbol(alloc: Global, text: &str) -> Result<Symbol, AllocError> {
@@ -51,7 +32,7 @@ fn rows(alloc: Global, text: &str) -> Result<Vec<Tuple>, AllocError> {
     Ok(made)
 }
 
-// A text whose ends of lines are as the rows write them, or as a file has them.
+// A text whose ends of lines are as rows write them, or as a file has them.
 fn with_marks(alloc: Global, text: &str) -> Result<String, AllocError> {
     let marked = text.replace(alloc, "\n", "$")?;
     marked.replace(alloc, "\r", "^")
@@ -73,14 +54,10 @@ fn bytes_written(alloc: Global, fields: &str, text: &str) -> Result<Vec<u8>, All
     table_text(alloc, &fields, &rows)
 }
 
-/// The text that is written of a table.
-pub(crate) fn written(alloc: Global, asked: &str) -> Result<String, AllocError> {
+/// The text that is written of a table. Asked for are the names of its fields, and its rows, which end in `;`: each symbol stands
+/// behind a bar, and a number behind `#`.
+pub(crate) fn text_written(alloc: Global, asked: &str) -> Result<String, AllocError> {
     let (fields, text) = split(asked);
     let written = bytes_written(alloc, fields, text)?;
     with_marks(alloc, str::from_utf8(&written).unwrap_or("no text"))
-}
-
-#[test]
-fn texts(rt: HostRuntime) -> Result<(), Fail> {
-    check(&rt, rt.alloc(), &Subject::Writing, TEXTS)
 }

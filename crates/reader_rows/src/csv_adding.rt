@@ -1,6 +1,6 @@
 // CSV texts with what they add to the data of a model, or with their first fault.
-use crate::rows::{Subject, check, split};
-use crate::texts::{bytes_of, fault_text, names, number, push_tuple};
+use crate::csv_texts::{fault_text, names, number, push_tuple, split};
+use crate::marks::bytes_of;
 use csv_tables::TableError;
 use fraction::Frac;
 use gmpl_data::{DataTables, Given};
@@ -12,61 +12,9 @@ use gmpl_text::Text;
 use gmpl_value::{SetValue, Symbol, Tuple};
 use sqlite_items::Items;
 use std::alloc::{AllocError, Global};
-use std::test::Fail;
 
-// A row has the data that are wanted, the table, the data before and the text. Of data, each member stands with its subscripts
-// behind points and its value behind `=`, and `S!` is a set to which too many elements are given; `-` stands for none. A fault
-// stands behind `!`. A table has its set, or `-`, the fields of its key, a colon, and each parameter with its field.
-//
 // The objects are the sets S and A and the parameters p, q and c. Of any other name there are no data.
 const NAMES: &str = "S A p q c";
-
-// What a table gives.
-const GIVEN: &str = "\
-S={a,b} p.a=1 p.b=2 q.a=3 q.b=4 => S k : p=v q=w => - => k,v,w$a,1,3$b,2,4$
-S={b,a} p.b=4 p.a=1 q.b=x q.a=y => S k : q=v p=w => - => w,v,k$4,x,b$1,y,a$
-S={b,a,1} => S k : => - => k$b$a$1$
-p.a=1 p.b=2 => - k : p=v => - => k,v$a,1$b,2$
-A={a.1,b.2} c.a.1=3 c.b.2=4 => A i j : c=v => - => i,j,v$a,1,3$b,2,4$
-c.1.a=3 => - j i : c=v => - => i,j,v$a,1,3$
-S={1,2} p.1=a p.2=b => S RECNO : p=k => - => k$a$b$
-S={a,b} p.a=1 p.b=2 => S k : p=RECNO => - => k$a$b$
-S={a} p.a=a q.a=a => S k : p=k q=k => - => k$a$
-p=5 => - : p=v => - => v$5$
-S={} => S k : p=v => - => k,v$
-S={1} p.1='x y' => S k : p=v => - => k,v$1.0,x y$
-";
-
-// What data gave before.
-const BEFORE: &str = "\
-A={x.y} p.b=1 p.a=2 q.a=3 => - k : p=v => A={x.y} p.b=1 q.a=3 => k,v$a,2$
-S.x={} S={a} => S k : => S.x={} => k$a$
-S={x} p.a=1 => - k : p=v => S={x} => k,v$a,1$
-S={x} p.b=2 p.a=1 => - k : p=v => S={x} p.b=2 => k,v$a,1$
-A={x.y} => - k : p=v => A={x.y} => k,v$
-p.a=1 => - k : x=v => p.a=1 => k,v$b,2$
-p.a=1 p.b=2 => x k : p=v => p.a=1 => k,v$b,2$
-";
-
-// First faults.
-const FAULTS: &str = "\
-!TwiceKey => S k : p=v => S={x} => k,v$a,1$
-!TwiceKey => S k : p=v => S={} => k,v$
-!TwiceKey => S k : => S! => k$a$
-!TwiceKey => - k : p=v => p.a=1 => k,v$a,1$
-!TwiceKey => - k : p=v => p.b=1 => k,v$a,1$b,2$
-!TwiceKey => - k : p=v => p.1=1 => k,v$1.0,1$
-!TwiceKey => - k : q=v p=w => p.a=1 => k,v,w$a,1,2$
-!TwiceKey => - k : p=v p=w => - => k,v,w$a,1,2$
-!TwiceKey => - : p=v => p=5 => v$6$
-!TwiceKey => S k : p=v => - => k,v$a,1$a,2$
-!NoField => S k : p=w => - => k,v$a,1$
-!NoField => S w : p=v => - => k,v$a,1$
-!NoField => S k : p=w => S={x} => k,v$a,1$
-!BadRecord => S k : p=v => - => k,v$a$
-!BadRecord => S k : p=v => S={x} => k,v$a$
-!BadRecord => S k : p=v => - => k,v$a,~$
-";
 
 // ---- data that are written in a row
 
@@ -286,25 +234,12 @@ fn answer(
     }
 }
 
-/// The data that a text gives to those before, or its fault.
-pub(crate) fn added(alloc: Global, asked: &str) -> Result<String, AllocError> {
+/// The data that a text gives to those before, or its fault, behind `!`. Asked for are the table, the data before and the text. Of
+/// data, each member stands with its subscripts behind points and its value behind `=`, and `S!` is a set to which too many elements
+/// are given; `-` stands for none. A table has its set, or `-`, the fields of its key, a colon, and each parameter with its field.
+pub(crate) fn data_added(alloc: Global, asked: &str) -> Result<String, AllocError> {
     let (head, rest) = split(asked);
     let (before, text) = split(rest);
     let input = table(alloc, head)?;
     answer(alloc, &input, before, text)
-}
-
-#[test]
-fn given_by_tables(rt: HostRuntime) -> Result<(), Fail> {
-    check(&rt, rt.alloc(), &Subject::Adding, GIVEN)
-}
-
-#[test]
-fn data_before(rt: HostRuntime) -> Result<(), Fail> {
-    check(&rt, rt.alloc(), &Subject::Adding, BEFORE)
-}
-
-#[test]
-fn first_faults(rt: HostRuntime) -> Result<(), Fail> {
-    check(&rt, rt.alloc(), &Subject::Adding, FAULTS)
 }
