@@ -1,4 +1,4 @@
-// The time that work on large sets takes.
+// The time that work on large sets and forms takes.
 use fraction::Frac;
 use gmpl_functions::{Form, Sign, Variable};
 use gmpl_value::{EvalFault, SetFault, SetValue, Symbol, Tuple, cross, range, union};
@@ -7,6 +7,65 @@ use std::io;
 use std::time::{Clock, Instant};
 
 const LARGE: i128 = 1_000_000;
+
+#[derive(Clone, Copy)]
+enum Task {
+    Range,
+    Tests,
+    Union,
+    Pairs,
+    Cross,
+    Sum,
+}
+
+const TASKS: [Task; 6] = [
+    Task::Range,
+    Task::Tests,
+    Task::Union,
+    Task::Pairs,
+    Task::Cross,
+    Task::Sum,
+];
+
+impl Task {
+    fn name(self) -> &'static str {
+        match self {
+            Task::Range => "a range of 1,000,000 numbers",
+            Task::Tests => "the same, each element tested",
+            Task::Union => "the union of 500,000 and 750,001 numbers",
+            Task::Pairs => "100,000 pairs in a set of as many",
+            Task::Cross => "a cross of 1,000 by 1,000",
+            Task::Sum => "a sum of 200,000 variables",
+        }
+    }
+
+    // How many elements or terms it comes to, or 0 where it comes to none.
+    fn count(self, alloc: Global) -> usize {
+        match self {
+            Task::Range => counted(numbers_to(alloc, LARGE)),
+            Task::Tests => walked_and_tested(alloc).unwrap_or(0),
+            Task::Union => joined(alloc).unwrap_or(0),
+            Task::Pairs => pairs_tested(alloc).unwrap_or(0),
+            Task::Cross => thousand_by_thousand(alloc).unwrap_or(0),
+            Task::Sum => long_form(alloc).unwrap_or(0),
+        }
+    }
+}
+
+/// Prints, for each task, how many elements or terms it came to, and the milliseconds that it took.
+pub(crate) fn measure_sets<R: Clock + Print>(rt: &R, alloc: Global) -> io::Result<()> {
+    for task in TASKS {
+        measure_task(rt, alloc, task)?;
+    }
+    Ok(())
+}
+
+fn measure_task<R: Clock + Print>(rt: &R, alloc: Global, task: Task) -> io::Result<()> {
+    let start = Instant::now(rt)?;
+    let count = task.count(alloc);
+    let elapsed = start.elapsed(rt)?.as_millis();
+    println!(rt; "{}: {count} in {elapsed} ms", task.name())
+}
 
 fn numbers_to(alloc: Global, last: i128) -> Result<SetValue, SetFault> {
     if last < 1 {
@@ -20,10 +79,6 @@ fn counted(set: Result<SetValue, SetFault>) -> usize {
         Ok(set) => set.len(),
         Err(_) => 0,
     }
-}
-
-fn large_range(alloc: Global) -> usize {
-    counted(numbers_to(alloc, LARGE))
 }
 
 // How many elements of a set another has.
@@ -83,39 +138,4 @@ fn long_form(alloc: Global) -> Result<usize, EvalFault> {
         sum = sum.combined(alloc, Sign::Plus, &variable(alloc, i128::from(number))?)?;
     }
     Ok(sum.len())
-}
-
-fn shown<R: Clock + Print>(rt: &R, name: &str, start: Instant, count: usize) -> io::Result<()> {
-    let elapsed = start.elapsed(rt)?.as_millis();
-    println!(rt; "{name}: {count} in {elapsed} ms")
-}
-
-/// Prints, for each task, how many elements or terms it came to, and the milliseconds that it took.
-pub fn measure<R: Clock + Print>(rt: &R, alloc: Global) -> io::Result<()> {
-    let start = Instant::now(rt)?;
-    shown(
-        rt,
-        "a range of 1,000,000 numbers",
-        start,
-        large_range(alloc),
-    )?;
-    let start = Instant::now(rt)?;
-    let count = walked_and_tested(alloc).unwrap_or(0);
-    shown(rt, "the same, each element tested", start, count)?;
-    let start = Instant::now(rt)?;
-    let count = joined(alloc).unwrap_or(0);
-    shown(rt, "the union of 500,000 and 750,001 numbers", start, count)?;
-    let start = Instant::now(rt)?;
-    let count = pairs_tested(alloc).unwrap_or(0);
-    shown(rt, "100,000 pairs in a set of as many", start, count)?;
-    more(rt, alloc)
-}
-
-fn more<R: Clock + Print>(rt: &R, alloc: Global) -> io::Result<()> {
-    let start = Instant::now(rt)?;
-    let count = thousand_by_thousand(alloc).unwrap_or(0);
-    shown(rt, "a cross of 1,000 by 1,000", start, count)?;
-    let start = Instant::now(rt)?;
-    let count = long_form(alloc).unwrap_or(0);
-    shown(rt, "a sum of 200,000 variables", start, count)
 }

@@ -6,10 +6,10 @@ use std::alloc::{AllocError, Global};
 
 /// Three fractions that an operation takes.
 #[derive(Clone, Copy)]
-pub struct Sample {
-    pub first: Frac,
-    pub second: Frac,
-    pub third: Frac,
+pub(crate) struct Sample {
+    pub(crate) first: Frac,
+    pub(crate) second: Frac,
+    pub(crate) third: Frac,
 }
 
 // A linear congruential generator of 64 bits, with Knuth's factors.
@@ -68,7 +68,7 @@ impl Random {
 }
 
 /// Samples whose parts are at most `end`.
-pub fn fractions(alloc: Global, count: u64, end: u128) -> Result<Vec<Sample>, AllocError>
+pub(crate) fn fractions(alloc: Global, count: u64, end: u128) -> Result<Vec<Sample>, AllocError>
     requires positive { 0 < end }
     requires small { end ≤ 2 ^ 126 }
 {
@@ -85,7 +85,7 @@ pub fn fractions(alloc: Global, count: u64, end: u128) -> Result<Vec<Sample>, Al
 }
 
 /// Samples of whole numbers from 1 to `end`.
-pub fn whole_numbers(alloc: Global, count: u64, end: u128) -> Result<Vec<Sample>, AllocError>
+pub(crate) fn whole_numbers(alloc: Global, count: u64, end: u128) -> Result<Vec<Sample>, AllocError>
     requires positive { 0 < end }
     requires small { end ≤ 2 ^ 126 }
 {

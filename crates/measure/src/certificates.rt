@@ -1,7 +1,7 @@
-// The time that a check takes, and the speed of reading.
+// The time that the check of a certificate takes, and the speed of reading one.
 ghost use Rattle.std.specs.Prelude.{◌≤◌};
 
-use crate::samples::{Shape, problem, tree_text};
+use crate::certificate_samples::{Shape, problem, tree_text};
 use cert_check::{Checked, check};
 use certificate::Certificate;
 use certificate_reader::read;
@@ -14,7 +14,7 @@ const TIMES: u64 = 5;
 
 /// Prints the milliseconds of a check for trees of each shape and size, and the megabytes (of 1,000,000 bytes) a second
 /// that reading takes in: the best of some runs each.
-pub fn measure<R: Clock + Print>(rt: &R, alloc: Global) -> io::Result<()> {
+pub(crate) fn measure_certificates<R: Clock + Print>(rt: &R, alloc: Global) -> io::Result<()> {
     let Some(problem) = problem(alloc) else {
         return println!(rt; "the problem can't be made");
     };
