@@ -3,7 +3,7 @@
 
 usage: bench/read_math.py
 
-Read alone, by the program of crate parse_bench (`rt ci parse_bench` builds it): 50,000 and 100,000 statements of one line, and
+Read alone, by the program of crate measure (`rt ci measure` builds it): 50,000 and 100,000 statements of one line, and
 one statement of 500,000 and 1,000,000 tokens. Read and executed, by `glpsol --math FILE --check`: models with 2,000 to 100,000
 columns (the bar is one of 100,000 columns and 1,000,000 entries in under 10 s and 1 GB), a sum over 1,000,000 elements, a cross of
 1,000 by 1,000, 100,000 tuples looked up in a set of 100,000, `comb[60,30]` by its recursion, data sections with 1,000,000 numbers
@@ -18,7 +18,7 @@ import tempfile
 import time
 
 TOP = os.path.dirname(os.path.dirname(os.path.abspath(__file__)))
-PARSER = os.path.join(TOP, "crates", "parse_bench", "out", "parse_bench")
+PARSER = [os.path.join(TOP, "crates", "measure", "out", "measure"), "--measure", "models"]
 PROGRAM = os.path.join(TOP, "crates", "glpsol", "out", "glpsol")
 
 
@@ -110,11 +110,11 @@ def show(what, command, text, folder, tokens=None, stack=None):
 def main():
     with tempfile.TemporaryDirectory() as folder:
         for count in (50_000, 100_000):
-            show(f"{count} statements", [PARSER, "FILE"], lines(count), folder, count * 9 + 2)
+            show(f"{count} statements", PARSER + ["FILE"], lines(count), folder, count * 9 + 2)
         for count in (500_000, 1_000_000):
-            show(f"one statement of {count} tokens", [PARSER, "FILE"], one_statement(count), folder, count)
-        show("50 open parentheses, 1 MB of stack", [PARSER, "FILE"], "param p := " + "(" * 50 + "1" + ")" * 50 + ";\nend;\n", folder, stack=1 << 20)
-        show("5000 heads of for, 1 MB of stack", [PARSER, "FILE"], "for{i in 1..1} " * 5000 + "check: 1 = 1;\nend;\n", folder, stack=1 << 20)
+            show(f"one statement of {count} tokens", PARSER + ["FILE"], one_statement(count), folder, count)
+        show("50 open parentheses, 1 MB of stack", PARSER + ["FILE"], "param p := " + "(" * 50 + "1" + ")" * 50 + ";\nend;\n", folder, stack=1 << 20)
+        show("5000 heads of for, 1 MB of stack", PARSER + ["FILE"], "for{i in 1..1} " * 5000 + "check: 1 = 1;\nend;\n", folder, stack=1 << 20)
         for columns, rows in ((2000, 20), (10_000, 100), (100_000, 1000)):
             entries = rows * 9 * (columns // rows)
             show(f"{columns} columns, {entries} entries", [PROGRAM, "--math", "FILE", "--check"], columns_and_entries(columns, rows), folder)
