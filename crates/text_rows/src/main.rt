@@ -1,0 +1,21 @@
+//! Answers the rows of the input, which ask for the tokens, the statements, the objects and the data of MathProg texts, and tells
+//! where an answer is not what its row wants.
+#![tactic(auto)]
+
+mod answers;
+mod blocks;
+mod depths;
+mod models;
+mod rows;
+mod statements;
+mod tokens;
+mod words;
+
+use rows::report;
+use std::io;
+
+fn main(rt: HostRuntime) -> io::Result<()> {
+    let text = io::read_to_string(rt.alloc(), rt.reader())?;
+    let told = report(rt.alloc(), text.as_str())?;
+    print!(rt; "{told}")
+}
