@@ -1,5 +1,5 @@
 // What data texts give to the objects of a model, or their first bad block.
-use crate::words::{or_word, push_word};
+use crate::answers::{push_blank, push_where_empty};
 use gmpl_blocks::DataFault;
 use gmpl_data::{DataTables, Given};
 use gmpl_lexer::read_data_tokens;
@@ -10,28 +10,67 @@ use gmpl_token::Tokens;
 use gmpl_value::{SetValue, Symbol, Tuple};
 use model_text::Names;
 use std::alloc::{AllocError, Global};
-use std::mem::ManuallyDrop;
 
 const NAMES: &str = "z p q r c d t h S A B M H x";
 
-fn object(name: &str) -> DataObject {
-    let (sort, subscripts) = match name {
-        "z" => (DataSort::Parameter, 0),
-        "p" | "q" | "r" | "h" => (DataSort::Parameter, 1),
-        "c" | "d" => (DataSort::Parameter, 2),
-        "t" => (DataSort::Parameter, 3),
-        "S" | "H" => (DataSort::Set(1), 0),
-        "A" => (DataSort::Set(2), 0),
-        "B" => (DataSort::Set(3), 0),
-        "M" => (DataSort::Set(1), 1),
-        _ => (DataSort::Other, 0),
-    };
+const PARAMETER: DataObject = DataObject {
+    sort: DataSort::Parameter,
+    subscripts: 1,
+    has_expression: false,
+};
+
+const TABLE: DataObject = DataObject {
+    subscripts: 2,
+    ..PARAMETER
+};
+
+const SET: DataObject = DataObject {
+    sort: DataSort::Set(1),
+    subscripts: 0,
+    has_expression: false,
+};
+
+// What the names stand for.
+static OBJECTS: [DataObject; 14] = [
     DataObject {
-        sort,
-        subscripts,
-        has_expression: name == "h" || name == "H",
-    }
-}
+        subscripts: 0,
+        ..PARAMETER
+    },
+    PARAMETER,
+    PARAMETER,
+    PARAMETER,
+    TABLE,
+    TABLE,
+    DataObject {
+        subscripts: 3,
+        ..PARAMETER
+    },
+    DataObject {
+        has_expression: true,
+        ..PARAMETER
+    },
+    SET,
+    DataObject {
+        sort: DataSort::Set(2),
+        ..SET
+    },
+    DataObject {
+        sort: DataSort::Set(3),
+        ..SET
+    },
+    DataObject {
+        subscripts: 1,
+        ..SET
+    },
+    DataObject {
+        has_expression: true,
+        ..SET
+    },
+    DataObject {
+        sort: DataSort::Other,
+        ..SET
+    },
+];
 
 fn names(alloc: Global) -> Result<Names<'static>, AllocError> {
     let mut names = Names::new(alloc);
@@ -44,55 +83,58 @@ fn names(alloc: Global) -> Result<Names<'static>, AllocError> {
     Ok(names)
 }
 
-fn objects(alloc: Global) -> Result<Vec<DataObject>, AllocError> {
-    let mut objects = Vec::new(alloc);
-    for name in NAMES.split(' ') {
-        objects.push(object(name))?;
-    }
-    Ok(objects)
-}
-
 // ---- answers
 
-fn tuple_text(alloc: Global, tuple: &Tuple) -> Result<String, AllocError> {
-    let mut made = String::new(alloc);
-    for symbol in tuple.symbols() {
-        if !made.is_empty() {
-            made.push('.')?;
-        }
-        made.push_str(symbol_text(alloc, symbol)?.as_str())?;
-    }
-    Ok(made)
+fn push_symbol(alloc: Global, answer: &mut String, symbol: &Symbol) -> Result<(), AllocError> {
+    let text = symbol_text(alloc, symbol)?;
+    answer.push_str(text.as_str())
 }
 
-fn set_text(alloc: Global, set: &SetValue) -> Result<String, AllocError> {
-    let mut made = String::new(alloc);
-    for tuple in set.elements() {
-        if !made.is_empty() {
-            made.push(',')?;
-        }
-        made.push_str(tuple_text(alloc, tuple)?.as_str())?;
-    }
-    format!(in alloc; "{{{made}}}")
-}
-
-fn value_text(alloc: Global, value: &Value) -> Result<String, AllocError> {
-    match value {
-        Value::Scalar(symbol) => symbol_text(alloc, symbol),
-        Value::Elements(set) => set_text(alloc, set),
-    }
-}
-
-fn member_text(
+// Each symbol behind a point, but the first behind this.
+fn push_tuple(
     alloc: Global,
+    answer: &mut String,
+    before: &str,
+    tuple: &Tuple,
+) -> Result<(), AllocError> {
+    let mut before = before;
+    for symbol in tuple.symbols() {
+        answer.push_str(before)?;
+        push_symbol(alloc, answer, symbol)?;
+        before = ".";
+    }
+    Ok(())
+}
+
+fn push_set(alloc: Global, answer: &mut String, set: &SetValue) -> Result<(), AllocError> {
+    answer.push('{')?;
+    let mut before = "";
+    for tuple in set.elements() {
+        push_tuple(alloc, answer, before, tuple)?;
+        before = ",";
+    }
+    answer.push('}')
+}
+
+fn push_value(alloc: Global, answer: &mut String, value: &Value) -> Result<(), AllocError> {
+    match value {
+        Value::Scalar(symbol) => push_symbol(alloc, answer, symbol),
+        Value::Elements(set) => push_set(alloc, answer, set),
+    }
+}
+
+fn push_member(
+    alloc: Global,
+    answer: &mut String,
     name: &str,
     subscripts: &Tuple,
     value: &Value,
-) -> Result<String, AllocError> {
-    let value = value_text(alloc, value)?;
-    let subscripts = tuple_text(alloc, subscripts)?;
-    let point = if subscripts.is_empty() { "" } else { "." };
-    format!(in alloc; "{name}{point}{subscripts}={value}")
+) -> Result<(), AllocError> {
+    push_blank(answer)?;
+    answer.push_str(name)?;
+    push_tuple(alloc, answer, ".", subscripts)?;
+    answer.push('=')?;
+    push_value(alloc, answer, value)
 }
 
 fn push_default(
@@ -101,12 +143,12 @@ fn push_default(
     name: &str,
     value: &Symbol,
 ) -> Result<(), AllocError> {
-    let text = symbol_text(alloc, value)?;
-    let word = format!(in alloc; "{name}*={text}")?;
-    push_word(answer, word.as_str())
+    push_blank(answer)?;
+    write!(answer, "{name}*=")?;
+    push_symbol(alloc, answer, value)
 }
 
-fn push_given(
+fn push_object(
     alloc: Global,
     answer: &mut String,
     name: &str,
@@ -114,8 +156,7 @@ fn push_given(
 ) -> Result<(), AllocError> {
     for place in 0..given.values.len() {
         if let Some((subscripts, value)) = given.values.entry(place) {
-            let word = member_text(alloc, name, subscripts, value)?;
-            push_word(answer, word.as_str())?;
+            push_member(alloc, answer, name, subscripts, value)?;
         }
     }
     match &given.default {
@@ -124,50 +165,34 @@ fn push_given(
     }
 }
 
-fn tables_text(alloc: Global, tables: &DataTables) -> Result<String, AllocError> {
-    let mut answer = String::new(alloc);
+fn push_tables(alloc: Global, answer: &mut String, tables: &DataTables) -> Result<(), AllocError> {
     let mut place = 0usize;
     for name in NAMES.split(' ') {
         if let Some(given) = tables.objects.get(place) {
-            push_given(alloc, &mut answer, name, given)?;
+            push_object(alloc, answer, name, given)?;
         }
         place = place.wrapping_add(1);
     }
-    or_word(answer, "-")
+    push_where_empty(answer, "-")
 }
 
-fn fault_word(alloc: Global, fault: DataFault) -> Result<String, AllocError> {
-    format!(in alloc; "!{:?} {} {}", fault.kind, fault.block, fault.line)
+fn push_fault(answer: &mut String, fault: DataFault) -> Result<(), AllocError> {
+    write!(answer, "!{:?} {} {}", fault.kind, fault.block, fault.line)
 }
 
-fn loaded(alloc: Global, texts: &[Tokens<'_>]) -> Result<DataTables, LoadError> {
+fn push_loaded(alloc: Global, answer: &mut String, texts: &[Tokens<'_>]) -> Result<(), AllocError> {
     let names = names(alloc)?;
-    let objects = objects(alloc)?;
-    load(alloc, &names, &objects, texts)
-}
-
-fn answer(alloc: Global, texts: &[Tokens<'_>]) -> Result<String, AllocError> {
-    match loaded(alloc, texts) {
-        Ok(tables) => tables_text(alloc, &ManuallyDrop::new(tables)),
-        Err(LoadError::Fault(fault)) => fault_word(alloc, fault),
+    match load(alloc, &names, &OBJECTS, texts) {
+        Ok(tables) => push_tables(alloc, answer, &tables),
+        Err(LoadError::Fault(fault)) => push_fault(answer, fault),
         Err(LoadError::NoMemory) => Err(AllocError),
     }
 }
 
-fn tokens_of<'a>(
-    alloc: Global,
-    first: &'a str,
-    second: &'a str,
-) -> Result<Vec<Tokens<'a>>, AllocError> {
-    let mut texts = Vec::new(alloc);
-    texts.push(read_data_tokens(alloc, first.as_bytes(), 0)?)?;
-    texts.push(read_data_tokens(alloc, second.as_bytes(), 0)?)?;
-    Ok(texts)
-}
-
 /// What one or two data texts give, or their first fault.
-pub(crate) fn given(alloc: Global, text: &str) -> Result<String, AllocError> {
+pub(crate) fn push_given(alloc: Global, answer: &mut String, text: &str) -> Result<(), AllocError> {
     let (first, second) = text.split_once(" | ").unwrap_or((text, ""));
-    let texts = tokens_of(alloc, first, second)?;
-    answer(alloc, &texts)
+    let first = read_data_tokens(alloc, first.as_bytes(), 0)?;
+    let second = read_data_tokens(alloc, second.as_bytes(), 0)?;
+    push_loaded(alloc, answer, &[first, second])
 }

@@ -1,9 +1,12 @@
 // Texts in which something is open many times: what stands before it, the opening tokens, what stands inside, the closing tokens,
 // and what stands behind it, with `|` between them.
-use crate::statements::statements;
+use crate::statements::push_statements;
 use std::alloc::{AllocError, Global};
 
-const MOST: usize = 100;
+// More than may be open, and far more.
+const MANY: usize = 60;
+
+const MOST: usize = 5000;
 
 fn push_times(text: &mut String, part: &str, count: usize) -> Result<(), AllocError> {
     for _ in 0..count {
@@ -12,39 +15,44 @@ fn push_times(text: &mut String, part: &str, count: usize) -> Result<(), AllocEr
     Ok(())
 }
 
-// The text with so many open tokens.
-fn text_of(alloc: Global, parts: &str, count: usize) -> Result<String, AllocError> {
-    let mut text = String::new(alloc);
-    let mut place = 0u8;
+// The text with so many open tokens: the second and the fourth part are what stands there so often.
+fn push_text(text: &mut String, parts: &str, count: usize) -> Result<(), AllocError> {
+    let mut is_repeated = false;
     for part in parts.split('|') {
-        let is_repeated = place == 1 || place == 3;
-        push_times(&mut text, part, if is_repeated { count } else { 1 })?;
-        place = place.wrapping_add(1);
+        push_times(text, part, if is_repeated { count } else { 1 })?;
+        is_repeated = !is_repeated;
     }
-    Ok(text)
+    Ok(())
 }
 
-fn statements_at(alloc: Global, parts: &str, count: usize) -> Result<String, AllocError> {
-    let text = text_of(alloc, parts, count)?;
-    statements(alloc, text.as_str())
+fn push_found(
+    alloc: Global,
+    answer: &mut String,
+    parts: &str,
+    count: usize,
+) -> Result<(), AllocError> {
+    let mut text = String::new(alloc);
+    push_text(&mut text, parts, count)?;
+    push_statements(alloc, answer, text.as_str())
 }
 
-/// How often the tokens of these parts may be open where once more is too deep, or the first other fault.
-pub(crate) fn depth(alloc: Global, parts: &str) -> Result<String, AllocError> {
-    for count in 0..MOST {
-        let found = statements_at(alloc, parts, count + 1)?;
-        if found.as_str() == "!TooDeep 1 1" {
-            return count.to_string(alloc);
-        }
-        if found.starts_with('!') {
-            return Ok(found);
+fn is_too_deep(alloc: Global, parts: &str, count: usize) -> Result<bool, AllocError> {
+    let mut found = String::new(alloc);
+    push_found(alloc, &mut found, parts, count)?;
+    Ok(found.as_str() == "!TooDeep 1 1")
+}
+
+/// How often the tokens may be open where once more is too deep; where they may be open any number of times, the statements of a text
+/// in which they are open very often.
+pub(crate) fn push_depth(
+    alloc: Global,
+    answer: &mut String,
+    parts: &str,
+) -> Result<(), AllocError> {
+    for count in 0..MANY {
+        if is_too_deep(alloc, parts, count + 1)? {
+            return write!(answer, "{count}");
         }
     }
-    "any".to_string(alloc)
-}
-
-/// The statements of the text with so many open tokens; the count stands before the parts.
-pub(crate) fn nested(alloc: Global, asked: &str) -> Result<String, AllocError> {
-    let (count, parts) = asked.split_once('|').unwrap_or((asked, ""));
-    statements_at(alloc, parts, count.parse::<usize>().unwrap_or(0))
+    push_found(alloc, answer, parts, MOST)
 }

@@ -1,15 +1,13 @@
-//! Answers the rows of the input, which ask for the tokens, the statements, the objects and the data of MathProg texts, and tells
+//! Answers the rows of the input, which ask for the tokens and the statements of MathProg models and for what data texts give, and tells
 //! where an answer is not what its row wants.
 #![tactic(auto)]
 
 mod answers;
 mod blocks;
 mod depths;
-mod models;
 mod rows;
 mod statements;
 mod tokens;
-mod words;
 
 use rows::report;
 use std::io;

@@ -1,6 +1,6 @@
 // The tables of the input. A line `# name` begins one, and a line `= kind` behind it says what its rows ask for; lines that begin
 // with `#:` are comments. A row is what is wanted, an arrow, and what is asked.
-use crate::answers::answer;
+use crate::answers::push_answer;
 use std::alloc::{AllocError, Global};
 
 // A table so far: how many rows it has, and how many of them differ from what is wanted.
@@ -30,7 +30,7 @@ fn empty_table(name: &str) -> Table<'_> {
     }
 }
 
-// What a line is, where the table has a kind or not.
+// What a line is, in a table that has a kind or not.
 fn line_of(line: &str, has_kind: bool) -> Line<'_> {
     if line.is_empty() || line.starts_with("#:") {
         return Line::Nothing;
@@ -51,7 +51,7 @@ pub(crate) fn report(alloc: Global, text: &str) -> Result<String, AllocError> {
     for line in text.lines() {
         current = behind(alloc, &mut told, &current, line)?;
     }
-    push_end(alloc, &mut told, &current)?;
+    push_end(&mut told, &current)?;
     Ok(told)
 }
 
@@ -65,40 +65,40 @@ fn behind<'a>(
     match line_of(line, !current.kind.is_empty()) {
         Line::Nothing => Ok(*current),
         Line::Kind(kind) => Ok(Table { kind, ..*current }),
-        Line::Row(row) => with_row(alloc, told, current, row),
+        Line::Row(row) => behind_row(alloc, told, current, row),
         Line::Name(name) => {
-            push_end(alloc, told, current)?;
+            push_end(told, current)?;
             Ok(empty_table(name))
         }
     }
 }
 
-// What is found where this is asked.
-fn found(alloc: Global, kind: &str, asked: Option<&str>) -> Result<String, AllocError> {
-    match asked {
-        Some(asked) => answer(alloc, kind, asked.strip_prefix(' ').unwrap_or(asked)),
-        None => "no arrow".to_string(alloc),
-    }
-}
-
-// What a row wants, and what it asks where it has an arrow.
-fn parts(row: &str) -> (&str, Option<&str>) {
-    match row.split_once(" =>") {
-        Some((want, asked)) => (want, Some(asked)),
-        None => (row, None),
-    }
-}
-
-fn with_row<'a>(
+fn behind_row<'a>(
     alloc: Global,
     told: &mut String,
     current: &Table<'a>,
     row: &str,
 ) -> Result<Table<'a>, AllocError> {
-    let (want, asked) = parts(row);
-    let found = found(alloc, current.kind, asked)?;
+    match row.split_once(" =>") {
+        Some((want, asked)) => {
+            let mut found = String::new(alloc);
+            let asked = asked.strip_prefix(' ').unwrap_or(asked);
+            push_answer(alloc, &mut found, current.kind, asked)?;
+            judged(told, current, want, found.as_str())
+        }
+        None => judged(told, current, row, "no arrow"),
+    }
+}
+
+// The table behind a row for which this is found.
+fn judged<'a>(
+    told: &mut String,
+    current: &Table<'a>,
+    want: &str,
+    found: &str,
+) -> Result<Table<'a>, AllocError> {
     let rows = current.rows.saturating_add(1);
-    if found.as_str() == want {
+    if found == want {
         return Ok(Table { rows, ..*current });
     }
     let name = current.name;
@@ -111,7 +111,7 @@ fn with_row<'a>(
 }
 
 // How many rows a table has; where it has no kind and no rows, it is none.
-fn push_end(alloc: Global, told: &mut String, table: &Table<'_>) -> Result<(), AllocError> {
+fn push_end(told: &mut String, table: &Table<'_>) -> Result<(), AllocError> {
     let Table {
         name,
         kind,
@@ -121,10 +121,8 @@ fn push_end(alloc: Global, told: &mut String, table: &Table<'_>) -> Result<(), A
     if rows == 0 && kind.is_empty() {
         return Ok(());
     }
-    let end = if differing == 0 {
-        format!(in alloc; "{name}: {rows} rows as wanted\n")?
-    } else {
-        format!(in alloc; "{name}: {rows} rows, {differing} differ\n")?
-    };
-    told.push_str(end.as_str())
+    if differing == 0 {
+        return write!(told, "{name}: {rows} rows as wanted\n");
+    }
+    write!(told, "{name}: {rows} rows, {differing} differ\n")
 }

@@ -1,162 +1,110 @@
 // The tokens of a text, or the first place where none can stand.
-use crate::words::{or_word, push_word};
+use crate::answers::{push_blank, push_where_empty};
 use gmpl_lexer::{read_data_tokens, read_tokens};
-use gmpl_token::{Token, TokenKind, Tokens};
+use gmpl_token::{LexFault, Token, TokenKind, Tokens};
 use std::alloc::{AllocError, Global};
 
-// A token that has one spelling, or the first one.
-fn delimiter_text(kind: TokenKind) -> &'static str {
-    match kind {
-        TokenKind::Power => "**",
-        TokenKind::DotDot => "..",
-        TokenKind::Assign => ":=",
-        TokenKind::AtMost => "<=",
-        TokenKind::AtLeast => ">=",
-        TokenKind::Unequal => "<>",
-        TokenKind::Arrow => "<-",
-        TokenKind::Plus => "+",
-        TokenKind::Minus => "-",
-        TokenKind::Times => "*",
-        TokenKind::Over => "/",
-        TokenKind::Join => "&",
-        TokenKind::Below => "<",
-        TokenKind::Above => ">",
-        TokenKind::Equal => "=",
-        TokenKind::Point => ".",
-        TokenKind::Comma => ",",
-        TokenKind::Colon => ":",
-        TokenKind::Semicolon => ";",
-        TokenKind::OpenParenthesis => "(",
-        TokenKind::CloseParenthesis => ")",
-        TokenKind::OpenBracket => "[",
-        TokenKind::CloseBracket => "]",
-        TokenKind::OpenBrace => "{",
-        TokenKind::CloseBrace => "}",
-        TokenKind::Tilde => "~",
-        kind => reserved_text(kind),
-    }
-}
-
-fn reserved_text(kind: TokenKind) -> &'static str {
-    match kind {
-        TokenKind::SubjectTo => "st",
-        TokenKind::And => "and",
-        TokenKind::By => "by",
-        TokenKind::Cross => "cross",
-        TokenKind::Diff => "diff",
-        TokenKind::Div => "div",
-        TokenKind::Else => "else",
-        TokenKind::If => "if",
-        TokenKind::In => "in",
-        TokenKind::Inter => "inter",
-        TokenKind::Less => "less",
-        TokenKind::Mod => "mod",
-        TokenKind::Not => "not",
-        TokenKind::Or => "or",
-        TokenKind::Symdiff => "symdiff",
-        TokenKind::Then => "then",
-        TokenKind::Union => "union",
-        TokenKind::Within => "within",
-        _ => "?",
-    }
-}
-
-fn token_word(alloc: Global, token: &Token) -> Result<String, AllocError> {
+// A name, a number or a text as it is written, every other token by its kind.
+fn push_token(answer: &mut String, token: &Token) -> Result<(), AllocError> {
+    push_blank(answer)?;
     let text = token.text();
     match token.kind() {
-        TokenKind::Name => format!(in alloc; "n({text})"),
-        TokenKind::NumericLiteral => format!(in alloc; "l({text})"),
-        TokenKind::StringLiteral => format!(in alloc; "s({text})"),
-        kind => delimiter_text(kind).to_string(alloc),
+        TokenKind::Name => write!(answer, "n({text})"),
+        TokenKind::NumericLiteral => write!(answer, "l({text})"),
+        TokenKind::StringLiteral => write!(answer, "s({text})"),
+        kind => write!(answer, "{kind:?}"),
     }
 }
 
-fn token_words(alloc: Global, tokens: &[Token]) -> Result<String, AllocError> {
-    let mut answer = String::new(alloc);
-    for token in tokens {
-        push_word(&mut answer, token_word(alloc, token)?.as_str())?;
-    }
-    Ok(answer)
+// Where a token stands: its line, and how many bytes are before it.
+fn push_place(answer: &mut String, token: &Token) -> Result<(), AllocError> {
+    push_blank(answer)?;
+    write!(answer, "{}:{}", token.line(), token.at())
+}
+
+fn push_fault(answer: &mut String, fault: LexFault) -> Result<(), AllocError> {
+    push_blank(answer)?;
+    write!(answer, "!{:?} {} {}", fault.kind, fault.line, fault.at)
 }
 
 // The tokens and the fault behind them.
-fn all_words(alloc: Global, tokens: &Tokens) -> Result<String, AllocError> {
-    let mut answer = token_words(alloc, tokens.as_slice())?;
-    if let Some(fault) = tokens.fault() {
-        let word = format!(in alloc; "!{:?} {} {}", fault.kind, fault.line, fault.at)?;
-        push_word(&mut answer, word.as_str())?;
+fn push_words(answer: &mut String, tokens: &Tokens) -> Result<(), AllocError> {
+    for token in tokens.as_slice() {
+        push_token(answer, token)?;
     }
-    or_word(answer, "none")
+    match tokens.fault() {
+        Some(fault) => push_fault(answer, fault),
+        None => push_where_empty(answer, "none"),
+    }
 }
 
-// Where each token stands: its line, and how many bytes are before it.
-fn place_words(alloc: Global, tokens: &[Token]) -> Result<String, AllocError> {
-    let mut answer = String::new(alloc);
+fn push_places(answer: &mut String, tokens: &[Token]) -> Result<(), AllocError> {
     for token in tokens {
-        let place = format!(in alloc; "{}:{}", token.line(), token.at())?;
-        push_word(&mut answer, place.as_str())?;
+        push_place(answer, token)?;
     }
-    or_word(answer, "none")
+    push_where_empty(answer, "none")
 }
 
-// The byte that a mark stands for.
-fn unmarked(byte: u8) -> u8 {
+// The byte that a mark stands for. The first three are marks in all rows, the others in rows of bytes.
+fn unmarked(byte: u8, is_bytes: bool) -> u8 {
     match byte {
         b'$' => b'\n',
         b'?' => b'\r',
         b'%' => b'\t',
+        b'~' if is_bytes => 255,
+        b'^' if is_bytes => 254,
         byte => byte,
-    }
-}
-
-fn unmarked_byte(byte: u8) -> u8 {
-    match byte {
-        b'~' => 255,
-        b'^' => 254,
-        byte => unmarked(byte),
     }
 }
 
 fn text_of(alloc: Global, asked: &str, is_bytes: bool) -> Result<Vec<u8>, AllocError> {
     let mut text = Vec::new(alloc);
     for byte in asked.bytes() {
-        text.push(if is_bytes {
-            unmarked_byte(byte)
-        } else {
-            unmarked(byte)
-        })?;
+        text.push(unmarked(byte, is_bytes))?;
     }
     Ok(text)
 }
 
-/// The tokens of a model's text.
-pub(crate) fn model_tokens(alloc: Global, asked: &str) -> Result<String, AllocError> {
-    let text = text_of(alloc, asked, false)?;
-    all_words(alloc, &read_tokens(alloc, &text)?)
+// The tokens of a model, or of data that begin behind so many bytes.
+fn read<'a>(
+    alloc: Global,
+    kind: &str,
+    text: &'a [u8],
+    start: usize,
+) -> Result<Tokens<'a>, AllocError> {
+    if kind.starts_with("data") {
+        read_data_tokens(alloc, text, start)
+    } else {
+        read_tokens(alloc, text)
+    }
 }
 
-/// The tokens of bytes, of which marks stand for some that are no text.
-pub(crate) fn tokens_of_bytes(alloc: Global, asked: &str) -> Result<String, AllocError> {
-    let text = text_of(alloc, asked, true)?;
-    all_words(alloc, &read_tokens(alloc, &text)?)
+fn push_answer(
+    alloc: Global,
+    answer: &mut String,
+    kind: &str,
+    text: &[u8],
+    start: usize,
+) -> Result<(), AllocError> {
+    let tokens = read(alloc, kind, text, start)?;
+    match kind {
+        "tokens" | "bytes" | "data tokens" => push_words(answer, &tokens),
+        "places" | "data places" => push_places(answer, tokens.as_slice()),
+        _ => answer.push_str("no such kind"),
+    }
 }
 
-/// The places of the tokens of a model's text.
-pub(crate) fn model_places(alloc: Global, asked: &str) -> Result<String, AllocError> {
-    let text = text_of(alloc, asked, false)?;
-    place_words(alloc, read_tokens(alloc, &text)?.as_slice())
-}
-
-/// The tokens of a data text.
-pub(crate) fn data_tokens(alloc: Global, asked: &str) -> Result<String, AllocError> {
-    let text = text_of(alloc, asked, false)?;
-    all_words(alloc, &read_data_tokens(alloc, &text, 0)?)
-}
-
-/// The places of the tokens of a data text, which begins behind so many bytes.
-pub(crate) fn data_places(alloc: Global, asked: &str) -> Result<String, AllocError> {
-    let (start, asked) = asked.split_once(' ').unwrap_or((asked, ""));
-    let start = start.parse::<usize>().unwrap_or(0);
-    let text = text_of(alloc, asked, false)?;
-    place_words(alloc, read_data_tokens(alloc, &text, start)?.as_slice())
+/// The tokens of a text, or their places.
+pub(crate) fn push_tokens(
+    alloc: Global,
+    answer: &mut String,
+    kind: &str,
+    asked: &str,
+) -> Result<(), AllocError> {
+    let (start, asked) = match asked.split_once(' ') {
+        Some((start, text)) if kind == "data places" => (start.parse::<usize>().unwrap_or(0), text),
+        _ => (0, asked),
+    };
+    let text = text_of(alloc, asked, kind == "bytes")?;
+    push_answer(alloc, answer, kind, &text, start)
 }
