@@ -94,7 +94,7 @@ class Account:
         demand(words[:3] == [str(self.splits), str(self.events), self.value()], "the account at the end")
         left = len(self.leaves) - self.count("closed")
         verdict = "infeasible" if self.best is None else "optimal"
-        demand(words[3:] == (["open", str(left)] if left else [verdict]), "the verdict")
+        demand(words[3:] == [str(left), "open" if left else verdict], "the verdict")
 
 
 def follow_row(model, row):

@@ -2,23 +2,25 @@
 use crate::leaves::{graft, tree_for};
 use crate::offers::may_be_offered;
 use crate::programs::verdict_word;
-use crate::texts::problem_of;
+use crate::texts::{cut, point_of};
 use cert_check::{Checked, check};
 use certificate::{Certificate, DerivedRows, Side};
 use fraction::Frac;
-use instance::{Instance, Point};
+use instance::Instance;
 use search_node::SplitTaken;
 use search_tree::Lease;
 use std::alloc::{AllocError, Global};
 use tree_pool::{Board, LeaseAnswer};
 
 /// How the board of a problem ends at which these events come, or the first of them with its reply where the row has another.
-pub(crate) fn played(alloc: Global, model: &str, asked: &str) -> Result<String, AllocError> {
+pub(crate) fn played(alloc: Global, problem: &Instance, asked: &str) -> Result<String, AllocError> {
     let (limit, steps) = asked.split_once(": ").unwrap_or((asked, ""));
-    match problem_of(alloc, model)? {
-        Some(problem) => played_on(alloc, board_of(alloc, problem, number(limit))?, steps),
-        None => "no problem".to_string(alloc),
-    }
+    let mut board = board_of(alloc, problem.copy(alloc)?, number(limit))?;
+    let told = told(alloc, &mut board, steps);
+    let verdict = verdict_of(alloc, board, problem);
+    let told = told?;
+    let verdict = verdict?;
+    format!(in alloc; "{told} {verdict}")
 }
 
 // A board at its start, without cuts.
@@ -26,24 +28,58 @@ fn board_of(alloc: Global, problem: Instance, limit: usize) -> Result<Board, All
     Board::start(alloc, problem, DerivedRows::new(alloc), limit, 100)
 }
 
-fn played_on(alloc: Global, board: Board, steps: &str) -> Result<String, AllocError> {
-    let mut board = board;
-    match differing(alloc, &mut board, steps)? {
-        Some(step) => Ok(step),
-        None => end_words(alloc, board),
-    }
-}
-
-// The first event whose reply is another than the row's, with this reply.
-fn differing(alloc: Global, board: &mut Board, steps: &str) -> Result<Option<String>, AllocError> {
+// The number of splits, that of events, the best value, and how many leaves are not closed; or the first event whose reply is another than
+// the row's, with this reply.
+fn told(alloc: Global, board: &mut Board, steps: &str) -> Result<String, AllocError> {
     for step in steps.split("; ") {
         let (event, wanted) = step.split_once(" > ").unwrap_or((step, ""));
         let found = reply(alloc, board, event)?;
         if found.as_str() != wanted {
-            return Ok(Some(format!(in alloc; "{event} > {found}")?));
+            return format!(in alloc; "{event} > {found}");
         }
     }
-    Ok(None)
+    account(alloc, board)
+}
+
+fn account(alloc: Global, board: &mut Board) -> Result<String, AllocError> {
+    let best = value_word(alloc, &board.best_value())?;
+    let (splits, events) = (board.splits(), board.events());
+    let open = open_leaves(alloc, board)?;
+    format!(in alloc; "{splits} {events} {best} {open}")
+}
+
+// How many leaves are not closed: as many as can be leased.
+fn open_leaves(alloc: Global, board: &mut Board) -> Result<usize, AllocError> {
+    board.reclaim(alloc)?;
+    for _ in 0..1000u32 {
+        if let LeaseAnswer::Idle(count) = board.lease(alloc, 0)? {
+            return Ok(count);
+        }
+    }
+    Ok(1000)
+}
+
+// The verdict of the certificate of a board whose leaves are all closed, where the checker accepts it.
+fn verdict_of(alloc: Global, board: Board, problem: &Instance) -> Result<&'static str, AllocError> {
+    if !board.is_finished() {
+        std::mem::drop(board);
+        return Ok("open");
+    }
+    match board.into_certificate(alloc).ok() {
+        None => Err(AllocError),
+        Some(certificate) => {
+            let word = accepted_verdict(problem, &certificate);
+            std::mem::drop(certificate);
+            Ok(word)
+        }
+    }
+}
+
+fn accepted_verdict(problem: &Instance, certificate: &Certificate) -> &'static str {
+    match check(problem, certificate) {
+        Ok(Checked::Accepted) => verdict_word(certificate),
+        _ => "not accepted",
+    }
 }
 
 // The reply to an event; `refused` where the board may not be asked for it.
@@ -63,7 +99,10 @@ fn reply(alloc: Global, board: &mut Board, event: &str) -> Result<String, AllocE
 fn leased(alloc: Global, board: &mut Board, seat: usize) -> Result<String, AllocError> {
     match board.lease(alloc, seat)? {
         LeaseAnswer::Idle(count) => format!(in alloc; "idle {count}"),
-        LeaseAnswer::Leased(lease, _hint) => lease_words(alloc, board, &lease),
+        LeaseAnswer::Leased(lease, hint) => {
+            std::mem::drop(hint);
+            lease_words(alloc, board, &lease)
+        }
     }
 }
 
@@ -98,7 +137,7 @@ fn reclaimed(alloc: Global, board: &mut Board) -> Result<String, AllocError> {
     "done".to_string(alloc)
 }
 
-// A point and its value as the row has it; `refused` where it is not feasible.
+// A point, and its value as the row has it; `refused` where it is not feasible.
 fn offered(
     alloc: Global,
     board: &mut Board,
@@ -116,15 +155,6 @@ fn offered(
     }
 }
 
-// The numbers of a point, with commas between them.
-fn point_of(alloc: Global, words: &str) -> Result<Point, AllocError> {
-    let mut numbers = Vec::new(alloc);
-    for word in words.split(',') {
-        numbers.push(Frac::read_canonical(word).unwrap_or(Frac::zero()))?;
-    }
-    Ok(Point::from_vec(numbers))
-}
-
 fn grafted(
     alloc: Global,
     board: &mut Board,
@@ -140,63 +170,6 @@ fn grafted(
         None => "refused".to_string(alloc),
         Some(tree) => value_word(alloc, &graft(alloc, board, seat, lease, tree)?),
     }
-}
-
-// The number of splits, that of events, the best value, and the verdict, or how many leaves are not closed.
-fn end_words(alloc: Global, board: Board) -> Result<String, AllocError> {
-    let account = account(alloc, &board)?;
-    let outcome = outcome(alloc, board)?;
-    format!(in alloc; "{account} {outcome}")
-}
-
-fn account(alloc: Global, board: &Board) -> Result<String, AllocError> {
-    let best = value_word(alloc, &board.best_value())?;
-    let (splits, events) = (board.splits(), board.events());
-    format!(in alloc; "{splits} {events} {best}")
-}
-
-fn outcome(alloc: Global, board: Board) -> Result<String, AllocError> {
-    if board.is_finished() {
-        return ended(alloc, board)?.to_string(alloc);
-    }
-    let mut board = board;
-    let count = open_leaves(alloc, &mut board)?;
-    format!(in alloc; "open {count}")
-}
-
-// How many leaves are not closed: as many as can be leased.
-fn open_leaves(alloc: Global, board: &mut Board) -> Result<usize, AllocError> {
-    board.reclaim(alloc)?;
-    for _ in 0..1000u32 {
-        if let LeaseAnswer::Idle(count) = board.lease(alloc, 0)? {
-            return Ok(count);
-        }
-    }
-    Ok(1000)
-}
-
-// The verdict of the certificate of a board whose leaves are all closed, where the checker accepts it.
-fn ended(alloc: Global, board: Board) -> Result<&'static str, AllocError> {
-    if !board.is_finished() {
-        return Ok("open");
-    }
-    let problem = board.problem().copy(alloc)?;
-    match board.into_certificate(alloc).ok() {
-        None => Err(AllocError),
-        Some(certificate) => Ok(checked(&problem, &certificate)),
-    }
-}
-
-fn checked(problem: &Instance, certificate: &Certificate) -> &'static str {
-    match check(problem, certificate) {
-        Ok(Checked::Accepted) => verdict_word(certificate),
-        _ => "not accepted",
-    }
-}
-
-// A word, and what comes behind the blank after it.
-fn cut(words: &str) -> (&str, &str) {
-    words.split_once(' ').unwrap_or((words, ""))
 }
 
 // A number, 0 for other words.

@@ -1,21 +1,21 @@
 // Certificates that are read, written and checked.
-use crate::texts::{bytes_of, in_marks, problem_of};
+use crate::texts::{bytes_of, cut, in_marks};
 use cert_check::{CheckFault, Checked, check};
 use certificate::{Certificate, text};
 use certificate_reader::{CertError, CertFault, FaultKind, read};
 use instance::Instance;
 use std::alloc::{AllocError, Global};
 
-/// The first fault of a text that begins so, or `the same` where it is that of the certificate that is read.
+/// The first fault of a text that begins so, or `the same` where it is the text of the certificate that is read.
 pub(crate) fn read_back(alloc: Global, beginning: &str, asked: &str) -> Result<String, AllocError> {
     let mut bytes = bytes_of(alloc, beginning)?;
     bytes.extend_from_slice(&bytes_of(alloc, asked)?)?;
     told(alloc, &bytes, None)
 }
 
-/// The same of a text that goes on with a text so many times.
+/// The same of a text that goes on with another one so many times.
 pub(crate) fn deep(alloc: Global, beginning: &str, asked: &str) -> Result<String, AllocError> {
-    let (times, text) = asked.split_once(' ').unwrap_or((asked, ""));
+    let (times, text) = cut(asked);
     let mut bytes = bytes_of(alloc, beginning)?;
     let more = bytes_of(alloc, text)?;
     for _ in 0..times.parse::<u32>().unwrap_or(0) {
@@ -25,18 +25,23 @@ pub(crate) fn deep(alloc: Global, beginning: &str, asked: &str) -> Result<String
 }
 
 /// What the check of a certificate for a problem answers, or the first fault of its text.
-pub(crate) fn checked(alloc: Global, problem: &str, asked: &str) -> Result<String, AllocError> {
+pub(crate) fn checked(
+    alloc: Global,
+    problem: &Instance,
+    asked: &str,
+) -> Result<String, AllocError> {
     let bytes = bytes_of(alloc, asked)?;
-    match problem_of(alloc, problem)? {
-        Some(problem) => told(alloc, &bytes, Some(&problem)),
-        None => "no problem".to_string(alloc),
-    }
+    told(alloc, &bytes, Some(problem))
 }
 
-// The first fault of a text, or what becomes of the certificate that it is the text of.
+// The first fault of a text, or what becomes of its certificate.
 fn told(alloc: Global, bytes: &[u8], problem: Option<&Instance>) -> Result<String, AllocError> {
     match read(alloc, bytes) {
-        Ok(certificate) => certificate_told(alloc, &certificate, bytes, problem),
+        Ok(certificate) => {
+            let told = certificate_told(alloc, &certificate, bytes, problem);
+            std::mem::drop(certificate);
+            told
+        }
         Err(CertError::Fault(fault)) => fault_words(alloc, fault),
         Err(CertError::NoMemory) => Err(AllocError),
     }

@@ -62,7 +62,9 @@ fn treatment_of(
     }
     root_is_over_columns(problem);
     let hint = no_hint();
-    Ok(Some(treat(alloc, problem, cuts, node, best, 100, &hint)?))
+    let treatment = treat(alloc, problem, cuts, node, best, 100, &hint);
+    std::mem::drop(hint);
+    Ok(Some(treatment?))
 }
 
 fn are_none(cuts: &DerivedRows) -> bool
@@ -118,7 +120,10 @@ fn tree_of_closed(
         Treatment::Bounded(weights) => {
             leaf_tree(alloc, board, lease, node, Leaf::Bounded(weights))
         }
-        _ => Ok(None),
+        other => {
+            std::mem::drop(other);
+            Ok(None)
+        }
     }
 }
 
@@ -153,9 +158,30 @@ fn split_tree(
         return Ok(None);
     }
     match treatment_of(alloc, board, node, &lease.best)? {
-        Some(Treatment::ToSplit(fractional)) => {
-            divided(alloc, board, lease, node, &fractional, words)
+        Some(treatment) => {
+            let tree = tree_of_split(alloc, board, lease, node, &treatment, words);
+            std::mem::drop(treatment);
+            tree
         }
+        None => Ok(None),
+    }
+}
+
+fn tree_of_split(
+    alloc: Global,
+    board: &Board,
+    lease: &Lease,
+    node: &Node,
+    treatment: &Treatment,
+    words: &str,
+) -> Result<Option<Subtree>, AllocError>
+    requires leads { LeadTo board.now lease.now (sides_of node.now.splits) }
+    requires treatment { IsTreatment board.now.problem board.now.cuts 100 (sides_of node.now.splits) lease.now.best treatment.now }
+    requires grant { 1 ≤ lease.now.grant }
+    ensures { IfOk result (λ tree. IfSome tree (MayStand board.now lease.now)) }
+{
+    match treatment {
+        Treatment::ToSplit(fractional) => divided(alloc, board, lease, node, fractional, words),
         _ => Ok(None),
     }
 }

@@ -1,36 +1,50 @@
 // Linear programs: the certificates that are found for them, and candidates for a verdict, wrong ones and right ones, handed on in place of
 // what the search proposes.
-ghost use Rattle.std.specs.Prelude.{◌≡◌, false, IfOk, IfSome};
+ghost use Rattle.std.specs.Prelude.{◌≡◌, false};
 ghost use Rattle.branch_solve.specs.Root.{NoneInteger};
 
-use crate::texts::{bytes_of, in_marks};
+use crate::texts::{bytes_of, cut, in_marks, point_of};
 use branch_solve::{SolveFault, solve, solve_with};
 use candidate::{Candidate, ProposedOptimum, ProposedRay, propose};
 use certificate::{Certificate, Item, Items, Weights, text};
 use fraction::Frac;
-use instance::{Column, Instance, Point};
+use instance::{Column, Instance};
 use mps_reader::read_mps;
 use search_node::{Basis, SplitsTaken};
 use std::alloc::{AllocError, Global};
 
-// The problem without integer columns that a free MPS text declares.
-fn linear_program(alloc: Global, text: &str) -> Result<Option<Instance>, AllocError>
-    ensures { IfOk result (λ problem. IfSome problem (λ p. NoneInteger p.columns)) }
-{
-    let bytes = bytes_of(alloc, text)?;
-    match read_mps(alloc, &bytes) {
-        Ok(problem) => Ok(without_integers(problem)),
-        Err(_) => Ok(None),
-    }
+/// What is proposed for the problem of a free MPS text, and the certificate that is found.
+pub(crate) fn solved(alloc: Global, model: &str) -> Result<String, AllocError> {
+    of_model(alloc, model, None)
 }
 
-fn without_integers(problem: Instance) -> Option<Instance>
-    ensures { IfSome result (λ p. NoneInteger p.columns) }
-{
+/// The certificate that is found where the candidate of a row is proposed, within so many steps of the run.
+pub(crate) fn judged(alloc: Global, model: &str, asked: &str) -> Result<String, AllocError> {
+    of_model(alloc, model, Some(asked))
+}
+
+fn of_model(alloc: Global, model: &str, asked: Option<&str>) -> Result<String, AllocError> {
+    let bytes = bytes_of(alloc, model)?;
+    let problem = read_mps(alloc, &bytes);
+    let found = match &problem {
+        Ok(problem) => of_problem(alloc, problem, asked),
+        Err(_) => "no problem".to_string(alloc),
+    };
+    std::mem::drop(problem);
+    found
+}
+
+fn of_problem(
+    alloc: Global,
+    problem: &Instance,
+    asked: Option<&str>,
+) -> Result<String, AllocError> {
     if has_integer(problem.columns()) {
-        None
-    } else {
-        Some(problem)
+        return "no linear program".to_string(alloc);
+    }
+    match asked {
+        None => proposed_and_found(alloc, problem),
+        Some(asked) => with_candidate(alloc, problem, asked),
     }
 }
 
@@ -46,56 +60,63 @@ fn has_integer(columns: &[Column]) -> bool
     false
 }
 
-/// What is proposed for the problem of a free MPS text, and the certificate that is found.
-pub(crate) fn solved(alloc: Global, model: &str) -> Result<String, AllocError> {
-    match linear_program(alloc, model)? {
-        Some(problem) => {
-            let proposed = proposed(alloc, &problem)?;
-            let found = verdict_words(alloc, solve(alloc, &problem, 100))?;
-            format!(in alloc; "{proposed}: {found}")
-        }
-        None => "no problem".to_string(alloc),
-    }
+fn proposed_and_found(alloc: Global, problem: &Instance) -> Result<String, AllocError>
+    requires { NoneInteger problem.now.columns }
+{
+    let proposed = proposed(alloc, problem)?;
+    let found = found(alloc, problem)?;
+    format!(in alloc; "{proposed}: {found}")
 }
 
 // What the search proposes.
 fn proposed(alloc: Global, problem: &Instance) -> Result<&'static str, AllocError> {
-    match propose(alloc, problem, &SplitsTaken::new(alloc), None, 100)? {
-        Some(Candidate::Optimal(_)) => Ok("optimal"),
-        Some(Candidate::Infeasible(_)) => Ok("infeasible"),
-        Some(Candidate::Unbounded(_)) => Ok("unbounded"),
-        None => Ok("nothing"),
-    }
+    let candidate = propose(alloc, problem, &SplitsTaken::new(alloc), None, 100)?;
+    let word = match &candidate {
+        Some(Candidate::Optimal(_)) => "optimal",
+        Some(Candidate::Infeasible(_)) => "infeasible",
+        Some(Candidate::Unbounded(_)) => "unbounded",
+        None => "nothing",
+    };
+    std::mem::drop(candidate);
+    Ok(word)
+}
+
+fn found(alloc: Global, problem: &Instance) -> Result<String, AllocError>
+    requires { NoneInteger problem.now.columns }
+{
+    let verdict = solve(alloc, problem, 100);
+    let words = verdict_words(alloc, &verdict);
+    std::mem::drop(verdict);
+    words
+}
+
+fn with_candidate(alloc: Global, problem: &Instance, asked: &str) -> Result<String, AllocError>
+    requires { NoneInteger problem.now.columns }
+{
+    let (steps, words) = cut(asked);
+    let candidate = candidate(alloc, words)?;
+    let limit = steps.parse::<u32>().unwrap_or(1);
+    let verdict = solve_with(alloc, problem, Some(candidate), limit);
+    let words = verdict_words(alloc, &verdict);
+    std::mem::drop(verdict);
+    words
 }
 
 fn verdict_words(
     alloc: Global,
-    verdict: Result<Certificate, SolveFault>,
+    verdict: &Result<Certificate, SolveFault>,
 ) -> Result<String, AllocError> {
     match verdict {
-        Ok(certificate) => in_marks(alloc, &text(alloc, &certificate)?),
+        Ok(certificate) => in_marks(alloc, &text(alloc, certificate)?),
         Err(SolveFault::PivotLimit(_)) => "undecided".to_string(alloc),
         Err(_) => "no verdict".to_string(alloc),
-    }
-}
-
-/// The certificate that is found where the candidate of a row is proposed, within so many steps of the run.
-pub(crate) fn judged(alloc: Global, model: &str, asked: &str) -> Result<String, AllocError> {
-    let (steps, words) = asked.split_once(' ').unwrap_or((asked, ""));
-    match linear_program(alloc, model)? {
-        Some(problem) => {
-            let candidate = candidate(alloc, words)?;
-            let limit = steps.parse::<u32>().unwrap_or(1);
-            verdict_words(alloc, solve_with(alloc, &problem, Some(candidate), limit))
-        }
-        None => "no problem".to_string(alloc),
     }
 }
 
 // A verdict with its numbers: a point for `optimal`, with the weight 1 of the first column, and for `unweighed`, which has no weights; a
 // point and a ray for `unbounded`. `infeasible` has that weight alone.
 fn candidate(alloc: Global, words: &str) -> Result<Candidate, AllocError> {
-    let (verdict, numbers) = words.split_once(' ').unwrap_or((words, ""));
+    let (verdict, numbers) = cut(words);
     match verdict {
         "optimal" => optimum(alloc, numbers, one_weight(alloc)?),
         "unweighed" => optimum(alloc, numbers, Weights::none(alloc)),
@@ -128,12 +149,4 @@ fn one_weight(alloc: Global) -> Result<Weights, AllocError> {
         weight: Frac::one(),
     })?;
     Ok(Weights::new(Items::new(alloc), columns, Items::new(alloc)))
-}
-
-fn point_of(alloc: Global, numbers: &str) -> Result<Point, AllocError> {
-    let mut all = Vec::new(alloc);
-    for word in numbers.split(' ') {
-        all.push(Frac::read_canonical(word).unwrap_or(Frac::zero()))?;
-    }
-    Ok(Point::from_vec(all))
 }

@@ -1,16 +1,16 @@
-// Integer programs, and problems of all kinds, with their verdicts.
-use crate::texts::problem_of;
+// Integer programs, and problems of all kinds, with their verdicts; and optimal points of relaxations.
+use crate::texts::{cut, numbers_of};
 use branch_search::{SearchFault, VerdictFault, Wanted, search, solve};
 use candidate::{Candidate, ProposedOptimum, propose};
 use certificate::{Certificate, DerivedRows, Verdict};
-use instance::{Instance, Point};
+use instance::Instance;
 use search_node::SplitsTaken;
 use search_tree::{Path, is_optimal};
 use std::alloc::{AllocError, Global};
 
 // The limit of splits and that of steps.
 fn limits_of(words: &str) -> (usize, u32) {
-    let (splits, steps) = words.split_once(' ').unwrap_or((words, ""));
+    let (splits, steps) = cut(words);
     let splits = splits.parse::<usize>().unwrap_or(0);
     (splits, steps.parse::<u32>().unwrap_or(1))
 }
@@ -18,50 +18,50 @@ fn limits_of(words: &str) -> (usize, u32) {
 /// The verdict of a problem that a search over its integer columns finds within limits, or why it finds none.
 pub(crate) fn found_by_search(
     alloc: Global,
+    problem: &Instance,
     limits: &str,
-    model: &str,
 ) -> Result<String, AllocError> {
     let (splits, steps) = limits_of(limits);
-    match problem_of(alloc, model)? {
-        Some(problem) => match search(alloc, &problem, splits, steps) {
-            Ok(certificate) => verdict_words(alloc, &certificate),
-            Err(fault) => search_fault(alloc, fault),
-        },
-        None => "no problem".to_string(alloc),
-    }
+    let verdict = search(alloc, problem, splits, steps);
+    let words = match &verdict {
+        Ok(certificate) => verdict_words(alloc, certificate),
+        Err(fault) => search_fault(fault).to_string(alloc),
+    };
+    std::mem::drop(verdict);
+    words
 }
 
-fn search_fault(alloc: Global, fault: SearchFault) -> Result<String, AllocError> {
+fn search_fault(fault: &SearchFault) -> &'static str {
     match fault {
-        SearchFault::NoFit(_) => "overflow".to_string(alloc),
-        SearchFault::PivotLimit(_) => "steps".to_string(alloc),
-        SearchFault::SplitLimit => "splits".to_string(alloc),
-        SearchFault::Unbounded(_) => "ray".to_string(alloc),
-        SearchFault::NoMemory => Err(AllocError),
+        SearchFault::NoFit(_) => "overflow",
+        SearchFault::PivotLimit(_) => "steps",
+        SearchFault::SplitLimit => "splits",
+        SearchFault::Unbounded(_) => "ray",
+        SearchFault::NoMemory => "no memory",
     }
 }
 
 /// The verdict of any problem within limits, or why there is none and what was wanted.
 pub(crate) fn found_by_solve(
     alloc: Global,
+    problem: &Instance,
     limits: &str,
-    model: &str,
 ) -> Result<String, AllocError> {
     let (splits, steps) = limits_of(limits);
-    match problem_of(alloc, model)? {
-        Some(problem) => match solve(alloc, &problem, splits, steps) {
-            Ok(certificate) => verdict_words(alloc, &certificate),
-            Err(fault) => fault_words(alloc, fault),
-        },
-        None => "no problem".to_string(alloc),
-    }
+    let verdict = solve(alloc, problem, splits, steps);
+    let words = match &verdict {
+        Ok(certificate) => verdict_words(alloc, certificate),
+        Err(fault) => fault_words(alloc, fault),
+    };
+    std::mem::drop(verdict);
+    words
 }
 
-fn fault_words(alloc: Global, fault: VerdictFault) -> Result<String, AllocError> {
+fn fault_words(alloc: Global, fault: &VerdictFault) -> Result<String, AllocError> {
     match fault {
-        VerdictFault::NoFit(wanted, _) => with_wanted(alloc, "overflow", wanted),
-        VerdictFault::PivotLimit(wanted, _) => with_wanted(alloc, "steps", wanted),
-        VerdictFault::SplitLimit(wanted) => with_wanted(alloc, "splits", wanted),
+        VerdictFault::NoFit(wanted, _) => with_wanted(alloc, "overflow", *wanted),
+        VerdictFault::PivotLimit(wanted, _) => with_wanted(alloc, "steps", *wanted),
+        VerdictFault::SplitLimit(wanted) => with_wanted(alloc, "splits", *wanted),
         VerdictFault::NoMemory => Err(AllocError),
     }
 }
@@ -95,47 +95,26 @@ pub(crate) fn verdict_word(certificate: &Certificate) -> &'static str {
 }
 
 /// The point that is proposed for a problem's relaxation, where it is shown to be an optimal one.
-pub(crate) fn shown_optimum(alloc: Global, model: &str) -> Result<String, AllocError> {
-    match problem_of(alloc, model)? {
-        Some(problem) => optimum_words(alloc, &problem),
-        None => "no problem".to_string(alloc),
-    }
-}
-
-fn optimum_words(alloc: Global, problem: &Instance) -> Result<String, AllocError> {
-    match propose(alloc, problem, &SplitsTaken::new(alloc), None, 100)? {
-        Some(Candidate::Optimal(found)) => {
-            if is_shown(alloc, problem, &found)? {
-                numbers_of(alloc, &found.point)
-            } else {
-                "not shown".to_string(alloc)
-            }
-        }
+pub(crate) fn shown_optimum(alloc: Global, problem: &Instance) -> Result<String, AllocError> {
+    let candidate = propose(alloc, problem, &SplitsTaken::new(alloc), None, 100)?;
+    let words = match &candidate {
+        Some(Candidate::Optimal(found)) => optimum_words(alloc, problem, found),
         _ => "no point".to_string(alloc),
-    }
+    };
+    std::mem::drop(candidate);
+    words
 }
 
-fn is_shown(
+fn optimum_words(
     alloc: Global,
     problem: &Instance,
     found: &ProposedOptimum,
-) -> Result<bool, AllocError> {
+) -> Result<String, AllocError> {
     let root = SplitsTaken::new(alloc);
     let path = Path::below(alloc, &root)?;
     let cuts = DerivedRows::new(alloc);
     match is_optimal(problem, &cuts, &root, &path, &found.point, &found.weights) {
-        Ok(shown) => Ok(shown),
-        Err(_) => Ok(false),
+        Ok(true) => numbers_of(alloc, &found.point),
+        _ => "not shown".to_string(alloc),
     }
-}
-
-fn numbers_of(alloc: Global, point: &Point) -> Result<String, AllocError> {
-    let mut numbers = String::new(alloc);
-    for number in point.as_slice() {
-        if !numbers.is_empty() {
-            numbers.push(' ')?;
-        }
-        numbers.push_str(number.text(alloc)?.as_str())?;
-    }
-    Ok(numbers)
 }
