@@ -12,7 +12,8 @@ use Rattle.glpsol_cli.specs.Texts.{IsTableInTurn, OfPieces, OfTexts}
 use Rattle.glpsol_cli.specs.Cause.{Cause, EndsBehind, IsProved, IsReached, IsTranslated, OfCertificate, IsAccepted, IsRefusedAt, IsNoCertificate, IsOverflow, IsUndecided, RoseAt}
 use Rattle.glpsol_cli.specs.Meaning.{IsRefused}
 use Rattle.glpsol_cli.specs.Written.{ThenLine, Written, line_of}
-use Rattle.glpsol_cli.specs.Stages.{AreRead, CauseIn, ReachedIn, PiecesIn, IsStop, IsUnread, WrittenSince, stop_answer, unread_answer}
+use Rattle.glpsol_cli.specs.Stages.{AreRead, IsStop, IsUnread, WrittenSince, stop_answer, unread_answer}
+use Rattle.glpsol_cli.specs.Together.{CauseIn, ReachedIn, PiecesIn}
 use Rattle.glpsol_cli.specs.declared.answer.Answer.{Answer}
 use Rattle.glpsol_cli.specs.declared.answer.Answer.TheVariants.{Optimal, Infeasible, Unbounded, Translated, Accepted, Usage, Missing, OpenFault, ReadFault, WriteFault, TooLong, BadText, FaultBehindSolve, BadCertificate, Overflow, Undecided, Refused, NoMemory}
 use Rattle.glpsol_cli.specs.declared.answer.Reached.{Reached}

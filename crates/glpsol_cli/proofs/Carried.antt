@@ -17,7 +17,8 @@ use Rattle.glpsol_cli.specs.Pieces.{Piece, Outside, SameNames, AllWritten, Whole
 use Rattle.glpsol_cli.specs.Meaning.{Behind, Declared, IsAsked, Meaning, behind_at, behind_of, found_pieces, meaning_in, meaning_of}
 use Rattle.glpsol_cli.specs.Cause.{Cause, EndsBehind, IsProved, IsTranslated, reached_of}
 use Rattle.glpsol_cli.specs.Written.{Written, ThenLine, extent_of, line_of}
-use Rattle.glpsol_cli.specs.Stages.{CauseIn, EndsWriting, HasFailed, IsEndBehind, IsEndIn, IsFinding, IsKept, IsPublished, IsStop, IsSubject, IsUnfound, LeftIn, LeftWritten, PiecesIn, ReachedIn, RestWritten, behind_in, best_answer, pieces_of, reached_by, stop_answer, unfound_answer, unwritten_answer}
+use Rattle.glpsol_cli.specs.Stages.{EndsWriting, HasFailed, IsEndBehind, IsEndIn, IsFinding, IsKept, IsPublished, IsStop, IsSubject, IsUnfound, LeftIn, LeftWritten, RestWritten, behind_in, best_answer, pieces_of, reached_by, stop_answer, unfound_answer, unwritten_answer}
+use Rattle.glpsol_cli.specs.Together.{CauseIn, PiecesIn, ReachedIn}
 use Rattle.glpsol_cli.specs.declared.answer.Answer.{Answer}
 use Rattle.glpsol_cli.specs.declared.answer.Answer.TheVariants.{Infeasible, Unbounded, Translated, Accepted, BadText, NoMemory}
 use Rattle.glpsol_cli.specs.declared.answer.Reached.{Reached}
@@ -61,7 +62,7 @@ pub reached_unwritten : (r : Reached) (fault : PublishFault) → reached_of (unw
 reached_unwritten r (Write target) = refl
 reached_unwritten r PublishNoMemory = refl
 
-unwritten_cause : (s : Settings) (texts : List (List ℕ)) (files_rose out_rose : Type 0) (r : Reached) (fault : PublishFault) → ReachedIn s texts r → HasFailed files_rose out_rose fault → CauseIn s texts files_rose out_rose (unwritten_answer r fault)
+pub unwritten_cause : (s : Settings) (texts : List (List ℕ)) (files_rose out_rose : Type 0) (r : Reached) (fault : PublishFault) → ReachedIn s texts r → HasFailed files_rose out_rose fault → CauseIn s texts files_rose out_rose (unwritten_answer r fault)
 unwritten_cause s texts files_rose out_rose r (Write target) h failed = (h, failed)
 unwritten_cause s texts files_rose out_rose r PublishNoMemory h failed = h
 

@@ -11,7 +11,8 @@ use Rattle.glpsol_cli.specs.Meaning.{HasDone, HasFound, Meaning, files_behind, f
 use Rattle.glpsol_cli.specs.Texts.{IsTableInTurn, OfPieces, OfTexts}
 use Rattle.glpsol_cli.specs.Cause.{Cause, reached_of}
 use Rattle.glpsol_cli.specs.Written.{Written, ThenLine, extent_of, line_of}
-use Rattle.glpsol_cli.specs.Stages.{AreInputs, CauseIn, EndsWriting, HasFailed, IsEndOf, IsExecution, IsHalt, IsHaltOrUnread, IsRun, IsUnread, IsUnwritten, IsWhole, LeftWritten, Moment, WrittenSince, texts_in, unread_answer, unwritten_answer}
+use Rattle.glpsol_cli.specs.Stages.{AreInputs, EndsWriting, HasFailed, IsEndOf, IsExecution, IsHalt, IsHaltOrUnread, IsRun, IsUnread, IsUnwritten, IsWhole, LeftWritten, Moment, WrittenSince, texts_in, unread_answer, unwritten_answer}
+use Rattle.glpsol_cli.specs.Together.{CauseIn}
 use Rattle.glpsol_cli.specs.declared.answer.Answer.{Answer}
 use Rattle.glpsol_cli.specs.declared.answer.Answer.TheVariants.{NoMemory}
 use Rattle.glpsol_cli.specs.declared.answer.Reached.{Reached}

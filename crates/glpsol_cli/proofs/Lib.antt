@@ -9,6 +9,8 @@ pub mod FilesRead
 pub mod Carried
 pub mod Ended
 pub mod Verdicts
+pub mod Limits
+pub mod Stories
 pub mod Completes
 mod OneColumn
 mod OneNode

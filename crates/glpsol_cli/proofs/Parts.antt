@@ -62,6 +62,7 @@ says_behind told (p ∷ ps) old new says all name is h = says_behind (told_writt
 pub text_of_less : (less more : Option (Option (List ℕ))) → ((is : Option (List ℕ)) → less ≡ Some is → more ≡ Some is) → (text : List ℕ) → IsTextOf more text → IsTextOf less text
 text_of_less less more f text h = record {
   there = record { there = λ lacks. h.there.there (f None lacks); within = λ has_text has. h.there.within has_text (f (Some has_text) has) };
+  short = h.short;
   is = λ bytes has. h.is bytes (f (Some bytes) has);
 }
 

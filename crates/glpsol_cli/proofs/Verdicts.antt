@@ -73,15 +73,15 @@ module _ (words : List (List ℕ)) (told : ToldNames) (c : Certificate) (right :
 
   -- ---- the three verdicts
 
-  best : (s : Settings) (texts : List (List ℕ)) → c.verdict ≡ kind.Optimal → IsProved c s texts → IsBest c s texts
+  pub best : (s : Settings) (texts : List (List ℕ)) → c.verdict ≡ kind.Optimal → IsProved c s texts → IsBest c s texts
   best s texts is h =
       let holds : Holds h.problem c kind.Optimal = subst (Holds h.problem c) is (right h.problem c h.proves) in
       record { problem = h.problem; asked = h.asked; point = holds.0; has_point = holds.1; has_value = holds.2; optimal = holds.3 }
 
-  no_point : (s : Settings) (texts : List (List ℕ)) → c.verdict ≡ kind.Infeasible → IsProved c s texts → HasNoPoint s texts
+  pub no_point : (s : Settings) (texts : List (List ℕ)) → c.verdict ≡ kind.Infeasible → IsProved c s texts → HasNoPoint s texts
   no_point s texts is h = record { problem = h.problem; asked = h.asked; none = subst (Holds h.problem c) is (right h.problem c h.proves) }
 
-  ray : (s : Settings) (texts : List (List ℕ)) → c.verdict ≡ kind.Unbounded → IsProved c s texts → HasRay c s texts
+  pub ray : (s : Settings) (texts : List (List ℕ)) → c.verdict ≡ kind.Unbounded → IsProved c s texts → HasRay c s texts
   ray s texts is h =
       let holds : Holds h.problem c kind.Unbounded = subst (Holds h.problem c) is (right h.problem c h.proves) in
       record { problem = h.problem; asked = h.asked; point = holds.0; ray = holds.1; has_point = holds.2; has_ray = holds.3; unbounded = holds.4 }

@@ -67,9 +67,10 @@ pub record IsInTurn (words : List (List ℕ)) (told : ToldNames) (name : List �
   pub is : names_read settings ≡ before ++ name ∷ after
   pub there : AreThere told before
 
--- a file is there, and this is its text; where the store tells nothing of it, some text
+-- a file is there, and this is its text, which isn't too long; where the store tells nothing of it, some such text
 pub record IsTextOf (told : Option (Option (List ℕ))) (text : List ℕ) : Type 0 where
   pub there : IsThere told
+  pub short : length text ≤ 16777216
   pub is : (bytes : List ℕ) → Has told bytes → bytes ≡ text
 
 -- the texts of the files of these names

@@ -184,6 +184,11 @@ reached_of (Undecided limit) = Executed
 reached_of (Refused part) = Executed
 reached_of (NoMemory reached) = reached
 
+-- the answer is not that the limit of steps was met
+abbrev pub IsNotByPivots : Answer → Type 0
+IsNotByPivots (Undecided (Pivots wanted bases)) = ⊥
+IsNotByPivots answer = Unit {0}
+
 -- ---- causes
 
 -- the count of what is written to rose

@@ -6,5 +6,6 @@ pub mod Cause
 pub mod Complete
 pub mod Code
 pub mod Written
+pub mod Together
 pub mod Stages
 pub mod WorkedExample

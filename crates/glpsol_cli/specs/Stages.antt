@@ -260,6 +260,12 @@ IsStopAmong names told files_rose StopNoMemory = Unit {0}
 abbrev pub IsUnreadIn : List (List ℕ) → ToldNames → Type 0 → Unread → Type 0
 IsUnreadIn words told files_rose u = IsInTurn words told u.name × IsUnread (told u.name) files_rose u.fault
 
+-- the words are no command
+abbrev pub IsWordsStop : List (List ℕ) → Stop → Type 0
+IsWordsStop words (Words fault) = IsWordsFault words fault
+IsWordsStop words (File u) = ⊥
+IsWordsStop words StopNoMemory = Unit {0}
+
 abbrev pub IsStop : List (List ℕ) → ToldNames → Type 0 → Stop → Type 0
 IsStop words told files_rose (Words fault) = IsWordsFault words fault
 IsStop words told files_rose (File u) = IsUnreadIn words told files_rose u
@@ -461,45 +467,6 @@ abbrev pub WrittenSince : List (List ℕ) → ToldNames → Outside → Outside 
 WrittenSince words told old new answer = OfPieces words told (reached_of answer) (ThenLine (extent_of answer) (line_of answer) old new)
 
 -- ---- what is said of an answer by the settings and the texts that were read
-
-abbrev pub ReachedIn : Settings → List (List ℕ) → Reached → Type 0
-ReachedIn s texts Nothing = Unit {0}
-ReachedIn s texts Executed = HasDone (λ done. Unit {0}) s texts
-ReachedIn s texts SizeReached = IsTranslated s texts
-ReachedIn s texts AcceptanceReached = OfCertificate IsAccepted s texts
-ReachedIn s texts (VerdictReached c) = IsProved c s texts
-
--- the cause of an answer that comes when they are read
-abbrev pub CauseIn : Settings → List (List ℕ) → Type 0 → Type 0 → Answer → Type 0
-CauseIn s texts files_rose out_rose (Optimal c) = (c.verdict ≡ kind.Optimal) × EndsBehind None c s texts
-CauseIn s texts files_rose out_rose (Infeasible c) = (c.verdict ≡ kind.Infeasible) × IsProved c s texts
-CauseIn s texts files_rose out_rose (Unbounded c) = (c.verdict ≡ kind.Unbounded) × IsProved c s texts
-CauseIn s texts files_rose out_rose Translated = IsTranslated s texts
-CauseIn s texts files_rose out_rose Accepted = OfCertificate IsAccepted s texts
-CauseIn s texts files_rose out_rose Usage = ⊥
-CauseIn s texts files_rose out_rose (Missing name reached) = ⊥
-CauseIn s texts files_rose out_rose (OpenFault name reached) = ⊥
-CauseIn s texts files_rose out_rose (ReadFault name reached) = ⊥
-CauseIn s texts files_rose out_rose (WriteFault target reached) = ReachedIn s texts reached × RoseAt target files_rose out_rose
-CauseIn s texts files_rose out_rose (TooLong name reached) = ⊥
-CauseIn s texts files_rose out_rose (TextRefused fault) = IsRefused fault s texts
-CauseIn s texts files_rose out_rose (FaultBehindSolve fault c) = (c.verdict ≡ kind.Optimal) × EndsBehind (Some fault) c s texts
-CauseIn s texts files_rose out_rose (BadCertificate fault) = OfCertificate (IsNoCertificate fault) s texts
-CauseIn s texts files_rose out_rose (Overflow at e) = IsOverflow at e s texts
-CauseIn s texts files_rose out_rose (Undecided limit) = IsUndecided limit s texts
-CauseIn s texts files_rose out_rose (Refused part) = OfCertificate (IsRefusedAt part) s texts
-CauseIn s texts files_rose out_rose (NoMemory reached) = ReachedIn s texts reached
-
--- P holds of all that is to be written once this was reached
-abbrev pub PiecesIn : Settings → List (List ℕ) → Reached → (List Piece → Type 0) → Type 0
-PiecesIn s texts Nothing P = P []
-PiecesIn s texts Executed P = HasDone P s texts
-PiecesIn s texts SizeReached P = HasFound SizeReached P s texts
-PiecesIn s texts AcceptanceReached P = HasFound AcceptanceReached P s texts
-PiecesIn s texts (VerdictReached c) P = HasFound (VerdictReached c) P s texts
-
-abbrev pub WrittenIn : Settings → List (List ℕ) → Outside → Outside → Answer → Type 0
-WrittenIn s texts old new answer = PiecesIn s texts (reached_of answer) (ThenLine (extent_of answer) (line_of answer) old new)
 
 -- P holds of what is left to be written of the problem and behind `solve`
 pub record HasLeft (reached : Reached) (P : List Piece → Type 0) (s : Settings) (texts : List (List ℕ)) : Type 0 where

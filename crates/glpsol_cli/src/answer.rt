@@ -12,6 +12,7 @@ use gmpl_syntax::SyntaxFault;
 use instance::Name;
 use model_text::FileFault;
 use search_node::{Bases, Node};
+use sqlite_items::Boxed;
 
 /// Where a run writes.
 #[derive(Drop)]
@@ -65,18 +66,18 @@ pub enum Reached {
     /// The certificate that was to be checked proves its verdict.
     Acceptance,
     /// This certificate proves its verdict, and the checker accepts it.
-    Verdict(Certificate),
+    Verdict(Boxed<Certificate>),
 }
 
 /// What a run comes to, with the values that show it.
 #[derive(Drop)]
 pub enum Answer {
     /// The certificate's point is best, no statement behind `solve` has a fault there, and all was written.
-    Optimal(Certificate),
+    Optimal(Boxed<Certificate>),
     /// No point is feasible, as the certificate shows, and all was written.
-    Infeasible(Certificate),
+    Infeasible(Boxed<Certificate>),
     /// The certificate's ray improves its point without end, and all was written.
-    Unbounded(Certificate),
+    Unbounded(Boxed<Certificate>),
     /// The problem was read, and its size written.
     Translated,
     /// The certificate that was to be checked proves its verdict, and this was written.
@@ -114,7 +115,7 @@ pub enum Answer {
     /// The certificate's point is best, and was reported; there a statement behind `solve` has this fault, and none before it.
     FaultBehindSolve {
         fault: ModelFault,
-        certificate: Certificate,
+        certificate: Boxed<Certificate>,
     },
     /// The text of the certificate that was to be checked has this fault, and none before it.
     BadCertificate(CertFault),

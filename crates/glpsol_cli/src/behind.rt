@@ -21,6 +21,7 @@ use gmpl_generate::ModelFault;
 use gmpl_reader::{Afterwards, after_solve};
 use instance::{Instance, Point};
 use outside::{Sink, Store};
+use sqlite_items::Boxed;
 use std::alloc::{AllocError, Global};
 
 // What the statements behind `solve` come to.
@@ -84,7 +85,7 @@ fn at_point(
 pub fn end_behind<S: Store, O: Sink>(
     alloc: Global,
     behind: Behind,
-    certificate: Certificate,
+    certificate: Boxed<Certificate>,
     files: &mut S,
     out: &mut O,
 ) -> Answer
@@ -107,7 +108,7 @@ pub fn end_behind<S: Store, O: Sink>(
 fn at_end<O: Sink>(
     alloc: Global,
     fault: Option<ModelFault>,
-    certificate: Certificate,
+    certificate: Boxed<Certificate>,
     out: &mut O,
 ) -> Answer
     ensures answer { result ≡ best_answer fault certificate }

@@ -4,6 +4,7 @@ ghost use Rattle.glpsol_cli.specs.Stages.{reached_by};
 
 use crate::Reached;
 use certificate::Certificate;
+use sqlite_items::Boxed;
 
 // What is found of a problem, as the settings ask.
 #[derive(Drop)]
@@ -13,7 +14,7 @@ pub enum Finding {
     // the certificate that was to be checked proves its verdict
     Acceptance,
     // this certificate proves its verdict
-    Verdict(Certificate),
+    Verdict(Boxed<Certificate>),
 }
 
 impl Finding {

@@ -1,19 +1,21 @@
 // What the words and the files give.
-ghost use Rattle.std.specs.Prelude.{◌≡◌, ◌≤◌, ◌++◌, ◌∷◌, [], ℕ, List, IfOk, IfErr, OnOk, map, string_bytes};
+ghost use Rattle.std.specs.Prelude.{◌≡◌, ◌≤◌, ◌++◌, ◌∷◌, [], ℕ, List, IfOk, IfErr, OnOk, Some, map, string_bytes};
 ghost use Rattle.outside.specs.Causes.{Rose};
 ghost use Rattle.glpsol_cli.specs.Asked.{AreTexts, IsTextOf, names_read, names_checked};
-ghost use Rattle.glpsol_cli.specs.Stages.{AreInputs, IsStop, IsStopAt, IsStopAmong, IsUnreadStop, texts_in};
+ghost use Rattle.glpsol_cli.specs.Stages.{AreInputs, IsStop, IsStopAt, IsStopAmong, IsUnreadStop, IsWordsStop, texts_in};
+ghost use Rattle.command_line.specs.Meaning.{settings_of};
 
 use crate::stop::{Stop, Unread};
 use command_line::{Settings, Task, read_words};
 use instance::Name;
 use outside::{LoadFault, Store, read_all};
+use sqlite_items::Boxed;
 use std::alloc::{AllocError, Global};
 
 // The settings, with the texts of the files that they name, in the order in which these are read, and behind them those of tables.
 #[derive(Drop)]
 pub struct Inputs {
-    pub settings: Settings,
+    pub settings: Boxed<Settings>,
     pub texts: Vec<Vec<u8>>,
 }
 
@@ -24,17 +26,31 @@ pub fn read_inputs<S: Store>(alloc: Global, words: &[String], files: &mut S) -> 
     ensures told { (other : List ℕ) → S.told files.new other ≡ S.told files.old other }
     ensures later { S.faults files.old ≤ S.faults files.new }
 {
-    let settings = match read_words(alloc, words) {
+    let settings = match boxed_settings(alloc, words) {
         Ok(settings) => settings,
-        Err(fault) => return Err(Stop::Words(fault)),
+        Err(stop) => return Err(stop),
     };
-    let names = match names_read(alloc, &settings) {
+    let names = match names_read(alloc, settings.get()) {
         Ok(names) => names,
         Err(_) => return Err(Stop::NoMemory),
     };
     match load_all(alloc, &names, files) {
         Ok(texts) => Ok(Inputs { settings, texts }),
         Err(stop) => Err(stop),
+    }
+}
+
+// The settings that the words ask for.
+fn boxed_settings(alloc: Global, words: &[String]) -> Result<Boxed<Settings>, Stop>
+    ensures settings { IfOk result (λ settings. settings_of (map string_bytes words.now) ≡ Some settings) }
+    ensures stop { IfErr result (IsWordsStop (map string_bytes words.now)) }
+{
+    match read_words(alloc, words) {
+        Ok(settings) => match Boxed::new(alloc, settings) {
+            Ok(settings) => Ok(settings),
+            Err(_) => Err(Stop::NoMemory),
+        },
+        Err(fault) => Err(Stop::Words(fault)),
     }
 }
 

@@ -69,7 +69,7 @@ fn pieces(
     match finding {
         Finding::Size => output(alloc, &translated_report(alloc, problem)?),
         Finding::Acceptance => output(alloc, &accepted_report(alloc)?),
-        Finding::Verdict(certificate) => solved(alloc, task, problem, certificate),
+        Finding::Verdict(certificate) => solved(alloc, task, problem, certificate.get()),
     }
 }
 

@@ -159,7 +159,7 @@ fn executed_on(
 ) -> Result<Run, AllocError>
     ensures { IfOk result (λ run. IsTableExecuted inputs waiting text.items run.inputs run.executed) }
 {
-    let executed = execute_on(alloc, &inputs.settings, waiting, &text)?;
+    let executed = execute_on(alloc, inputs.settings.get(), waiting, &text)?;
     let inputs = inputs.with_table(text)?;
     Ok(Run { inputs, executed })
 }

@@ -3,7 +3,8 @@
 ghost use Rattle.std.specs.Prelude.{◌≡◌};
 ghost use Rattle.verdicts.specs.Certificate as kind;
 ghost use Rattle.outside.specs.Causes.{Rose};
-ghost use Rattle.glpsol_cli.specs.Stages.{CauseIn, IsFinding, IsSubject, LeftWritten, RestWritten, reached_by, texts_in};
+ghost use Rattle.glpsol_cli.specs.Stages.{IsFinding, IsSubject, LeftWritten, RestWritten, reached_by, texts_in};
+ghost use Rattle.glpsol_cli.specs.Together.{CauseIn};
 
 use crate::behind::{afterwards, end_behind};
 use crate::execution::Later;
@@ -17,6 +18,7 @@ use crate::{Answer, Reached};
 use certificate::{Certificate, Verdict};
 use instance::Instance;
 use outside::{Sink, Store};
+use sqlite_items::Boxed;
 use std::alloc::Global;
 
 /// The run from its problem on, once what is printed before is written.
@@ -57,7 +59,14 @@ fn from_finding<S: Store, O: Sink>(
     ensures written { LeftWritten inputs.now.settings (texts_in inputs.now) (record { taken = O.taken out.old; told = S.told files.old })
         (record { taken = O.taken out.new; told = S.told files.new }) result }
 {
-    let published = publish(alloc, files, out, &inputs.settings.task, problem, &finding);
+    let published = publish(
+        alloc,
+        files,
+        out,
+        &inputs.settings.get().task,
+        problem,
+        &finding,
+    );
     match published {
         Ok(()) => from_report(alloc, inputs, problem, later, finding, files, out),
         Err(fault) => tell(alloc, out, unwritten_answer(finding.reached(), fault)),
@@ -95,7 +104,7 @@ fn from_verdict<S: Store, O: Sink>(
     inputs: &Inputs,
     problem: &Instance,
     later: Option<Later>,
-    certificate: Certificate,
+    certificate: Boxed<Certificate>,
     files: &mut S,
     out: &mut O,
 ) -> Answer
@@ -106,7 +115,7 @@ fn from_verdict<S: Store, O: Sink>(
     ensures written { RestWritten (Reached.Verdict certificate) inputs.now.settings (texts_in inputs.now) (record { taken = O.taken out.old; told = S.told files.old })
         (record { taken = O.taken out.new; told = S.told files.new }) result }
 {
-    match certificate.verdict() {
+    match certificate.get().verdict() {
         Verdict::Optimal => at_best(alloc, inputs, problem, later, certificate, files, out),
         Verdict::Infeasible => Answer::Infeasible(certificate),
         Verdict::Unbounded => Answer::Unbounded(certificate),
@@ -119,7 +128,7 @@ fn at_best<S: Store, O: Sink>(
     inputs: &Inputs,
     problem: &Instance,
     later: Option<Later>,
-    certificate: Certificate,
+    certificate: Boxed<Certificate>,
     files: &mut S,
     out: &mut O,
 ) -> Answer
@@ -131,7 +140,13 @@ fn at_best<S: Store, O: Sink>(
     ensures written { RestWritten (Reached.Verdict certificate) inputs.now.settings (texts_in inputs.now) (record { taken = O.taken out.old; told = S.told files.old })
         (record { taken = O.taken out.new; told = S.told files.new }) result }
 {
-    let behind = afterwards(alloc, &inputs.settings, later, problem, &certificate);
+    let behind = afterwards(
+        alloc,
+        inputs.settings.get(),
+        later,
+        problem,
+        certificate.get(),
+    );
     match behind {
         Ok(behind) => end_behind(alloc, behind, certificate, files, out),
         Err(_) => tell(

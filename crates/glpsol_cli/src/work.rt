@@ -1,14 +1,17 @@
 // The whole of the program's work.
-ghost use Rattle.std.specs.Prelude.{◌≡◌, ◌≤◌, ℕ, List, map, string_bytes};
+ghost use Rattle.std.specs.Prelude.{◌≡◌, ◌≤◌, ℕ, List, Some, map, string_bytes};
 ghost use Rattle.verdicts.specs.Certificate.{Certificate};
 ghost use Rattle.outside.specs.Causes.{Rose};
+ghost use Rattle.command_line.specs.Meaning.{settings_of};
+ghost use Rattle.command_line.specs.declared.settings.Settings.{Settings};
 ghost use Rattle.glpsol_cli.specs.Asked.{ToldNames};
 ghost use Rattle.glpsol_cli.specs.Pieces.{Outside, SameNames};
 ghost use Rattle.glpsol_cli.specs.Texts.{OfTexts};
-ghost use Rattle.glpsol_cli.specs.Cause.{Cause, IsBest, HasNoPoint, HasRay, IsTrueOf, reached_of};
+ghost use Rattle.glpsol_cli.specs.Cause.{Cause, IsBest, HasNoPoint, HasRay, IsNotByPivots, IsTrueOf, reached_of};
 ghost use Rattle.glpsol_cli.specs.Written.{Written};
 ghost use Rattle.glpsol_cli.specs.Complete.{IsComplete, IsVerdictOrNoMemory};
-ghost use Rattle.glpsol_cli.specs.Stages.{AreInputs, AreSomeInputs, CauseIn, IsEndIn, IsEndOf, IsRun, IsSomeRun, IsSubject, IsWhole, LeftWritten, Moment, WrittenSince, texts_in};
+ghost use Rattle.glpsol_cli.specs.Stages.{AreInputs, AreSomeInputs, IsEndIn, IsEndOf, IsRun, IsSomeRun, IsSubject, IsWhole, LeftWritten, Moment, WrittenSince, texts_in};
+ghost use Rattle.glpsol_cli.specs.Together.{CauseIn, IsOfOneText, Tells};
 
 use crate::execution::{Executed, ExecutionEnd, Halt, Later, execute};
 use crate::inputs::{Inputs, read_inputs};
@@ -53,6 +56,14 @@ pub fn run<T: Threads + Sync, S: Store, O: Sink>(
     ensures written { Written (map string_bytes words.items) (record { taken = O.taken out.old; told = S.told files.old })
         (record { taken = O.taken out.new; told = S.told files.new }) result }
 
+    // The problem of the verdict, the cause and all that is written are of the same texts, whatever the store tells of its files.
+    ensures of_one_text { IsOfOneText (map string_bytes words.items) (record { taken = O.taken out.old; told = S.told files.old })
+        (record { taken = O.taken out.new; told = S.told files.new })
+        (Rose (S.faults files.old) (S.faults files.new)) (Rose (O.faults out.old) (O.faults out.new)) result }
+
+    // Without a limit of steps (`--pivlim 0`) it never answers that this limit was met: each run of the simplex method ends.
+    ensures unlimited { (s : Settings) → settings_of (map string_bytes words.items) ≡ Some s → s.pivot_limit ≡ 0 → IsNotByPivots result }
+
     // Where nothing stands in the way, it gives a verdict.
     ensures complete { IsComplete (map string_bytes words.items) (S.told files.old)
         (Rose (S.faults files.old) (S.faults files.new)) (Rose (O.faults out.old) (O.faults out.new)) → IsVerdictOrNoMemory result }
@@ -72,6 +83,9 @@ fn carried_out<S: Store, O: Sink>(
         (Rose (S.faults files.old) (S.faults files.new)) (Rose (O.faults out.old) (O.faults out.new)) result }
     ensures written { Written (map string_bytes words.now) (record { taken = O.taken out.old; told = S.told files.old })
         (record { taken = O.taken out.new; told = S.told files.new }) result }
+    ensures tells { Tells (map string_bytes words.now) (S.told files.old) (record { taken = O.taken out.old; told = S.told files.old })
+        (record { taken = O.taken out.new; told = S.told files.new })
+        (Rose (S.faults files.old) (S.faults files.new)) (Rose (O.faults out.old) (O.faults out.new)) result }
 {
     let inputs = match read_inputs(alloc, words, files) {
         Ok(inputs) => inputs,
@@ -92,8 +106,11 @@ fn from_inputs<S: Store, O: Sink>(
         → count ≤ S.faults files.old → Cause words told (Rose count (S.faults files.new)) (Rose (O.faults out.old) (O.faults out.new)) result }
     ensures written { (words : List (List ℕ)) (told : ToldNames) → AreInputs words told inputs → SameNames told (S.told files.old)
         → WrittenSince words told (record { taken = O.taken out.old; told = S.told files.old }) (record { taken = O.taken out.new; told = S.told files.new }) result }
+    ensures tells { (words : List (List ℕ)) (told : ToldNames) (count : ℕ) → AreInputs words told inputs → SameNames told (S.told files.old)
+        → count ≤ S.faults files.old → Tells words told (record { taken = O.taken out.old; told = S.told files.old }) (record { taken = O.taken out.new; told = S.told files.new })
+        (Rose count (S.faults files.new)) (Rose (O.faults out.old) (O.faults out.new)) result }
 {
-    match execute(alloc, &inputs.settings, &inputs.texts) {
+    match execute(alloc, inputs.settings.get(), &inputs.texts) {
         Ok(executed) => from_execution(alloc, inputs, executed, files, out),
         Err(_) => tell(
             alloc,
@@ -120,6 +137,9 @@ fn from_execution<S: Store, O: Sink>(
     ensures written { (words : List (List ℕ)) (told : ToldNames) (start : Moment)
         → IsRun words told start (record { outside = record { taken = O.taken out.old; told = S.told files.old }; files = S.faults files.old; out = O.faults out.old }) inputs.settings (texts_in inputs) executed
         → WrittenSince words told start.outside (record { taken = O.taken out.new; told = S.told files.new }) result }
+    ensures tells { (words : List (List ℕ)) (told : ToldNames) (start : Moment)
+        → IsRun words told start (record { outside = record { taken = O.taken out.old; told = S.told files.old }; files = S.faults files.old; out = O.faults out.old }) inputs.settings (texts_in inputs) executed
+        → Tells words told start.outside (record { taken = O.taken out.new; told = S.told files.new }) (Rose start.files (S.faults files.new)) (Rose start.out (O.faults out.new)) result }
 {
     match with_tables(alloc, Run { inputs, executed }, files, out) {
         Ok(run) => from_run(alloc, run, files, out),
@@ -136,6 +156,9 @@ fn from_run<S: Store, O: Sink>(alloc: Global, run: Run, files: &mut S, out: &mut
     ensures written { (words : List (List ℕ)) (told : ToldNames) (start : Moment)
         → IsRun words told start (record { outside = record { taken = O.taken out.old; told = S.told files.old }; files = S.faults files.old; out = O.faults out.old }) run.inputs.settings (texts_in run.inputs) run.executed
         → WrittenSince words told start.outside (record { taken = O.taken out.new; told = S.told files.new }) result }
+    ensures tells { (words : List (List ℕ)) (told : ToldNames) (start : Moment)
+        → IsRun words told start (record { outside = record { taken = O.taken out.old; told = S.told files.old }; files = S.faults files.old; out = O.faults out.old }) run.inputs.settings (texts_in run.inputs) run.executed
+        → Tells words told start.outside (record { taken = O.taken out.new; told = S.told files.new }) (Rose start.files (S.faults files.new)) (Rose start.out (O.faults out.new)) result }
 {
     let Run { inputs, executed } = run;
     let Executed {
@@ -164,6 +187,9 @@ fn from_halt<S: Store, O: Sink>(
     ensures written { (words : List (List ℕ)) (told : ToldNames) (start : Moment)
         → IsWhole words told start (record { outside = record { taken = O.taken out.old; told = S.told files.old }; files = S.faults files.old; out = O.faults out.old }) inputs.settings (texts_in inputs) halt
         → WrittenSince words told start.outside (record { taken = O.taken out.new; told = S.told files.new }) result }
+    ensures tells { (words : List (List ℕ)) (told : ToldNames) (start : Moment)
+        → IsWhole words told start (record { outside = record { taken = O.taken out.old; told = S.told files.old }; files = S.faults files.old; out = O.faults out.old }) inputs.settings (texts_in inputs) halt
+        → Tells words told start.outside (record { taken = O.taken out.new; told = S.told files.new }) (Rose start.files (S.faults files.new)) (Rose start.out (O.faults out.new)) result }
 {
     match halt {
         Halt::End(end) => from_end(alloc, &inputs, end, files, out),

@@ -17,6 +17,7 @@ use certificate::Certificate;
 use certificate_reader::CertError;
 use command_line::{Settings, Task};
 use instance::Instance;
+use sqlite_items::Boxed;
 use std::alloc::Global;
 
 /// What is found of the problem, as the task asks.
@@ -26,14 +27,14 @@ pub fn finding(alloc: Global, problem: &Instance, inputs: &Inputs) -> Result<Fin
     ensures finding { IfOk result (IsFinding problem.now inputs.now.settings (texts_in inputs.now)) }
     ensures fault { IfErr result (λ unfound. IsUnfound unfound inputs.now.settings (texts_in inputs.now)) }
 {
-    match &inputs.settings.task {
-        Task::Solve(_) => match solved(alloc, problem, &inputs.settings) {
+    match &inputs.settings.get().task {
+        Task::Solve(_) => match solved(alloc, problem, inputs.settings.get()) {
             Ok(certificate) => Ok(Finding::Verdict(certificate)),
             Err(fault) => Err(Unfound::Solve(fault)),
         },
         Task::Translate => Ok(Finding::Size),
         Task::CheckCertificate(_) => {
-            let count = inputs.settings.data_files.as_slice().len();
+            let count = inputs.settings.get().data_files.as_slice().len();
             match accept_behind(alloc, problem, count, &inputs.texts) {
                 Ok(()) => Ok(Finding::Acceptance),
                 Err(stop) => Err(Unfound::Check(stop)),
@@ -47,13 +48,13 @@ fn solved(
     alloc: Global,
     problem: &Instance,
     settings: &Settings,
-) -> Result<Certificate, VerdictFault>
+) -> Result<Boxed<Certificate>, VerdictFault>
     ensures proves { IfOk result (λ c. Proves problem.now c × (outcome (trials problem.now c) ≡ Acceptance)) }
     ensures fault { IfErr result (IsFault problem.now settings.now.split_limit settings.now.pivot_limit) }
 {
     let splits = settings.split_limit as usize;
     match solve(alloc, problem, splits, settings.pivot_limit) {
-        Ok(certificate) => Ok(certificate),
+        Ok(certificate) => Ok(Boxed::new(alloc, certificate)?),
         Err(fault) => Err(fault),
     }
 }

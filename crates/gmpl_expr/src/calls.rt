@@ -223,7 +223,7 @@ fn bounds_anew(
         kept,
         MOST_HEIGHT - 1,
         ROOM,
-        variable.statement as usize,
+        variable.statement,
         &variable.subscripts,
     )
 }

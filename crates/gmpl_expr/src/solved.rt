@@ -17,22 +17,12 @@ use gmpl_syntax::Suffix;
 use gmpl_value::{EvalFault, Tuple};
 use std::alloc::Global;
 
-// A place among the statements as a 32-bit number. One that is none, which no text reaches, counts as want of memory.
-fn short(place: usize) -> Result<u32, EvalFault>
-    ensures { Gives result (Ok place) }
-{
-    if place > u32::MAX as usize {
-        return Err(EvalFault::NoMemory);
-    }
-    Ok(place as u32)
-}
-
 // The form of a variable's member.
 fn variable_form(alloc: Global, place: usize, subscripts: &Tuple) -> Result<Value, EvalFault>
     ensures { Gives result (Ok (values.Linear (linear ((members.variable place subscripts.now, one_ℚ) ∷ []) zero_ℚ))) }
 {
     let variable = Variable {
-        statement: short(place)?,
+        statement: place,
         subscripts: subscripts.copied(alloc)?,
     };
     Ok(Value::Linear(Form::variable(alloc, variable)?))
@@ -43,7 +33,7 @@ fn member(alloc: Global, place: usize, subscripts: &Tuple) -> Result<Member, Eva
     ensures { Gives result (Ok (solutions.member place subscripts.now)) }
 {
     Ok(Member {
-        statement: short(place)?,
+        statement: place,
         subscripts: subscripts.copied(alloc)?,
     })
 }

@@ -54,8 +54,7 @@ fn paused(place: usize, draft: Draft, step: usize, name: Text) -> Pause
     }
 }
 
-// The rows so far with those of the statement at a place. A place that is no 32-bit number, which no text reaches, counts as want
-// of memory.
+// The rows so far with those of the statement at a place.
 fn statement_executed(
     alloc: Global,
     model: &LoadedModel,
@@ -68,17 +67,7 @@ fn statement_executed(
     ensures of { context.new ≡ model.now }
     ensures value { Makes (spec.statement_executed model.now place numbered.now draft) result }
 {
-    if place > u32::MAX as usize {
-        return Err(Halt::NoMemory);
-    }
-    match executed(
-        alloc,
-        model,
-        context,
-        place as u32,
-        &numbered.statement,
-        draft,
-    ) {
+    match executed(alloc, model, context, place, &numbered.statement, draft) {
         Ok(draft) => Ok(draft),
         Err(EvalFault::NoMemory) => Err(Halt::NoMemory),
         Err(fault) => Err(Halt::Fault(numbered.number, numbered.line, fault)),

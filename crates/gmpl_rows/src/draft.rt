@@ -22,7 +22,7 @@ use std::marker::Model;
 /// A row but for its entries: the place of its statement, its subscripts, and its bounds.
 #[derive(Drop)]
 pub struct RowHead {
-    pub statement: u32,
+    pub statement: usize,
     pub subscripts: Tuple,
     pub lower: Option<Frac>,
     pub upper: Option<Frac>,
@@ -101,7 +101,7 @@ impl Draft {
             objective,
         } = self;
         let member = head.member(alloc)?;
-        if head.statement as usize >= objects.len() || members.contains(&member) {
+        if head.statement >= objects.len() || members.contains(&member) {
             return Ok(Draft {
                 objects,
                 rows,

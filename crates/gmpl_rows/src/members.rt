@@ -14,7 +14,7 @@ use std::alloc::{AllocError, Global};
 fn push_used(
     alloc: Global,
     members: &mut Vec<Member>,
-    statement: u32,
+    statement: usize,
     subscripts: &Tuple,
     column: &MemberColumn,
 ) -> Result<(), AllocError>
@@ -33,7 +33,7 @@ fn push_used(
 fn push_members(
     alloc: Global,
     members: &mut Vec<Member>,
-    statement: u32,
+    statement: usize,
     demanded: &Demanded,
 ) -> Result<(), AllocError>
     ensures { OnOk result (members.new.items ≡ members.old.items ++ spec.used_members statement demanded.now.members demanded.now.columns) }
@@ -50,21 +50,6 @@ fn push_members(
     Ok(())
 }
 
-// A place that is no 32-bit number, which no text reaches, counts as want of memory.
-fn push_variable(
-    alloc: Global,
-    members: &mut Vec<Member>,
-    place: usize,
-    demanded: &Demanded,
-) -> Result<(), AllocError>
-    ensures { OnOk result (members.new.items ≡ members.old.items ++ spec.used_members place demanded.now.members demanded.now.columns) }
-{
-    if place > u32::MAX as usize {
-        return Err(AllocError);
-    }
-    push_members(alloc, members, place as u32, demanded)
-}
-
 /// The members that the columns of the problem come from, in the columns' order.
 pub fn column_members(alloc: Global, draft: &Draft) -> Result<Vec<Member>, AllocError>
     ensures { IfOk result (λ made. made.items ≡ spec.column_members draft.now) }
@@ -75,7 +60,7 @@ pub fn column_members(alloc: Global, draft: &Draft) -> Result<Vec<Member>, Alloc
         let Some((first, rest)) = left.split_first() else {
             return Ok(members);
         };
-        push_variable(alloc, &mut members, place, first)?;
+        push_members(alloc, &mut members, place, first)?;
         left = rest;
     }
     Ok(members)

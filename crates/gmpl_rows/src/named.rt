@@ -34,7 +34,7 @@ pub(crate) fn row_name(
     ensures name { IfOk result (λ name. name ≡ member_name (name_of declared.now head.now.statement) head.now.subscripts) }
     ensures narrow { OnOk result (AreNarrow head.now.subscripts) }
 {
-    match declared.get(head.statement as usize) {
+    match declared.get(head.statement) {
         Some(object) => instance_name(alloc, &object.name, &head.subscripts),
         None => instance_name(alloc, &Text::new(alloc, "")?, &head.subscripts),
     }

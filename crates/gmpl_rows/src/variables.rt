@@ -60,7 +60,7 @@ impl Variables {
             entries,
             columns,
         } = self;
-        let statement = term.variable.statement as usize;
+        let statement = term.variable.statement;
         if statement >= demanded.len() {
             return Ok(Variables {
                 demanded,

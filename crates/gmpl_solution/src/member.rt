@@ -7,7 +7,7 @@ use std::alloc::{AllocError, Global};
 /// A member of a variable, of a constraint or of an objective: the place of its statement, and its subscripts.
 #[derive(PartialEq, Eq, Hash, Drop)]
 pub struct Member {
-    pub statement: u32,
+    pub statement: usize,
     pub subscripts: Tuple,
 }
 

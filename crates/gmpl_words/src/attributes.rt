@@ -33,12 +33,10 @@ pub enum AttributeWord {
 fn set_name(text: &str) -> Option<AttributeWord>
     ensures { result ≡ spec.set_name text.now }
 {
-    if text == "dimen" {
-        Some(AttributeWord::Dimension)
-    } else if text == "default" {
-        Some(AttributeWord::Default)
-    } else {
-        None
+    match text {
+        "dimen" => Some(AttributeWord::Dimension),
+        "default" => Some(AttributeWord::Default),
+        _ => None,
     }
 }
 
@@ -56,16 +54,12 @@ fn set_word(kind: TokenKind, text: &str) -> Option<AttributeWord>
 fn param_name(text: &str) -> Option<AttributeWord>
     ensures { result ≡ spec.param_name text.now }
 {
-    if text == "integer" {
-        Some(AttributeWord::Integer)
-    } else if text == "binary" {
-        Some(AttributeWord::Binary)
-    } else if text == "symbolic" {
-        Some(AttributeWord::Symbolic)
-    } else if text == "default" {
-        Some(AttributeWord::Default)
-    } else {
-        None
+    match text {
+        "integer" => Some(AttributeWord::Integer),
+        "binary" => Some(AttributeWord::Binary),
+        "symbolic" => Some(AttributeWord::Symbolic),
+        "default" => Some(AttributeWord::Default),
+        _ => None,
     }
 }
 
@@ -86,12 +80,10 @@ fn param_word(kind: TokenKind, text: &str) -> Option<AttributeWord>
 fn var_name(text: &str) -> Option<AttributeWord>
     ensures { result ≡ spec.var_name text.now }
 {
-    if text == "integer" {
-        Some(AttributeWord::Integer)
-    } else if text == "binary" {
-        Some(AttributeWord::Binary)
-    } else {
-        None
+    match text {
+        "integer" => Some(AttributeWord::Integer),
+        "binary" => Some(AttributeWord::Binary),
+        _ => None,
     }
 }
 

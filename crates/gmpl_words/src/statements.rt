@@ -32,42 +32,29 @@ pub enum Beginning {
 fn action_or_name(text: &str) -> Beginning
     ensures { result ≡ spec.action_or_name text.now }
 {
-    if text == "check" {
-        Beginning::Check
-    } else if text == "display" {
-        Beginning::Display
-    } else if text == "printf" {
-        Beginning::Printf
-    } else if text == "for" {
-        Beginning::For
-    } else if text == "table" {
-        Beginning::Table
-    } else {
-        Beginning::Name
+    match text {
+        "check" => Beginning::Check,
+        "display" => Beginning::Display,
+        "printf" => Beginning::Printf,
+        "for" => Beginning::For,
+        "table" => Beginning::Table,
+        _ => Beginning::Name,
     }
 }
 
 fn name_beginning(text: &str) -> Beginning
     ensures { result ≡ spec.name_beginning text.now }
 {
-    if text == "set" {
-        Beginning::Set
-    } else if text == "param" {
-        Beginning::Param
-    } else if text == "var" {
-        Beginning::Var
-    } else if text == "subject" {
-        Beginning::Subject
-    } else if text == "subj" {
-        Beginning::Subject
-    } else if text == "minimize" {
-        Beginning::Minimize
-    } else if text == "maximize" {
-        Beginning::Maximize
-    } else if text == "solve" {
-        Beginning::Solve
-    } else {
-        action_or_name(text)
+    match text {
+        "set" => Beginning::Set,
+        "param" => Beginning::Param,
+        "var" => Beginning::Var,
+        "subject" => Beginning::Subject,
+        "subj" => Beginning::Subject,
+        "minimize" => Beginning::Minimize,
+        "maximize" => Beginning::Maximize,
+        "solve" => Beginning::Solve,
+        _ => action_or_name(text),
     }
 }
 

@@ -63,12 +63,10 @@ fn entry_line<'a>(
 fn marker_of(word: &str) -> Option<bool>
     ensures { result ≡ marker_of word.now }
 {
-    if word == "'INTORG'" {
-        Some(true)
-    } else if word == "'INTEND'" {
-        Some(false)
-    } else {
-        None
+    match word {
+        "'INTORG'" => Some(true),
+        "'INTEND'" => Some(false),
+        _ => None,
     }
 }
 

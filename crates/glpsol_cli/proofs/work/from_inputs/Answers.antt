@@ -1,3 +1,4 @@
+use Rattle.glpsol_cli.specs.Pieces.{Outside}
 use Rattle.std.proofs.Common.{◌<◌, length, map, sym, subst, arith}
 use Rattle.std.proofs.lemmas.List.{length-map}
 use Rattle.outside.specs.Causes.{Rose}
@@ -5,6 +6,7 @@ use Rattle.glpsol_cli.specs.Stages.{IsExecution, Moment, texts_in}
 use Rattle.glpsol_cli.proofs.Ended.{run_first, unexecuted_cause, unexecuted_written}
 use Rattle.glpsol_cli.proofs.FilesRead.{enough}
 use Rattle.glpsol_cli.proofs.work.from_inputs.Goals as goal
+use Rattle.glpsol_cli.proofs.Stories.{unexecuted_tells}
 
 pub execute-requires : goal.execute-requires
 execute-requires g c =
@@ -38,3 +40,14 @@ returns-in-Err-clause-cause g c = λ words told count are same before. unexecute
 
 pub returns-in-Err-clause-written : goal.returns-in-Err-clause-written
 returns-in-Err-clause-written g c = λ words told are same. unexecuted_written words told (g.O.Sink.taken c.args.out.now) (g.O.Sink.taken c.tell.new.out) (g.S.Store.told c.args.files.now) c.tell.result c.tell.ensures.same c.tell.ensures.prefix
+
+pub returns-in-Ok-clause-tells : goal.returns-in-Ok-clause-tells
+returns-in-Ok-clause-tells g c =
+    let now : Moment = record { outside = record { taken = g.O.Sink.taken c.args.out.now; told = g.S.Store.told c.args.files.now }; files = g.S.Store.faults c.args.files.now; out = g.O.Sink.faults c.args.out.now } in
+    λ words told count are same before. c.from_execution.ensures.tells words told (record { outside = now.outside; files = count; out = now.out }) (run_first words told c.args.inputs are now same count before c.in-Ok.executed (subst (λ xs. IsExecution c.args.inputs.settings (map (λ text. text.items) xs) c.in-Ok.executed) c.deref.ensures.value c.in-Ok.ensures))
+
+pub returns-in-Err-clause-tells : goal.returns-in-Err-clause-tells
+returns-in-Err-clause-tells g c =
+    let old : Outside = record { taken = g.O.Sink.taken c.args.out.now; told = g.S.Store.told c.args.files.now } in
+    let new : Outside = record { taken = g.O.Sink.taken c.tell.new.out; told = g.S.Store.told c.args.files.now } in
+    λ words told count are same before. unexecuted_tells words told old new (Rose count (g.S.Store.faults c.args.files.now)) (Rose (g.O.Sink.faults c.args.out.now) (g.O.Sink.faults c.tell.new.out)) c.tell.result c.tell.ensures.same

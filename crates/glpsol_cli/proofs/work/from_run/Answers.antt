@@ -2,6 +2,7 @@ use Rattle.glpsol_cli.specs.Stages.{Moment, texts_in}
 use Rattle.glpsol_cli.proofs.Ended.{end_of_whole, unwritten_cause, unwritten_written}
 use Rattle.glpsol_cli.proofs.Runs.{unwritten, whole}
 use Rattle.glpsol_cli.proofs.work.from_run.Goals as goal
+use Rattle.glpsol_cli.proofs.Stories.{unwritten_tells}
 
 pub from_halt-requires : goal.from_halt-requires
 from_halt-requires g c =
@@ -35,3 +36,16 @@ returns-in-Err-clause-written g c =
     let middle : Moment = record { outside = record { taken = g.O.Sink.taken c.write_both.new.out; told = g.S.Store.told c.write_both.new.files }; files = g.S.Store.faults c.write_both.new.files; out = g.O.Sink.faults c.write_both.new.out } in
     λ words told start run. unwritten_written words told start middle c.in-Err.fault (unwritten words told start now c.args.run.inputs.settings (texts_in c.args.run.inputs) c.args.run.executed run middle c.in-Err.fault c.write_both.ensures.files_later c.write_both.ensures.out_later c.in-Err.ensures.failed c.in-Err.ensures.ends)
     c.unwritten_answer.result c.tell.result c.unwritten_answer.ensures c.tell.ensures.same (g.O.Sink.taken c.tell.new.out) c.tell.ensures.prefix
+
+pub returns-in-Ok-clause-tells : goal.returns-in-Ok-clause-tells
+returns-in-Ok-clause-tells g c =
+    let now : Moment = record { outside = record { taken = g.O.Sink.taken c.args.out.now; told = g.S.Store.told c.args.files.now }; files = g.S.Store.faults c.args.files.now; out = g.O.Sink.faults c.args.out.now } in
+    let middle : Moment = record { outside = record { taken = g.O.Sink.taken c.write_both.new.out; told = g.S.Store.told c.write_both.new.files }; files = g.S.Store.faults c.write_both.new.files; out = g.O.Sink.faults c.write_both.new.out } in
+    λ words told start run. c.from_halt.ensures.tells words told start (whole words told start now c.args.run.inputs.settings (texts_in c.args.run.inputs) c.args.run.executed run middle c.in-Ok.ensures.ends c.write_both.ensures.files_later c.write_both.ensures.out_later)
+
+pub returns-in-Err-clause-tells : goal.returns-in-Err-clause-tells
+returns-in-Err-clause-tells g c =
+    let now : Moment = record { outside = record { taken = g.O.Sink.taken c.args.out.now; told = g.S.Store.told c.args.files.now }; files = g.S.Store.faults c.args.files.now; out = g.O.Sink.faults c.args.out.now } in
+    let middle : Moment = record { outside = record { taken = g.O.Sink.taken c.write_both.new.out; told = g.S.Store.told c.write_both.new.files }; files = g.S.Store.faults c.write_both.new.files; out = g.O.Sink.faults c.write_both.new.out } in
+    λ words told start run. unwritten_tells words told start middle c.in-Err.fault (unwritten words told start now c.args.run.inputs.settings (texts_in c.args.run.inputs) c.args.run.executed run middle c.in-Err.fault c.write_both.ensures.files_later c.write_both.ensures.out_later c.in-Err.ensures.failed c.in-Err.ensures.ends)
+    c.unwritten_answer.result c.tell.result c.unwritten_answer.ensures c.tell.ensures.same (g.O.Sink.faults c.tell.new.out) (g.O.Sink.taken c.tell.new.out) c.tell.ensures.later c.tell.ensures.prefix

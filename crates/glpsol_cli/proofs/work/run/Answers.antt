@@ -1,9 +1,12 @@
+use Rattle.glpsol_cli.specs.Pieces.{Outside}
 use Rattle.std.proofs.Common.{map, string_bytes, subst}
 use Rattle.outside.specs.Causes.{Rose}
 use Rattle.glpsol_cli.specs.Cause.{Cause}
 use Rattle.glpsol_cli.proofs.Verdicts.{carried, is_best, has_no_point, has_ray}
 use Rattle.glpsol_cli.proofs.Completes.{complete}
+use Rattle.glpsol_cli.proofs.Limits.{unlimited}
 use Rattle.glpsol_cli.proofs.work.run.Goals as goal
+use Rattle.glpsol_cli.proofs.Stories.{of_one_text}
 
 pub returns-clause-optimal : goal.returns-clause-optimal
 returns-clause-optimal g c =
@@ -50,6 +53,15 @@ returns-clause-cause g c =
     let cause = rw c.deref.ensures.value at c.carried_out.ensures.cause in
     cause
 
+pub returns-clause-unlimited : goal.returns-clause-unlimited
+returns-clause-unlimited g c =
+    let words = map string_bytes c.args.words.items in
+    let told = g.S.Store.told c.args.files.now in
+    let files_rose = Rose (g.S.Store.faults c.args.files.now) (g.S.Store.faults c.carried_out.new.files) in
+    let out_rose = Rose (g.O.Sink.faults c.args.out.now) (g.O.Sink.faults c.carried_out.new.out) in
+    let cause = rw c.deref.ensures.value at c.carried_out.ensures.cause in
+    λ s asks none. unlimited words told s asks none files_rose out_rose c.carried_out.result cause
+
 pub returns-clause-complete : goal.returns-clause-complete
 returns-clause-complete g c =
     let words = map string_bytes c.args.words.items in
@@ -61,3 +73,13 @@ returns-clause-complete g c =
 
 pub returns-clause-written : goal.returns-clause-written
 returns-clause-written g c = rw c.deref.ensures.value at c.carried_out.ensures.written
+
+pub returns-clause-of_one_text : goal.returns-clause-of_one_text
+returns-clause-of_one_text g c =
+    let words = map string_bytes c.args.words.items in
+    let old : Outside = record { taken = g.O.Sink.taken c.args.out.now; told = g.S.Store.told c.args.files.now } in
+    let new : Outside = record { taken = g.O.Sink.taken c.carried_out.new.out; told = g.S.Store.told c.carried_out.new.files } in
+    let files_rose = Rose (g.S.Store.faults c.args.files.now) (g.S.Store.faults c.carried_out.new.files) in
+    let out_rose = Rose (g.O.Sink.faults c.args.out.now) (g.O.Sink.faults c.carried_out.new.out) in
+    let tells = rw c.deref.ensures.value at c.carried_out.ensures.tells in
+    of_one_text words old new files_rose out_rose c.certificates_are_right.ensures c.carried_out.result tells
