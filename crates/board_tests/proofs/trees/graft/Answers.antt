@@ -1,4 +1,0 @@
-use Rattle.board_tests.proofs.trees.graft.Goals as goal
-
-pub graft-requires : goal.graft-requires
-graft-requires c = (c.requires.open.way, c.requires.may c.requires.open.way c.requires.open.there)

@@ -1,0 +1,72 @@
+-- Trees that may be put in the place of a leased leaf, and nodes that are over the problem's columns.
+use Rattle.std.proofs.Common.{◌≡◌, ◌∙◌, ℕ, zero, suc, ◌<◌, ◌≤◌, List, [], ◌∷◌, length, true, refl, sym, subst, Some, None, IfSome, slice_get, Result, Ok, Err, IfOk, arith}
+use Rattle.milp.specs.Problem.{Column, Problem}
+use Rattle.verdicts.specs.Certificate.{Side as SideOf, Low as LowOf, High as HighOf, Derived}
+use Rattle.verdicts.specs.Proves.{is_integer}
+use Rattle.basis.specs.Node.{IsOverColumns, column_of}
+use Rattle.search_tree.specs.declared.leaf.Lease.{Lease}
+use Rattle.search_tree.specs.declared.leaf.Leaf.{Leaf}
+use Rattle.search_tree.specs.declared.leaf.Leaf.TheVariants.{Todo}
+use Rattle.search_tree.specs.Tree.{Tree, Divided, AtLeaf, sides_to}
+use Rattle.search_tree.specs.Nodes.{KeepsLeaf}
+use Rattle.search_tree.specs.Board.{Board, value_of, IsTold}
+use Rattle.search_tree.specs.Honest.{AreHonest, IsHonestWay}
+use Rattle.branch_search.specs.declared.treatment.Fractional.{Fractional}
+use Rattle.branch_search.specs.Treatment.{IsToSplit}
+use Rattle.search_rows.specs.Trees.{MayStand, LeadTo, IsLeafOf}
+
+pub if_ok : {A E : Type 0} (r : Result A E) (P Q : A → Type 0) → ((x : A) → P x → Q x) → IfOk r P → IfOk r Q
+if_ok (Ok x) P Q f h = f x h
+if_ok (Err e) P Q f h = tt
+
+-- ---- splits on the way
+
+known : (columns : List Column) (j : ℕ) → is_integer (slice_get columns j) ≡ true → j < length columns
+known [] j h = cc
+known (c ∷ columns) zero h = omega arith
+known (c ∷ columns) (suc j) h = let k = known columns j h in omega (arith, k)
+
+on_columns : (p : Problem) (ds : List Derived) (sides : List SideOf) → AreHonest p ds sides → (k : ℕ) → IfSome (slice_get sides k) (λ side. column_of side < length p.columns)
+on_columns p ds [] h k = tt
+on_columns p ds (LowOf s ∷ sides) h zero = known p.columns s.column h.0.integer
+on_columns p ds (HighOf s ∷ sides) h zero = known p.columns s.column h.0.integer
+on_columns p ds (LowOf s ∷ sides) h (suc k) = on_columns p ds sides h.1 k
+on_columns p ds (HighOf s ∷ sides) h (suc k) = on_columns p ds sides h.1 k
+
+pub over_columns : (p : Problem) (ds : List Derived) (limit : ℕ) (sides : List SideOf) (q : Problem) (qs : List Derived) → q ≡ p → qs ≡ [] → IsOverColumns q [] [] → IsHonestWay p ds limit sides → IsOverColumns q qs sides
+over_columns p ds limit sides q qs e none root way =
+    let P : List Derived → Type 0 = λ cuts. IsOverColumns q cuts sides in
+    let H : Problem → Type 0 = λ r. AreHonest r ds sides in
+    subst P (sym none) (record { objective = root.objective; rows = root.rows; derived = λ k. tt; splits = on_columns q ds sides (subst H (sym e) way.splits) })
+
+-- ---- trees
+
+pub untouched : (b : Board) (lease : Lease) (hint : Unit {0}) (t : Tree) → t ≡ AtLeaf (Todo hint) → MayStand b lease t
+untouched b lease hint t e = subst (MayStand b lease) (sym e) (λ way there. record {
+  is_leased = there;
+  sound = record { splits = tt; goal = None; is_told = tt; leaves = tt; none_leased = refl };
+  within = omega arith;
+  worthwhile = tt;
+})
+
+pub leaf_stands : (b : Board) (lease : Lease) (sides : List SideOf) (leaf : Leaf) (t : Tree) → LeadTo b lease sides → IsLeafOf b sides leaf → IfSome (value_of b) (λ v. IsTold v b.log) → t ≡ AtLeaf leaf → MayStand b lease t
+leaf_stands b lease sides leaf t lead h told e = subst (MayStand b lease) (sym e) (λ way there.
+    let P : List SideOf → Type 0 = λ at. KeepsLeaf b.problem b.cuts b.pivot_limit (value_of b) at leaf in
+    record {
+      is_leased = there;
+      sound = record { splits = tt; goal = value_of b; is_told = told; leaves = subst P (lead way there) h.kept; none_leased = h.not_leased };
+      within = omega arith;
+      worthwhile = tt;
+    })
+
+pub split_stands : (b : Board) (lease : Lease) (sides : List SideOf) (f : Fractional) (low high : Unit {0}) (t : Tree) → LeadTo b lease sides → IsToSplit b.problem b.cuts sides lease.best f → 1 ≤ lease.grant
+    → t ≡ Divided f.split (AtLeaf (Todo low)) (AtLeaf (Todo high)) → MayStand b lease t
+split_stands b lease sides f low high t lead h grant e = subst (MayStand b lease) (sym e) (λ way there.
+    let P : List SideOf → Type 0 = λ at. IsToSplit b.problem b.cuts at lease.best f in
+    let here = subst P (lead way there) h in
+    record {
+      is_leased = there;
+      sound = record { splits = (here.split, tt, tt); goal = None; is_told = tt; leaves = (tt, tt); none_leased = (refl, refl) };
+      within = omega (arith, grant);
+      worthwhile = (record { point = here.treated.point; is_optimum = here.treated.is_optimum; beats = here.treated.beats }, tt, tt);
+    })

@@ -1,0 +1,52 @@
+// What the kinds of rows ask for.
+use crate::boards::played;
+use crate::certificates::{checked, deep, read_back};
+use crate::linear::{judged, solved};
+use crate::programs::{found_by_search, found_by_solve, shown_optimum};
+use crate::texts::bytes_of;
+use cplex_lp_reader::read_lp;
+use instance::Instance;
+use std::alloc::{AllocError, Global};
+
+/// What is found for what a row asks. A kind is a word, and behind it what its rows share.
+pub(crate) fn answer(alloc: Global, kind: &str, asked: &str) -> Result<String, AllocError> {
+    let (word, shared) = kind.split_once(' ').unwrap_or((kind, ""));
+    match word {
+        "certificate" => read_back(alloc, shared, asked),
+        "deep" => deep(alloc, shared, asked),
+        "candidate" => judged(alloc, shared, asked),
+        "linear" => solved(alloc, asked),
+        "check" => of_model(alloc, word, shared, asked),
+        "board" => of_model(alloc, word, shared, asked),
+        _ => of_model(alloc, word, asked, shared),
+    }
+}
+
+// What is found for the problem of a CPLEX LP text.
+fn of_model(alloc: Global, word: &str, model: &str, rest: &str) -> Result<String, AllocError> {
+    let text = bytes_of(alloc, model)?;
+    let problem = read_lp(alloc, &text);
+    let found = match &problem {
+        Ok(problem) => of_problem(alloc, word, problem, rest),
+        Err(_) => "no problem".to_string(alloc),
+    };
+    // a call that lets a large value go is cheaper to prove than the end of a block
+    std::mem::drop(problem);
+    found
+}
+
+fn of_problem(
+    alloc: Global,
+    word: &str,
+    problem: &Instance,
+    rest: &str,
+) -> Result<String, AllocError> {
+    match word {
+        "check" => checked(alloc, problem, rest),
+        "search" => found_by_search(alloc, problem, rest),
+        "solve" => found_by_solve(alloc, problem, rest),
+        "optimum" => shown_optimum(alloc, problem),
+        "board" => played(alloc, problem, rest),
+        _ => "no such kind".to_string(alloc),
+    }
+}

@@ -1,0 +1,120 @@
+// Integer programs, and problems of all kinds, with their verdicts; and optimal points of relaxations.
+use crate::texts::{cut, numbers_of};
+use branch_search::{SearchFault, VerdictFault, Wanted, search, solve};
+use candidate::{Candidate, ProposedOptimum, propose};
+use certificate::{Certificate, DerivedRows, Verdict};
+use instance::Instance;
+use search_node::SplitsTaken;
+use search_tree::{Path, is_optimal};
+use std::alloc::{AllocError, Global};
+
+// The limit of splits and that of steps.
+fn limits_of(words: &str) -> (usize, u32) {
+    let (splits, steps) = cut(words);
+    let splits = splits.parse::<usize>().unwrap_or(0);
+    (splits, steps.parse::<u32>().unwrap_or(1))
+}
+
+/// The verdict of a problem that a search over its integer columns finds within limits, or why it finds none.
+pub(crate) fn found_by_search(
+    alloc: Global,
+    problem: &Instance,
+    limits: &str,
+) -> Result<String, AllocError> {
+    let (splits, steps) = limits_of(limits);
+    let verdict = search(alloc, problem, splits, steps);
+    let words = match &verdict {
+        Ok(certificate) => verdict_words(alloc, certificate),
+        Err(fault) => search_fault(fault).to_string(alloc),
+    };
+    std::mem::drop(verdict);
+    words
+}
+
+fn search_fault(fault: &SearchFault) -> &'static str {
+    match fault {
+        SearchFault::NoFit(_) => "overflow",
+        SearchFault::PivotLimit(_) => "steps",
+        SearchFault::SplitLimit => "splits",
+        SearchFault::Unbounded(_) => "ray",
+        SearchFault::NoMemory => "no memory",
+    }
+}
+
+/// The verdict of any problem within limits, or why there is none and what was wanted.
+pub(crate) fn found_by_solve(
+    alloc: Global,
+    problem: &Instance,
+    limits: &str,
+) -> Result<String, AllocError> {
+    let (splits, steps) = limits_of(limits);
+    let verdict = solve(alloc, problem, splits, steps);
+    let words = match &verdict {
+        Ok(certificate) => verdict_words(alloc, certificate),
+        Err(fault) => fault_words(alloc, fault),
+    };
+    std::mem::drop(verdict);
+    words
+}
+
+fn fault_words(alloc: Global, fault: &VerdictFault) -> Result<String, AllocError> {
+    match fault {
+        VerdictFault::NoFit(wanted, _) => with_wanted(alloc, "overflow", *wanted),
+        VerdictFault::PivotLimit(wanted, _) => with_wanted(alloc, "steps", *wanted),
+        VerdictFault::SplitLimit(wanted) => with_wanted(alloc, "splits", *wanted),
+        VerdictFault::NoMemory => Err(AllocError),
+    }
+}
+
+fn with_wanted(alloc: Global, word: &str, wanted: Wanted) -> Result<String, AllocError> {
+    match wanted {
+        Wanted::Best => format!(in alloc; "{word} best"),
+        Wanted::Any => format!(in alloc; "{word} any"),
+    }
+}
+
+// The verdict of a certificate, and its value.
+fn verdict_words(alloc: Global, certificate: &Certificate) -> Result<String, AllocError> {
+    let verdict = verdict_word(certificate);
+    match certificate.value() {
+        None => verdict.to_string(alloc),
+        Some(value) => {
+            let value = value.text(alloc)?;
+            format!(in alloc; "{verdict} {value}")
+        }
+    }
+}
+
+/// The verdict of a certificate.
+pub(crate) fn verdict_word(certificate: &Certificate) -> &'static str {
+    match certificate.verdict() {
+        Verdict::Optimal => "optimal",
+        Verdict::Infeasible => "infeasible",
+        Verdict::Unbounded => "unbounded",
+    }
+}
+
+/// The point that is proposed for a problem's relaxation, where it is shown to be an optimal one.
+pub(crate) fn shown_optimum(alloc: Global, problem: &Instance) -> Result<String, AllocError> {
+    let candidate = propose(alloc, problem, &SplitsTaken::new(alloc), None, 100)?;
+    let words = match &candidate {
+        Some(Candidate::Optimal(found)) => optimum_words(alloc, problem, found),
+        _ => "no point".to_string(alloc),
+    };
+    std::mem::drop(candidate);
+    words
+}
+
+fn optimum_words(
+    alloc: Global,
+    problem: &Instance,
+    found: &ProposedOptimum,
+) -> Result<String, AllocError> {
+    let root = SplitsTaken::new(alloc);
+    let path = Path::below(alloc, &root)?;
+    let cuts = DerivedRows::new(alloc);
+    match is_optimal(problem, &cuts, &root, &path, &found.point, &found.weights) {
+        Ok(true) => numbers_of(alloc, &found.point),
+        _ => "not shown".to_string(alloc),
+    }
+}
