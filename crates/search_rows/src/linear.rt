@@ -1,16 +1,14 @@
 // Linear programs: the certificates that are found for them, and candidates for a verdict, wrong ones and right ones, handed on in place of
 // what the search proposes.
-ghost use Rattle.std.specs.Prelude.{◌≡◌, false};
-ghost use Rattle.branch_solve.specs.Root.{NoneInteger};
-
-use crate::texts::{bytes_of, cut, in_marks, point_of};
-use branch_solve::{SolveFault, solve, solve_with};
+use crate::texts::{bytes_of, cut, in_marks, numbers_of, point_of};
+use branch_search::{Treatment, VerdictFault, solve, treat_with};
 use candidate::{Candidate, ProposedOptimum, ProposedRay, propose};
-use certificate::{Certificate, Item, Items, Weights, text};
+use certificate::{Certificate, DerivedRows, Item, Items, Weights, text};
 use fraction::Frac;
 use instance::{Column, Instance};
 use mps_reader::read_mps;
-use search_node::{Basis, SplitsTaken};
+use search_node::{Basis, Node, SplitsTaken};
+use simplex::root_is_over_columns;
 use std::alloc::{AllocError, Global};
 
 /// What is proposed for the problem of a free MPS text, and the certificate that is found.
@@ -18,7 +16,7 @@ pub(crate) fn solved(alloc: Global, model: &str) -> Result<String, AllocError> {
     of_model(alloc, model, None)
 }
 
-/// The certificate that is found where the candidate of a row is proposed, within so many steps of the run.
+/// What becomes of the root where the candidate of a row is proposed, within so many steps of the run.
 pub(crate) fn judged(alloc: Global, model: &str, asked: &str) -> Result<String, AllocError> {
     of_model(alloc, model, Some(asked))
 }
@@ -49,9 +47,7 @@ fn of_problem(
 }
 
 // Whether a column takes whole numbers alone.
-fn has_integer(columns: &[Column]) -> bool
-    ensures { result ≡ false → NoneInteger columns.now }
-{
+fn has_integer(columns: &[Column]) -> bool {
     for column in columns {
         if column.integer() {
             return true;
@@ -60,9 +56,7 @@ fn has_integer(columns: &[Column]) -> bool
     false
 }
 
-fn proposed_and_found(alloc: Global, problem: &Instance) -> Result<String, AllocError>
-    requires { NoneInteger problem.now.columns }
-{
+fn proposed_and_found(alloc: Global, problem: &Instance) -> Result<String, AllocError> {
     let proposed = proposed(alloc, problem)?;
     let found = found(alloc, problem)?;
     format!(in alloc; "{proposed}: {found}")
@@ -81,34 +75,58 @@ fn proposed(alloc: Global, problem: &Instance) -> Result<&'static str, AllocErro
     Ok(word)
 }
 
-fn found(alloc: Global, problem: &Instance) -> Result<String, AllocError>
-    requires { NoneInteger problem.now.columns }
-{
-    let verdict = solve(alloc, problem, 100);
+fn found(alloc: Global, problem: &Instance) -> Result<String, AllocError> {
+    let verdict = solve(alloc, problem, 0, 100);
     let words = verdict_words(alloc, &verdict);
     std::mem::drop(verdict);
     words
 }
 
-fn with_candidate(alloc: Global, problem: &Instance, asked: &str) -> Result<String, AllocError>
-    requires { NoneInteger problem.now.columns }
-{
+fn with_candidate(alloc: Global, problem: &Instance, asked: &str) -> Result<String, AllocError> {
     let (steps, words) = cut(asked);
     let candidate = candidate(alloc, words)?;
     let limit = steps.parse::<u32>().unwrap_or(1);
-    let verdict = solve_with(alloc, problem, Some(candidate), limit);
-    let words = verdict_words(alloc, &verdict);
-    std::mem::drop(verdict);
+    let treatment = treated(alloc, problem, candidate, limit)?;
+    let words = treatment_words(alloc, &treatment);
+    std::mem::drop(treatment);
     words
+}
+
+// What becomes of the root.
+fn treated(
+    alloc: Global,
+    problem: &Instance,
+    candidate: Candidate,
+    limit: u32,
+) -> Result<Treatment, AllocError> {
+    let cuts = DerivedRows::new(alloc);
+    let root = Node::root(alloc);
+    root_is_over_columns(problem);
+    treat_with(alloc, problem, &cuts, &root, &None, limit, Some(candidate))
+}
+
+// A feasible point with its value.
+fn treatment_words(alloc: Global, treatment: &Treatment) -> Result<String, AllocError> {
+    match treatment {
+        Treatment::Feasible(found) => {
+            let value = found.value.text(alloc)?;
+            let point = numbers_of(alloc, &found.point)?;
+            format!(in alloc; "{value} at {point}")
+        }
+        Treatment::Unbounded(_) => "unbounded".to_string(alloc),
+        Treatment::Refuted(_) => "infeasible".to_string(alloc),
+        Treatment::AtLimit(_) => "undecided".to_string(alloc),
+        _ => "no verdict".to_string(alloc),
+    }
 }
 
 fn verdict_words(
     alloc: Global,
-    verdict: &Result<Certificate, SolveFault>,
+    verdict: &Result<Certificate, VerdictFault>,
 ) -> Result<String, AllocError> {
     match verdict {
         Ok(certificate) => in_marks(alloc, &text(alloc, certificate)?),
-        Err(SolveFault::PivotLimit(_)) => "undecided".to_string(alloc),
+        Err(VerdictFault::PivotLimit(..)) => "undecided".to_string(alloc),
         Err(_) => "no verdict".to_string(alloc),
     }
 }
