@@ -61,7 +61,7 @@ fn fault_words(alloc: Global, fault: &VerdictFault) -> Result<String, AllocError
     match fault {
         VerdictFault::NoFit(wanted, _) => with_wanted(alloc, "overflow", *wanted),
         VerdictFault::PivotLimit(wanted, _) => with_wanted(alloc, "steps", *wanted),
-        VerdictFault::SplitLimit(wanted) => with_wanted(alloc, "splits", *wanted),
+        VerdictFault::SplitLimit(wanted, _) => with_wanted(alloc, "splits", *wanted),
         VerdictFault::NoMemory => Err(AllocError),
     }
 }
