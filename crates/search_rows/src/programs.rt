@@ -35,7 +35,7 @@ fn search_fault(fault: &SearchFault) -> &'static str {
     match fault {
         SearchFault::NoFit(_) => "overflow",
         SearchFault::PivotLimit(_) => "steps",
-        SearchFault::SplitLimit => "splits",
+        SearchFault::SplitLimit(_) => "splits",
         SearchFault::Unbounded(_) => "ray",
         SearchFault::NoMemory => "no memory",
     }
