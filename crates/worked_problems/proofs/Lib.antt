@@ -1,0 +1,15 @@
+mod Fitting
+mod FromZero
+mod Unsplit
+mod RisingX
+mod AnyX
+mod Wholes
+mod OneRow
+mod Blocked
+mod Turning
+mod Turned
+mod PivotedX
+mod PartedX
+mod PartedSplits
+mod PartedSides
+mod PartedSearch
