@@ -28,6 +28,6 @@ unlimited words told s asks none files_rose out_rose (BadCertificate fault) h = 
 unlimited words told s asks none files_rose out_rose (Overflow at fault) h = tt
 unlimited words told s asks none files_rose out_rose (Undecided (Pivots wanted bases)) h =
     h.has.holds.limited.some (ap (λ settings. settings.pivot_limit) (same_Some h.settings s (sym h.asks ∙ asks)) ∙ none)
-unlimited words told s asks none files_rose out_rose (Undecided (Splits wanted)) h = tt
+unlimited words told s asks none files_rose out_rose (Undecided (Splits wanted board)) h = tt
 unlimited words told s asks none files_rose out_rose (Refused part) h = tt
 unlimited words told s asks none files_rose out_rose (NoMemory reached) h = tt

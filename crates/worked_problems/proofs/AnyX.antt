@@ -69,12 +69,9 @@ module _ (integer : Bool) where
   no_fault e (IsWorkFault.in_method h) = no_operation e.a _ e.b h.operation
   no_fault e (IsWorkFault.in_value x w b d h is) = no_err (value_answer (any_x integer) x) e (subst (λ y. IsOk (value_answer (any_x integer) y)) (sym (at.optimal_point integer [] x w b d h)) (value_fits integer)) is
   no_fault e (IsWorkFault.in_point x w b d h is) = no_err (point_answer (any_x integer) (Some x)) e (subst (λ y. IsOk (point_answer (any_x integer) (Some y))) (sym (at.optimal_point integer [] x w b d h)) (point_fits integer)) is
-  no_fault e (IsWorkFault.in_claim x w b d v h is) =
-      no_err (of.value_answer (any_x integer) (Some x) (Some v)) e (subst (λ y. IsOk (of.value_answer (any_x integer) (Some y) (Some v))) (sym (at.optimal_point integer [] x w b d h)) (claim_fits integer v)) is
   no_fault e (IsWorkFault.in_bound x w b d goal h is) =
       no_err (node_answer (node_setting (any_x integer) [] []) goal (Bound w)) e (subst (λ u. IsOk (node_answer (node_setting (any_x integer) [] []) goal (Bound u))) (sym (at.optimal_weights integer [] x w b d h tt)) (bound_fits integer goal)) is
   no_fault e (IsWorkFault.in_empty w goal h is) = at.never_infeasible integer [] w h
-  no_fault e (IsWorkFault.in_endless_point x ray h is) = never_unbounded h.basis h.dictionary h.values h.mover h.direction h.is_unbounded
   no_fault e (IsWorkFault.in_ray x ray h is) = never_unbounded h.basis h.dictionary h.values h.mover h.direction h.is_unbounded
 
   no_ray : (r : List Rational) → ¬ (IsImprovingRay (any_x integer) r)

@@ -78,11 +78,9 @@ module _ (laws : BasisLaws) (sides : List Side) (l : Rational) (u : Option Ratio
   no_fault e (IsWorkFault.in_method h) = never_unfit e (operations_fit e.a _ e.b h.operation) h.not_fit
   no_fault e (IsWorkFault.in_value x v b d h is) = never_optimal x v b d h
   no_fault e (IsWorkFault.in_point x v b d h is) = never_optimal x v b d h
-  no_fault e (IsWorkFault.in_claim x v b d c h is) = never_optimal x v b d h
   no_fault e (IsWorkFault.in_bound x v b d goal h is) = never_optimal x v b d h
   no_fault e (IsWorkFault.in_empty v goal h is) =
       no_err (node_answer (node_setting parted [] sides) goal (Empty v)) e (subst (λ y. IsOk (node_answer (node_setting parted [] sides) goal (Empty y))) (sym (infeasible_weights v h)) (t.test goal)) is
-  no_fault e (IsWorkFault.in_endless_point x ray h is) = never_unbounded h.basis h.dictionary h.values h.mover h.direction h.is_unbounded
   no_fault e (IsWorkFault.in_ray x ray h is) = never_unbounded h.basis h.dictionary h.values h.mover h.direction h.is_unbounded
 
 -- ---- numbers

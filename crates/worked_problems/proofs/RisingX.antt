@@ -98,10 +98,8 @@ no_fault : (e : NoFit) → ¬ (IsWorkFault endless [] [] e)
 no_fault e (IsWorkFault.in_method h) = never_unfit e (operations_fit e.a _ e.b h.operation) h.not_fit
 no_fault e (IsWorkFault.in_value x w b d h is) = never_optimal x w b d h
 no_fault e (IsWorkFault.in_point x w b d h is) = never_optimal x w b d h
-no_fault e (IsWorkFault.in_claim x w b d v h is) = never_optimal x w b d h
 no_fault e (IsWorkFault.in_bound x w b d goal h is) = never_optimal x w b d h
 no_fault e (IsWorkFault.in_empty w goal h is) = at.never_infeasible false form w h
-no_fault e (IsWorkFault.in_endless_point x ray h is) = no_err (point_answer endless (Some x)) e (subst (λ y. IsOk (point_answer endless (Some y))) (sym (unbounded_is x ray h).0) point_fits) is
 no_fault e (IsWorkFault.in_ray x ray h is) = no_err (ray_answer endless (Some ray)) e (subst (λ y. IsOk (ray_answer endless (Some y))) (sym (unbounded_is x ray h).1) ray_fits) is
 
 none_integer : (j : ℕ) → integer_at endless j ≡ false

@@ -68,11 +68,8 @@ module _ (integer : Bool) (a : Rational) (lo hi : Option Rational) (o : Rational
     no_fault e (IsWorkFault.in_method h) = never_unfit e (operations_fit e.a _ e.b h.operation) h.not_fit
     no_fault e (IsWorkFault.in_value x w b d h is) = no_err (value_answer (of_row integer a lo hi o) x) e (subst (λ y. IsOk (value_answer (of_row integer a lo hi o) y)) (sym (optimal_point x w b d h)) tests.value) is
     no_fault e (IsWorkFault.in_point x w b d h is) = no_err (point_answer (of_row integer a lo hi o) (Some x)) e (subst (λ y. IsOk (point_answer (of_row integer a lo hi o) (Some y))) (sym (optimal_point x w b d h)) tests.point) is
-    no_fault e (IsWorkFault.in_claim x w b d v h is) =
-        no_err (of.value_answer (of_row integer a lo hi o) (Some x) (Some v)) e (subst (λ y. IsOk (of.value_answer (of_row integer a lo hi o) (Some y) (Some v))) (sym (optimal_point x w b d h)) (tests.claim v)) is
     no_fault e (IsWorkFault.in_bound x w b d goal h is) =
         no_err (node_answer (node_setting (of_row integer a lo hi o) [] []) goal (Bound w)) e
         (subst (λ u. IsOk (node_answer (node_setting (of_row integer a lo hi o) [] []) goal (Bound u))) (sym (optimal_weights x w b d h)) (tests.closed goal)) is
     no_fault e (IsWorkFault.in_empty w goal h is) = never_infeasible w h
-    no_fault e (IsWorkFault.in_endless_point x ray h is) = never_unbounded a lo hi (one_ℚ *ℚ o) place bound laws t h.basis h.dictionary h.values h.mover h.direction h.is_unbounded
     no_fault e (IsWorkFault.in_ray x ray h is) = never_unbounded a lo hi (one_ℚ *ℚ o) place bound laws t h.basis h.dictionary h.values h.mover h.direction h.is_unbounded
