@@ -57,14 +57,14 @@ fn treatment_of(
 {
     let problem = board.problem();
     let cuts = board.cuts();
-    if !are_none(cuts) {
-        return Ok(None);
+    if are_none(cuts) {
+        root_is_over_columns(problem);
+        let hint = no_hint();
+        let treatment = treat(alloc, problem, cuts, node, best, 100, &hint);
+        std::mem::drop(hint);
+        return Ok(Some(treatment?));
     }
-    root_is_over_columns(problem);
-    let hint = no_hint();
-    let treatment = treat(alloc, problem, cuts, node, best, 100, &hint);
-    std::mem::drop(hint);
-    Ok(Some(treatment?))
+    Ok(None)
 }
 
 fn are_none(cuts: &DerivedRows) -> bool

@@ -1,0 +1,50 @@
+// Integer programs in the three languages, whose optima GLPK gives too, and certificates with a tree.
+use crate::rows::{Subject, check};
+use std::test::Fail;
+
+// Among them a knapsack and its relaxation, equations that no whole numbers meet, limits of splits that are too small,
+// integer columns of free MPS and MathProg, and rays with and without a feasible point.
+const INTEGER: &str = "\
+0 OPTIMAL$objective obj 21$column a 0$column b 1$column c 1$column d 1$row r.1 14$ <- --lp f <- max$ 8 a + 11 b + 6 c + 4 d$st$ 5 a + 7 b + 4 c + 3 d <= 14$binary$ a b c d$end$
+0 OPTIMAL$objective obj 22$column a 1$column b 1$column c 1/2$column d 0$row r.1 14$ <- --lp f --nomip <- max$ 8 a + 11 b + 6 c + 4 d$st$ 5 a + 7 b + 4 c + 3 d <= 14$binary$ a b c d$end$
+4 UNDECIDED nodes$ <- --lp f --nodlim 3 <- min$ x$st$ 2 x - 2 y = 1$general$ x y$end$
+4 UNDECIDED nodes$ <- --lp f --nodlim 0 <- min$ x$st$ 2 x - 2 y = 1$general$ x y$end$
+0 OPTIMAL$objective obj 1/2$column x 1/2$column y 0$row r.1 1$ <- --lp f --nomip --nodlim 0 <- min$ x$st$ 2 x - 2 y = 1$general$ x y$end$
+0 INFEASIBLE$ <- --lp f <- min$ x$st$ 1 <= 3 x <= 2$general$ x$end$
+0 INFEASIBLE$ <- --lp f --nodlim 1 <- min$ x$st$ 1 <= 3 x <= 2$general$ x$end$
+0 INFEASIBLE$ <- --lp f <- min$ - y$st$ 1 <= 3 x <= 2$general$ x$end$
+0 UNBOUNDED$column x <- --lp f <- max$ x + y$st$ 2 x - 2 y = 2$general$ x y$end$
+0 OPTIMAL$objective cost -8$column x 2$row c1 4$ <- --freemps f <- ROWS$ N cost$ G c1$COLUMNS$ M1 'MARKER' 'INTORG'$ x cost 1 c1 2$ M2 'MARKER' 'INTEND'$RHS$ cost 10 c1 3$ENDATA$
+0 OPTIMAL$objective cost -5$column x 1$column y 1$row c1 5$ <- --freemps f <- ROWS$ N cost$ L c1$COLUMNS$ x cost -3 c1 3$ y cost -2 c1 2$RHS$ R c1 6$BOUNDS$ BV b x$ BV b y$ENDATA$
+0 OPTIMAL$objective cost 3$column x -3$row c1 -15/2$ <- --freemps f <- ROWS$ N cost$ L c1$COLUMNS$ x cost -1 c1 2.5$RHS$ R c1 -7$BOUNDS$ LI b x -9$ UI b x -1$ENDATA$
+0 OPTIMAL$objective z 1$column x 1$row z 1$ <- --math f <- var x integer, >= 1/2; minimize z: x; end;
+0 OPTIMAL$objective z 11$column x[1] 1$column x[2] 0$column x[3] 1$row z 11$row r 7$ <- --math f <- set I := 1..3; var x{I} binary; maximize z: sum{i in I} (8 - i*i*(if i = 2 then 2 else 1) + (if i = 3 then 5 else 0))*x[i]; s.t. r: sum{i in I} (2*i - (if i = 3 then 0 else 1))*x[i] <= 8; end;
+2 file fault: line 6: BadLine$ <- --lp f <- min$ x$st$ x >= 1$general$ x >= 2$end$
+1 usage: <- --lp f --nodlim 1000001 <- min$ x$st$ x >= 1$end$
+";
+
+#[test]
+fn integer_programs(rt: HostRuntime) -> Result<(), Fail> {
+    check(&rt, rt.alloc(), &Subject::Answers, INTEGER)
+}
+
+// What the program writes with `--cert` it accepts with `--checkcert`.
+#[test]
+fn their_certificates_are_accepted(rt: HostRuntime) -> Result<(), Fail> {
+    check(&rt, rt.alloc(), &Subject::RoundTrips, INTEGER)
+}
+
+// Whole numbers that no split finds, refuted by a derived row; and a tree of one split.
+const CHECKED: &str = "\
+0 ACCEPTED$ <- --lp f --checkcert c <- min$ x$st$ 2 x - 2 y = 1$general$ x y$end$ <- cert 1$size 1 2$verdict infeasible$derived 1$derive 1$split 0 1:1 2:-1$low 2 r1:1$high 2 r1:-1$tree$empty d1:1$end$
+6 refused: derived 1$ <- --lp f --checkcert c <- min$ x$st$ 2 x - 2 y = 1$general$ x y$end$ <- cert 1$size 1 2$verdict infeasible$derived 1$derive 1$split 0 1:1 2:-1$low 2 r1:1$high 2$tree$empty d1:1$end$
+6 refused: derived 1$ <- --lp f --nomip --checkcert c <- min$ x$st$ 2 x - 2 y = 1$general$ x y$end$ <- cert 1$size 1 2$verdict infeasible$derived 1$derive 1$split 0 1:1 2:-1$low 2 r1:1$high 2 r1:-1$tree$empty d1:1$end$
+0 ACCEPTED$ <- --lp f --checkcert c <- min$ x$st$ 1 <= 3 x <= 2$general$ x$end$ <- cert 1$size 1 1$verdict infeasible$derived 0$tree$branch 1 0$empty r1:1 c1:-3$empty r1:-1 c1:3$end$
+6 refused: point$ <- --lp f --checkcert c <- max$ x$st$ 2 x <= 3$general$ x$end$ <- cert 1$size 1 1$verdict optimal$value 3/2$point 3/2$derived 0$tree$bound r1:-1/2$end$
+0 ACCEPTED$ <- --lp f --nomip --checkcert c <- max$ x$st$ 2 x <= 3$general$ x$end$ <- cert 1$size 1 1$verdict optimal$value 3/2$point 3/2$derived 0$tree$bound r1:-1/2$end$
+";
+
+#[test]
+fn trees_are_checked(rt: HostRuntime) -> Result<(), Fail> {
+    check(&rt, rt.alloc(), &Subject::Answers, CHECKED)
+}
