@@ -1,5 +1,4 @@
 #!/bin/sh
 # Measures the check of certificates whose trees are a chain and a balanced tree, and the reading of a long certificate.
 top=$(CDPATH='' cd -- "$(dirname -- "$0")/.." && pwd) || exit 1
-(cd "$top/crates/measure" && rt run) >/dev/null 2>&1 </dev/null
-"$top/crates/measure/out/measure" --measure certificates
+exec "$top/bench/measure.sh" --measure certificates

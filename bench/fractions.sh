@@ -4,8 +4,7 @@
 # a text of 60 places and of one of 60 significant digits.
 top=$(CDPATH='' cd -- "$(dirname -- "$0")/.." && pwd) || exit 1
 echo "Rattle"
-(cd "$top/crates/measure" && rt run) >/dev/null 2>&1 </dev/null
-"$top/crates/measure/out/measure" --measure fractions || exit 1
+"$top/bench/measure.sh" --measure fractions || exit 1
 command -v rustc >/dev/null 2>&1 || exit 0
 made=$(mktemp -d) || exit 1
 trap 'rm -rf "$made"' EXIT

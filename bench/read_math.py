@@ -3,7 +3,7 @@
 
 usage: bench/read_math.py
 
-Read alone, by the program of crate measure (`rt ci measure` builds it): 50,000 and 100,000 statements of one line, and
+Read alone, by the program of bench/measure.sh, which is built at the first run: 50,000 and 100,000 statements of one line, and
 one statement of 500,000 and 1,000,000 tokens. Read and executed, by `glpsol --math FILE --check`: models with 2,000 to 100,000
 columns (the bar is one of 100,000 columns and 1,000,000 entries in under 10 s and 1 GB), a sum over 1,000,000 elements, a cross of
 1,000 by 1,000, 100,000 tuples looked up in a set of 100,000, `comb[60,30]` by its recursion, data sections with 1,000,000 numbers
@@ -18,7 +18,7 @@ import tempfile
 import time
 
 TOP = os.path.dirname(os.path.dirname(os.path.abspath(__file__)))
-PARSER = [os.path.join(TOP, "crates", "measure", "out", "measure"), "--measure", "models"]
+PARSER = [os.path.join(TOP, "bench", "measure.sh"), "--measure", "models"]
 PROGRAM = os.path.join(TOP, "crates", "glpsol", "out", "glpsol")
 
 

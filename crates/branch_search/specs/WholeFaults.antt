@@ -30,6 +30,11 @@ IsFault p splits pivots (PivotLimit wanted bases) = IsWanted p wanted × IsRunTo
 IsFault p splits pivots (SplitLimit wanted board) = IsWanted p wanted × IsOutOfSplits (searched p wanted) [] splits pivots board
 IsFault p splits pivots NoMemory = Unit {0}
 
+-- the fault is not that the limit of steps was met
+abbrev pub IsNotByPivots : VerdictFault → Type 0
+IsNotByPivots (PivotLimit wanted bases) = ⊥
+IsNotByPivots fault = Unit {0}
+
 -- a fault after the last search: in the test of the ray that the first one found, or want of memory
 abbrev pub IsAfterSearch : Problem → ℕ → VerdictFault → Type 0
 IsAfterSearch p splits (NoFit Best site) = IsStuckAt p [] splits site

@@ -3,7 +3,7 @@ ghost use Rattle.std.specs.Prelude.{◌≡◌, IfOk, IfErr};
 ghost use Rattle.verdicts.specs.Proves.{Proves};
 ghost use Rattle.cert_check.specs.Outcome.{Acceptance, outcome, trials};
 ghost use Rattle.branch_search.specs.Plain.{NoneInteger, IsPlainCertificate};
-ghost use Rattle.branch_search.specs.WholeFaults.{IsFault};
+ghost use Rattle.branch_search.specs.WholeFaults.{IsFault, IsNotByPivots};
 
 use crate::endless::beyond;
 use crate::search;
@@ -33,6 +33,7 @@ pub fn solve(
     ensures accepted { IfOk result (λ c. outcome (trials problem.now c) ≡ Acceptance) }
     ensures plain { NoneInteger problem.now.columns → IfOk result (λ c. IsPlainCertificate problem.now c) }
     ensures fault { IfErr result (IsFault problem.now split_limit pivot_limit) }
+    ensures unlimited { pivot_limit ≡ 0 → IfErr result IsNotByPivots }
 {
     match search(alloc, problem, split_limit, pivot_limit) {
         Ok(certificate) => Ok(certificate),

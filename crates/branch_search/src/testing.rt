@@ -103,7 +103,7 @@ fn optimal(
     if !is_better(problem.direction(), objective, best) {
         return Verdict::Passed(Treatment::Bounded(found.weights));
     }
-    match first_fraction(problem.columns(), &found.point) {
+    match fraction(problem.columns(), &found.point, found.column) {
         Some(j) => told(problem, cuts, path, best, objective, found, basic, j),
         None => whole(problem, cuts, path, best, objective, found, basic),
     }
@@ -219,6 +219,28 @@ fn fractional(
         value: objective,
         basis: found.basis,
     })
+}
+
+// An integer column whose number is not whole: the one that is advised, where it is so, else the first.
+fn fraction(columns: &[Column], point: &Point, advice: Option<usize>) -> Option<usize>
+    requires { length point.now ≡ length columns.now }
+    ensures known { IfSome result (λ j. j < length columns.now) }
+    ensures fraction { IsFraction columns.now point.now result }
+{
+    match advice {
+        Some(j) if is_fraction(columns, point, j) => Some(j),
+        _ => first_fraction(columns, point),
+    }
+}
+
+// Whether there is such a column, it is integer, and its number is not whole.
+fn is_fraction(columns: &[Column], point: &Point, j: usize) -> bool
+    requires { length point.now ≡ length columns.now }
+    ensures known { result ≡ true → j < length columns.now }
+    ensures fraction { result ≡ true → IsFraction columns.now point.now (Some j) }
+{
+    let numbers = point.as_slice();
+    j < columns.len() && columns[j].integer() && !numbers[j].is_whole()
 }
 
 // The first integer column whose number is not whole.

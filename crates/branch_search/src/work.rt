@@ -1,10 +1,12 @@
 // The work at one node.
-ghost use Rattle.std.specs.Prelude.{ℕ, ◌≡◌, true, IfOk, IfSome, Option};
+ghost use Rattle.std.specs.Prelude.{ℕ, ◌≡◌, true, IfOk, IfSome, Option, Some};
 ghost use Rattle.rational.specs.Rational.{Rational};
 ghost use Rattle.basis.specs.Node.{IsOverColumns, IsNodePoint};
 ghost use Rattle.basis.specs.Relaxation.{IsOptimalRelaxation, IsInfeasibleRelaxation};
 ghost use Rattle.dictionary.specs.Table.{dictionary_of};
 ghost use Rattle.search_node.specs.Sides.{sides_of};
+ghost use Rattle.search_tree.specs.Nodes.{NodePasses};
+ghost use Rattle.verdicts.specs.Certificate.{Bound};
 ghost use Rattle.branch_search.specs.Treatment.{IsTreatment};
 
 use crate::testing::{Verdict, test_optimum};
@@ -13,7 +15,7 @@ use candidate::{Candidate, ProposedOptimum, ProposedRay, propose};
 use cert_check::is_improving_ray;
 use certificate::{DerivedRows, Weights};
 use fraction::{Frac, NoFit};
-use instance::Instance;
+use instance::{Instance, signed};
 use search_node::{Basis, Node, Site, SplitsTaken, Stuck};
 use search_tree::{Hint, Path, is_node_point, optimal_points};
 use simplex::{Best, Dictionary, Endless, Relaxed, relax};
@@ -36,8 +38,27 @@ pub fn treat(
     requires columns { IsOverColumns problem.now cuts.now (sides_of node.now.splits) }
     ensures { IfOk result (IsTreatment problem.now cuts.now pivot_limit (sides_of node.now.splits) best.now) }
 {
-    let candidate = propose(alloc, problem, &node.splits, hint.basis(), pivot_limit)?;
+    let cutoff = cutoff_of(problem, best);
+    let candidate = propose(
+        alloc,
+        problem,
+        &node.splits,
+        hint.basis(),
+        pivot_limit,
+        cutoff,
+    )?;
     treat_with(alloc, problem, cuts, node, best, pivot_limit, candidate)
+}
+
+// The best value of the objective's form, as the search for a least value sees it.
+fn cutoff_of(problem: &Instance, best: &Option<Frac>) -> Option<Frac> {
+    match *best {
+        None => None,
+        Some(best) => match best.sub(problem.constant()) {
+            Ok(form) => Some(signed(problem.direction(), form)),
+            Err(_) => None,
+        },
+    }
 }
 
 /// The same with this candidate, if there is one, in place of what the search proposes.
@@ -76,12 +97,55 @@ fn proposed(
     match candidate {
         None => None,
         Some(Candidate::Unbounded(endless)) => proposed_ray(problem, cuts, splits, endless),
+        Some(Candidate::Bounded(weights)) => {
+            proposed_bound(problem, cuts, splits, path, best, weights)
+        }
         Some(Candidate::Infeasible(weights)) => {
             proposed_weights(problem, cuts, splits, path, best, weights)
         }
         Some(Candidate::Optimal(found)) => {
             proposed_optimum(problem, cuts, splits, path, best, found)
         }
+    }
+}
+
+// The weights are to show that the node has no point that is better than the best.
+fn proposed_bound(
+    problem: &Instance,
+    cuts: &DerivedRows,
+    splits: &SplitsTaken,
+    path: &Path,
+    best: &Option<Frac>,
+    weights: Weights,
+) -> Option<Treatment>
+    requires { path.now ≡ sides_of splits.now }
+    ensures { IfSome result (λ t. (limit : ℕ) → IsTreatment problem.now cuts.now limit (sides_of splits.now) best.now t) }
+{
+    match *best {
+        None => None,
+        Some(best) => {
+            if shows_bound(problem, cuts, path, best, &weights) {
+                Some(Treatment::Bounded(weights))
+            } else {
+                None
+            }
+        }
+    }
+}
+
+// Whether the weights show that the node has no point that is better than this value; not where an operation does not fit.
+fn shows_bound(
+    problem: &Instance,
+    cuts: &DerivedRows,
+    path: &Path,
+    best: Frac,
+    weights: &Weights,
+) -> bool
+    ensures { result ≡ true → NodePasses problem.now (Some best) cuts.now path.now (Bound weights.now) }
+{
+    match best.sub(problem.constant()) {
+        Ok(form) => passes(path.shows_none_better(problem, cuts, weights, form)),
+        Err(_) => false,
     }
 }
 
@@ -97,10 +161,10 @@ fn proposed_weights(
     requires { path.now ≡ sides_of splits.now }
     ensures { IfSome result (λ t. (limit : ℕ) → IsTreatment problem.now cuts.now limit (sides_of splits.now) best.now t) }
 {
-    match path.shows_no_point(problem, cuts, &weights) {
-        Ok(true) => Some(Treatment::Refuted(weights)),
-        Ok(false) => None,
-        Err(_) => None,
+    if passes(path.shows_no_point(problem, cuts, &weights)) {
+        Some(Treatment::Refuted(weights))
+    } else {
+        None
     }
 }
 
@@ -148,10 +212,10 @@ fn proposed_optimum(
     requires path { path.now ≡ sides_of splits.now }
     ensures { IfSome result (λ t. (limit : ℕ) → IsTreatment problem.now cuts.now limit (sides_of splits.now) best.now t) }
 {
-    match is_node_point(problem, cuts, splits, &found.point) {
-        Ok(true) => proposed_point(problem, cuts, splits, path, best, found),
-        Ok(false) => None,
-        Err(_) => None,
+    if passes(is_node_point(problem, cuts, splits, &found.point)) {
+        proposed_point(problem, cuts, splits, path, best, found)
+    } else {
+        None
     }
 }
 
@@ -267,6 +331,7 @@ fn optimal(
         point: found.point,
         weights: found.weights,
         basis,
+        column: None,
         told: None,
     };
     optimal_points();

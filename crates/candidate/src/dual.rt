@@ -118,6 +118,23 @@ fn robust_choice(
     }
 }
 
+/// How much a step brings at least that takes the variable of the row that was found so far, down or up: none, where nothing can
+/// enter.
+pub(crate) fn step_gain(
+    state: &State,
+    alloc: Global,
+    down: bool,
+    far: Frac,
+) -> Result<Option<Frac>, Stop> {
+    let open = offers(state, alloc, down)?;
+    let best = match best_offer(state, &open) {
+        Some(best) => best,
+        None => return Ok(None),
+    };
+    let length = product(best.ratio, state.scale)?;
+    Ok(Some(product(length, far)?))
+}
+
 // The variable that enters: the first price that would turn. Variables with two bounds are passed while the row
 // stays broken.
 fn choice(state: &State, alloc: Global, broken: &Broken) -> Result<Option<Entering>, Stop> {

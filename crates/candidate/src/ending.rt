@@ -32,6 +32,8 @@ pub(crate) enum Step {
 /// What a search comes to.
 #[derive(Drop)]
 pub(crate) enum End {
+    /// No point is better than the cutoff.
+    Bounded,
     Optimal,
     Infeasible(Blocked),
     Unbounded(Endless),

@@ -5,6 +5,7 @@
 //! safe and returns. The checker of certificates judges a proposal, and a proved method decides where none passes.
 #![tactic(auto)]
 
+mod branching;
 mod dual;
 mod ending;
 mod primal;

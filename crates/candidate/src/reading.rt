@@ -2,6 +2,7 @@
 ghost use Rattle.std.specs.Prelude.{◌≤◌, ◌<◌, ◌+◌, ◌*◌, OnOk};
 ghost use Rattle.certificate.specs.Written.{count_max, next_rank};
 
+use crate::branching::advised;
 use crate::ending::{Blocked, Endless};
 use crate::proposal::{Candidate, ProposedOptimum, ProposedRay};
 use certificate::{Item, Items, Weights};
@@ -12,26 +13,40 @@ use sparse_factors::{Stop, add, number_at, put, zeros};
 use std::alloc::{AllocError, Global};
 use tableau::{Model, State, places_of, prices_at};
 
-/// The point, the weights for the true costs, the basis, and what tells the number of the first integer column that is not
-/// whole.
-pub(crate) fn optimum(alloc: Global, columns: &[Column], state: &State) -> Result<Candidate, Stop> {
+/// The weights for the true costs.
+pub(crate) fn bound(alloc: Global, state: &State) -> Result<Candidate, Stop> {
+    Ok(Candidate::Bounded(cost_weights(alloc, state)?))
+}
+
+fn cost_weights(alloc: Global, state: &State) -> Result<Weights, Stop> {
     let y = state.row_weights(alloc, &state.model.costs)?;
     let prices = prices_at(alloc, &state.model, &y, &state.model.costs)?;
-    let weights = weights(alloc, &state.model, &prices)?;
+    weights(alloc, &state.model, &prices)
+}
+
+/// The point, the weights for the true costs, the basis, and what tells the number of the column that may be split.
+pub(crate) fn optimum(
+    alloc: Global,
+    columns: &[Column],
+    state: &mut State,
+) -> Result<Candidate, Stop> {
+    let weights = cost_weights(alloc, state)?;
     let point = point(alloc, state)?;
     let places = places_of(alloc, &state.model, &state.places, &state.at_upper)?;
     let basis = Basis::from_vec(places);
+    let column = advised(alloc, columns, state)?;
     Ok(Candidate::Optimal(ProposedOptimum {
         point,
         weights,
         basis,
-        told: telling(alloc, columns, state)?,
+        column,
+        told: telling(alloc, state, column)?,
     }))
 }
 
-// Weights of what rests that make the first integer column alone that is not whole, if there is one and they fit.
-fn telling(alloc: Global, columns: &[Column], state: &State) -> Result<Option<Weights>, Stop> {
-    match first_fraction(columns, state) {
+// Weights of what rests that make this column alone, if they fit.
+fn telling(alloc: Global, state: &State, column: Option<usize>) -> Result<Option<Weights>, Stop> {
+    match column {
         None => Ok(None),
         Some(column) => match row_of(alloc, state, column) {
             Ok(weights) => Ok(Some(weights)),
@@ -39,15 +54,6 @@ fn telling(alloc: Global, columns: &[Column], state: &State) -> Result<Option<We
             Err(_) => Ok(None),
         },
     }
-}
-
-fn first_fraction(columns: &[Column], state: &State) -> Option<usize> {
-    for j in 0..columns.len() {
-        if columns[j].integer() && !state.value_of(j).is_whole() {
-            return Some(j);
-        }
-    }
-    None
 }
 
 // A basic column's row of the table, as weights: the column is the sum of what they name.

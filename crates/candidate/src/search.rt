@@ -3,7 +3,7 @@ use crate::dual::dual_step;
 use crate::ending::{End, Step};
 use crate::primal::primal_step;
 use fraction::Frac;
-use sparse_factors::{Stop, add, copied, difference, filled, number_at, put};
+use sparse_factors::{Stop, add, copied, difference, filled, fused, number_at, put};
 use std::alloc::Global;
 use tableau::{State, TieRule};
 
@@ -12,9 +12,9 @@ const TRIES: u32 = 6;
 
 /// From this basis to an end. Where a number does not fit, the basis is factored anew and ties are broken by the next
 /// rule, a few times.
-pub(crate) fn run(state: &mut State, alloc: Global) -> Result<End, Stop> {
+pub(crate) fn run(state: &mut State, alloc: Global, cutoff: &Option<Frac>) -> Result<End, Stop> {
     for _ in 0..TRIES {
-        match run_once(state, alloc) {
+        match run_once(state, alloc, cutoff) {
             Err(Stop::NoFit) => {}
             outcome => return outcome,
         }
@@ -22,10 +22,10 @@ pub(crate) fn run(state: &mut State, alloc: Global) -> Result<End, Stop> {
         state.steps_between = (state.steps_between / 2).max(4);
         state.try_to_refactor(alloc)?;
     }
-    run_once(state, alloc)
+    run_once(state, alloc, cutoff)
 }
 
-fn run_once(state: &mut State, alloc: Global) -> Result<End, Stop> {
+fn run_once(state: &mut State, alloc: Global, cutoff: &Option<Frac>) -> Result<End, Stop> {
     state.stalls = 0;
     state.costs = copied(alloc, &state.model.costs)?;
     state.costs_are_shifted = false;
@@ -40,7 +40,7 @@ fn run_once(state: &mut State, alloc: Global) -> Result<End, Stop> {
             shift_costs(state, &wrong)?;
         }
     }
-    match dual_phase(state, alloc)? {
+    match dual_phase(state, alloc, cutoff)? {
         Some(end) => Ok(end),
         None => finish(state, alloc),
     }
@@ -96,8 +96,15 @@ fn shift_costs(state: &mut State, wrong: &[usize]) -> Result<(), Stop> {
     Ok(())
 }
 
-fn dual_phase(state: &mut State, alloc: Global) -> Result<Option<End>, Stop> {
+fn dual_phase(
+    state: &mut State,
+    alloc: Global,
+    cutoff: &Option<Frac>,
+) -> Result<Option<End>, Stop> {
     for _ in 0..u64::from(state.steps_left) + 1 {
+        if is_cut_off(state, cutoff) {
+            return Ok(Some(End::Bounded));
+        }
         match dual_step(state, alloc)? {
             Step::Taken => {}
             Step::Done => return Ok(None),
@@ -106,6 +113,31 @@ fn dual_phase(state: &mut State, alloc: Global) -> Result<Option<End>, Stop> {
         }
     }
     Err(Stop::Steps)
+}
+
+// The prices bound the value, which is not below the cutoff. They do so while a bound is broken and the costs are the true ones.
+fn is_cut_off(state: &State, cutoff: &Option<Frac>) -> bool {
+    match cutoff {
+        None => false,
+        Some(least) => {
+            !state.costs_are_shifted && !state.is_feasible() && is_at_least(state, least)
+        }
+    }
+}
+
+fn is_at_least(state: &State, least: &Frac) -> bool {
+    match objective(state) {
+        Ok(value) => *least <= value,
+        Err(_) => false,
+    }
+}
+
+fn objective(state: &State) -> Result<Frac, Stop> {
+    let mut value = Frac::zero();
+    for v in 0..state.model.matrix.columns {
+        value = fused(state.model.cost_of(v), state.value_of(v), value)?;
+    }
+    Ok(value)
 }
 
 fn primal_phase(state: &mut State, alloc: Global) -> Result<End, Stop> {

@@ -43,9 +43,14 @@ abbrev pub field_at : Option ℕ → Outcome Source
 field_at None = Err NoField
 field_at (Some place) = Ok (Field place)
 
+-- where there is no header there is no field
+unfoldable pub record_number : Record → Outcome Source
+record_number [] = Err NoField
+record_number (name ∷ more) = Ok RecordNumber
+
 -- `RECNO` is the number of the record, any other name the first field that the header names so
 unfoldable pub source_named : Record → List ℕ → Outcome Source
-source_named header name = if bytes_eq name (codes "RECNO") then Ok RecordNumber else field_at (position (bytes_eq name) header)
+source_named header name = if bytes_eq name (codes "RECNO") then record_number header else field_at (position (bytes_eq name) header)
 
 -- those of some names, behind those found before
 abbrev pub sources_behind : List Source → Record → List (List ℕ) → Outcome (List Source)

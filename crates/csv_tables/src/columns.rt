@@ -4,7 +4,7 @@ ghost use Rattle.std.specs.List.{position};
 ghost use Rattle.std.specs.Str.{bytes_eq};
 ghost use Rattle.csv.specs.Records.{fields_of};
 ghost use Rattle.csv_tables.specs.Outcome.{Gives, GivesAs};
-ghost use Rattle.csv_tables.specs.Reading.{texts_of, source_named, sources_of, columns_of};
+ghost use Rattle.csv_tables.specs.Reading.{texts_of, record_number, source_named, sources_of, columns_of};
 
 use crate::fault::{TableError, TableFault};
 use crate::records::texts;
@@ -91,11 +91,22 @@ fn source_named(header: &[&str], name: &str) -> Result<Source, TableError>
     ensures { Gives result (source_named (map (λ t. t.now) header.now) name.now) }
 {
     if name == "RECNO" {
-        return Ok(Source::RecordNumber);
+        return record_number(header);
     }
     match place(header, name) {
         Some(place) => Ok(Source::Field(place)),
         None => Err(TableError::Fault(TableFault::NoField)),
+    }
+}
+
+// The number of a record, where there is a header.
+#[tactic(auto, unfolding(crate::specs::Reading::record_number))]
+fn record_number(header: &[&str]) -> Result<Source, TableError>
+    ensures { Gives result (record_number (map (λ t. t.now) header.now)) }
+{
+    match header {
+        [] => Err(TableError::Fault(TableFault::NoField)),
+        [_, ..] => Ok(Source::RecordNumber),
     }
 }
 

@@ -13,14 +13,14 @@ fn main(rt: HostRuntime) -> ExitCode {
     let mut out = RealSink::new(&rt);
     // a file that is made must not get the place of a closed output
     if !out.is_open() {
-        return ExitCode::from(code_of(closed()));
+        return ExitCode::from(closed().into_code());
     }
     let code = match words(&rt, alloc) {
         Ok(words) => {
             let mut files = RealStore::new(&rt, alloc);
-            code_of(run(&rt, alloc, words, &mut files, &mut out))
+            run(&rt, alloc, words, &mut files, &mut out).into_code()
         }
-        Err(_) => code_of(out_of_memory(alloc, &mut out)),
+        Err(_) => out_of_memory(alloc, &mut out).into_code(),
     };
     ExitCode::from(code)
 }
@@ -53,9 +53,4 @@ fn words_of<R: Env + Alloc<A = Global>>(rt: &R, alloc: Global) -> io::Result<Vec
         words.push(word)?;
     }
     Ok(words)
-}
-
-// The status of an answer, which is let go here: a function that drops an answer is dear to prove.
-fn code_of(answer: Answer) -> u8 {
-    answer.code()
 }

@@ -1,5 +1,5 @@
 -- What is said of an answer by the settings and the texts that were read, as it is said by the words.
-use Rattle.std.proofs.Common.{◌≤◌, ℕ, List, ◌++◌, None, Some}
+use Rattle.std.proofs.Common.{◌≤◌, ℕ, List, ◌++◌, None, Some, inl}
 use Rattle.outside.specs.Causes.{Rose}
 use Rattle.outside.specs.declared.store.LoadFault.{LoadFault}
 use Rattle.outside.specs.declared.store.LoadFault.TheVariants.{Missing as LoadMissing, Open, Read, TooLong as LoadTooLong, NoMemory as LoadNoMemory}
@@ -59,13 +59,13 @@ module _ (words : List (List ℕ)) (old new : Outside) where
   unread_written name Open line = (old, nothing old, line)
   unread_written name Read line = (old, nothing old, line)
   unread_written name LoadTooLong line = (old, nothing old, line)
-  unread_written name LoadNoMemory line = (old, nothing old, line)
+  unread_written name LoadNoMemory line = inl (old, nothing old, line)
 
   pub stop_written : (stop : Stop) → IsWrittenInPart Out (line_of (stop_answer stop)) old new → Written words old new (stop_answer stop)
   stop_written (Words WordsUsage) line = (old, nothing old, line)
-  stop_written (Words WordsNoMemory) line = (old, nothing old, line)
+  stop_written (Words WordsNoMemory) line = inl (old, nothing old, line)
   stop_written (File u) line = unread_written u.name u.fault line
-  stop_written StopNoMemory line = (old, nothing old, line)
+  stop_written StopNoMemory line = inl (old, nothing old, line)
 
   pub table_written : (told : ToldNames) (name : List ℕ) (fault : LoadFault) → OfTexts words told (HasDone (λ done. (middle : Outside) × AllWritten done old middle × IsWrittenInPart Out (line_of (unread_answer Executed name fault)) middle new)) → WrittenSince words told old new (unread_answer Executed name fault)
   table_written told name LoadMissing h = h
@@ -73,7 +73,7 @@ module _ (words : List (List ℕ)) (old new : Outside) where
   table_written told name Read h = h
   table_written told name LoadTooLong h = h
   table_written told name LoadNoMemory h = of_texts words told (HasDone (λ done. (middle : Outside) × AllWritten done old middle × IsWrittenInPart Out (line_of (unread_answer Executed name LoadNoMemory)) middle new)) (HasDone (ThenLine Part (line_of (unread_answer Executed name LoadNoMemory)) old new))
-      (λ s texts done. record { meaning = done.meaning; means = done.means; has = (done.has.0, all_some done.meaning.done old done.has.0 done.has.1, done.has.2) }) h
+      (λ s texts done. record { meaning = done.meaning; means = done.means; has = inl (done.has.0, all_some done.meaning.done old done.has.0 done.has.1, done.has.2) }) h
 
 -- ---- what was read are the texts of the words
 

@@ -13,11 +13,11 @@ use Rattle.branch_search.specs.declared.whole_fault.VerdictFault.TheVariants.{No
 use Rattle.solution_writer.specs.Report.{IsShownPoint}
 use Rattle.command_line.specs.declared.settings.Settings.{Settings}
 use Rattle.glpsol_cli.specs.Asked.{ToldNames, names_read}
-use Rattle.glpsol_cli.specs.Pieces.{Piece, Outside, SameNames, AllWritten, Whole}
+use Rattle.glpsol_cli.specs.Pieces.{Piece, Outside, SameNames, AllWritten, WrittenUpTo, Whole}
 use Rattle.glpsol_cli.specs.Meaning.{Behind, Declared, IsAsked, Meaning, behind_at, behind_of, found_pieces, meaning_in, meaning_of}
 use Rattle.glpsol_cli.specs.Cause.{Cause, EndsBehind, IsProved, IsTranslated, reached_of}
 use Rattle.glpsol_cli.specs.Written.{Written, ThenLine, extent_of, line_of}
-use Rattle.glpsol_cli.specs.Stages.{EndsWriting, HasFailed, IsEndBehind, IsEndIn, IsFinding, IsKept, IsPublished, IsStop, IsSubject, IsUnfound, LeftIn, LeftWritten, RestWritten, behind_in, best_answer, pieces_of, reached_by, stop_answer, unfound_answer, unwritten_answer}
+use Rattle.glpsol_cli.specs.Stages.{EndsWriting, HasFailed, IsEndBehind, IsEndIn, IsFinding, IsKept, IsPublished, IsStop, IsSubject, IsUnfound, LeftIn, LeftWritten, RestWritten, TellsBehind, behind_in, best_answer, pieces_of, reached_by, stop_answer, unfound_answer, unwritten_answer}
 use Rattle.glpsol_cli.specs.Together.{CauseIn, PiecesIn, ReachedIn}
 use Rattle.glpsol_cli.specs.declared.answer.Answer.{Answer}
 use Rattle.glpsol_cli.specs.declared.answer.Answer.TheVariants.{Infeasible, Unbounded, Translated, Accepted, BadText, NoMemory}
@@ -29,8 +29,9 @@ use Rattle.glpsol_cli.specs.declared.execution.ExecutionEnd.TheVariants.{Problem
 use Rattle.glpsol_cli.specs.declared.execution.Later.{Later}
 use Rattle.glpsol_cli.specs.declared.found.Finding.{Finding}
 use Rattle.glpsol_cli.specs.declared.found.Finding.TheVariants.{Size as SizeFound, Acceptance as AcceptanceFound, Verdict as VerdictFound}
+use Rattle.glpsol_cli.specs.declared.answer.Target.TheVariants.{Out}
 use Rattle.glpsol_cli.specs.declared.publish.PublishFault.{PublishFault}
-use Rattle.glpsol_cli.specs.declared.publish.PublishFault.TheVariants.{Write, NoMemory as PublishNoMemory}
+use Rattle.glpsol_cli.specs.declared.publish.PublishFault.TheVariants.{Write, CutOutput, NoMemory as PublishNoMemory}
 use Rattle.glpsol_cli.specs.declared.stop.CheckStop.TheVariants.{BadText as CheckBadText, Refused as CheckRefused, NoFit as CheckNoFit, NoMemory as CheckNoMemory}
 use Rattle.glpsol_cli.specs.declared.stop.Stop.{Stop}
 use Rattle.glpsol_cli.specs.declared.stop.Unfound.{Unfound}
@@ -60,16 +61,19 @@ module _ (words : List (List ℕ)) (told told' : ToldNames) (same : SameNames to
 
 pub reached_unwritten : (r : Reached) (fault : PublishFault) → reached_of (unwritten_answer r fault) ≡ r
 reached_unwritten r (Write target) = refl
+reached_unwritten r CutOutput = refl
 reached_unwritten r PublishNoMemory = refl
 
 pub unwritten_cause : (s : Settings) (texts : List (List ℕ)) (files_rose out_rose : Type 0) (r : Reached) (fault : PublishFault) → ReachedIn s texts r → HasFailed files_rose out_rose fault → CauseIn s texts files_rose out_rose (unwritten_answer r fault)
 unwritten_cause s texts files_rose out_rose r (Write target) h failed = (h, failed)
+unwritten_cause s texts files_rose out_rose r CutOutput h failed = h
 unwritten_cause s texts files_rose out_rose r PublishNoMemory h failed = h
 
-pub unwritten_line : (r : Reached) (fault : PublishFault) (ps : List Piece) (old middle : Outside) (taken : Option (List ℕ)) → EndsWriting {T = Unit {0}} ps old middle (Err fault) → AppendsPrefix middle.taken taken (line_of (unwritten_answer r fault))
+pub unwritten_line : (r : Reached) (fault : PublishFault) (ps : List Piece) (old middle : Outside) (taken : Option (List ℕ)) → EndsWriting {T = Unit {0}} ps old middle (Err fault) → TellsBehind fault middle.taken taken (unwritten_answer r fault)
     → ThenLine (extent_of (unwritten_answer r fault)) (line_of (unwritten_answer r fault)) old (record { taken = taken; told = middle.told }) ps
 unwritten_line r (Write target) ps old middle taken ends line = (middle, ends, (line, λ name. refl))
-unwritten_line r PublishNoMemory ps old middle taken ends line = (middle, ends, (line, λ name. refl))
+unwritten_line r CutOutput ps old middle taken ends line = inr (subst (λ t. WrittenUpTo Out ps old (record { taken = t; told = middle.told })) (sym line) ends)
+unwritten_line r PublishNoMemory ps old middle taken ends line = inl (middle, ends, (line, λ name. refl))
 
 -- ---- from the execution on
 
@@ -155,11 +159,11 @@ module _ (s : Settings) (texts : List (List ℕ)) (p : Problem) (later : Option 
   unfound_line taken taken' told (Solve (SearchNoFit wanted site)) line = line_alone _ taken taken' told line
   unfound_line taken taken' told (Solve (PivotLimit wanted bases)) line = line_alone _ taken taken' told line
   unfound_line taken taken' told (Solve (SplitLimit wanted board)) line = line_alone _ taken taken' told line
-  unfound_line taken taken' told (Solve SearchNoMemory) line = line_alone _ taken taken' told line
+  unfound_line taken taken' told (Solve SearchNoMemory) line = inl (line_alone _ taken taken' told line)
   unfound_line taken taken' told (Check (CheckBadText fault)) line = line_alone _ taken taken' told line
   unfound_line taken taken' told (Check (CheckRefused part)) line = line_alone _ taken taken' told line
   unfound_line taken taken' told (Check (CheckNoFit f)) line = line_alone _ taken taken' told line
-  unfound_line taken taken' told (Check CheckNoMemory) line = line_alone _ taken taken' told line
+  unfound_line taken taken' told (Check CheckNoMemory) line = inl (line_alone _ taken taken' told line)
 
   module _ (unfound : Unfound) (made answer : Answer) (means : made ≡ unfound_answer unfound) (told_is : answer ≡ made) where
     pub unfound_cause : (files_rose out_rose : Type 0) → IsUnfound unfound s texts → CauseIn s texts files_rose out_rose answer
@@ -201,7 +205,7 @@ module _ (s : Settings) (texts : List (List ℕ)) (p : Problem) (later : Option 
       pub unreported_cause : (files_rose out_rose : Type 0) → IsFinding p s texts f → HasFailed files_rose out_rose fault → CauseIn s texts files_rose out_rose answer
       unreported_cause files_rose out_rose h failed = subst (CauseIn s texts files_rose out_rose) (sym is_answer) (unwritten_cause s texts files_rose out_rose (reached_by f) fault (reached f h) failed)
 
-      pub unreported_written : (taken : Option (List ℕ)) → IsPublished {T = Unit {0}} s.task p f old middle (Err fault) → AppendsPrefix middle.taken taken (line_of made) → LeftWritten s texts old (record { taken = taken; told = middle.told }) answer
+      pub unreported_written : (taken : Option (List ℕ)) → IsPublished {T = Unit {0}} s.task p f old middle (Err fault) → TellsBehind fault middle.taken taken made → LeftWritten s texts old (record { taken = taken; told = middle.told }) answer
       unreported_written taken published line =
           let new : Outside = record { taken = taken; told = middle.told } in
           let built : Answer = unwritten_answer (reached_by f) fault in
@@ -212,7 +216,7 @@ module _ (s : Settings) (texts : List (List ℕ)) (p : Problem) (later : Option 
           (subst (λ q. LeftIn s texts q P) (sym (reached_unwritten (reached_by f) fault))
           (left_of f P m published.pieces subject.means published.are
           (unwritten_line (reached_by f) fault (published.pieces ++ more) old middle taken (ends_of_more fault published.pieces more old middle published.ends)
-          (subst (λ a. AppendsPrefix middle.taken taken (line_of a)) (means ∙ ap (λ q. unwritten_answer q fault) reaches) line))))
+          (subst (TellsBehind fault middle.taken taken) (means ∙ ap (λ q. unwritten_answer q fault) reaches) line))))
 
   -- ---- from the report on
 
@@ -268,7 +272,7 @@ module _ (s : Settings) (texts : List (List ℕ)) (p : Problem) (later : Option 
           let new : Outside = record { taken = taken'; told = told } in
           let m : Meaning = meaning_in s subject.text subject.data_texts subject.tables in
           subst (RestWritten (Verdict c) s texts old new) (sym is)
-          (record { meaning = m; means = subject.means; is_reached = refl; has = (old, none_written (behind_of m.behind (Verdict c)).pieces old, (line, λ name. refl)) })
+          (record { meaning = m; means = subject.means; is_reached = refl; has = inl (old, none_written (behind_of m.behind (Verdict c)).pieces old, (line, λ name. refl)) })
 
       -- what they come to
       module _ (b : BehindHeld) (is : (text : List ℕ) (data_texts tables : List (List ℕ)) (x : List Rational) → IsKept s text data_texts tables p later → c.point ≡ Some x → (meaning_in s text data_texts tables).behind x ≡ behind_in b) where
@@ -329,7 +333,7 @@ pub ended_line : (fault : Option ModelFault) (c : Certificate) (ps : List Piece)
 ended_line fault c ps old middle taken answer is all line =
     subst (λ a. ThenLine (extent_of a) (line_of a) old (record { taken = taken; told = middle.told }) ps) (sym is) (best_line fault c ps old middle taken all (subst (λ a. AppendsPrefix middle.taken taken (line_of a)) is line))
 
-pub unended_line : (c : Certificate) (fault : PublishFault) (ps : List Piece) (old middle : Outside) (taken : Option (List ℕ)) (made answer : Answer) → made ≡ unwritten_answer (Verdict c) fault → answer ≡ made → EndsWriting {T = Unit {0}} ps old middle (Err fault) → AppendsPrefix middle.taken taken (line_of made)
+pub unended_line : (c : Certificate) (fault : PublishFault) (ps : List Piece) (old middle : Outside) (taken : Option (List ℕ)) (made answer : Answer) → made ≡ unwritten_answer (Verdict c) fault → answer ≡ made → EndsWriting {T = Unit {0}} ps old middle (Err fault) → TellsBehind fault middle.taken taken made
     → ThenLine (extent_of answer) (line_of answer) old (record { taken = taken; told = middle.told }) ps
 unended_line c fault ps old middle taken made answer means told_is ends line =
-    subst (λ a. ThenLine (extent_of a) (line_of a) old (record { taken = taken; told = middle.told }) ps) (sym (told_is ∙ means)) (unwritten_line (Verdict c) fault ps old middle taken ends (subst (λ a. AppendsPrefix middle.taken taken (line_of a)) means line))
+    subst (λ a. ThenLine (extent_of a) (line_of a) old (record { taken = taken; told = middle.told }) ps) (sym (told_is ∙ means)) (unwritten_line (Verdict c) fault ps old middle taken ends (subst (TellsBehind fault middle.taken taken) means line))

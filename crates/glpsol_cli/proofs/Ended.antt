@@ -1,5 +1,5 @@
 -- How a run ends, from how it stands where all is written that was executed, or not all.
-use Rattle.std.proofs.Common.{◌≡◌, ◌∙◌, ◌≤◌, ℕ, List, [], ◌∷◌, length, take, drop, Option, refl, sym, ap, subst, arith}
+use Rattle.std.proofs.Common.{◌≡◌, ◌∙◌, ◌≤◌, ℕ, List, [], ◌∷◌, false, length, take, drop, Option, inl, refl, sym, ap, subst, arith}
 use Rattle.std.proofs.KnownBytes.{Appends-nil}
 use Rattle.std.specs.Prelude.{Err}
 use Rattle.outside.specs.Causes.{Rose}
@@ -11,7 +11,8 @@ use Rattle.glpsol_cli.specs.Meaning.{HasDone, HasFound, Meaning, files_behind, f
 use Rattle.glpsol_cli.specs.Texts.{IsTableInTurn, OfPieces, OfTexts}
 use Rattle.glpsol_cli.specs.Cause.{Cause, reached_of}
 use Rattle.glpsol_cli.specs.Written.{Written, ThenLine, extent_of, line_of}
-use Rattle.glpsol_cli.specs.Stages.{AreInputs, EndsWriting, HasFailed, IsEndOf, IsExecution, IsHalt, IsHaltOrUnread, IsRun, IsUnread, IsUnwritten, IsWhole, LeftWritten, Moment, WrittenSince, texts_in, unread_answer, unwritten_answer}
+use Rattle.glpsol_cli.specs.Stages.{AreInputs, EndsWriting, HasFailed, IsEndOf, IsExecution, IsHalt, IsHaltOrUnread, IsRun, IsUnread, IsUnwritten, IsWhole, LeftWritten, Moment, TellsBehind, WrittenSince, texts_in, unread_answer, unwritten_answer}
+use Rattle.glpsol_cli.specs.Left.{is_waiting}
 use Rattle.glpsol_cli.specs.Together.{CauseIn}
 use Rattle.glpsol_cli.specs.declared.answer.Answer.{Answer}
 use Rattle.glpsol_cli.specs.declared.answer.Answer.TheVariants.{NoMemory}
@@ -23,14 +24,14 @@ use Rattle.glpsol_cli.specs.declared.execution.Halt.{Halt}
 use Rattle.glpsol_cli.specs.declared.execution.Halt.TheVariants.{End, Table, Unread}
 use Rattle.glpsol_cli.specs.declared.inputs.Inputs.{Inputs}
 use Rattle.glpsol_cli.specs.declared.publish.PublishFault.{PublishFault}
-use Rattle.glpsol_cli.specs.declared.publish.PublishFault.TheVariants.{Write, NoMemory as PublishNoMemory}
+use Rattle.glpsol_cli.specs.declared.publish.PublishFault.TheVariants.{Write, CutOutput, NoMemory as PublishNoMemory}
 use Rattle.glpsol_cli.specs.declared.stop.Unread.{Unread as UnreadFile}
 use Rattle.glpsol_cli.proofs.Answers.{cause_of_texts, cause_within, of_texts, pieces_of_texts, table_cause, table_written}
 use Rattle.glpsol_cli.proofs.Carried.{left_in, unwritten_line}
 use Rattle.glpsol_cli.proofs.FilesRead.{as_many}
 use Rattle.glpsol_cli.proofs.Follow.{rose_within}
 use Rattle.glpsol_cli.proofs.Parts.{means_of, of_read, read_first, says_as, unread_of_less}
-use Rattle.glpsol_cli.proofs.Writing.{all_some, failed_within, line_after, line_from, nothing}
+use Rattle.glpsol_cli.proofs.Writing.{failed_within, line_after, line_from, nothing}
 
 -- ---- the end of the execution
 
@@ -50,17 +51,6 @@ module _ (words : List (List ℕ)) (told : ToldNames) (start now : Moment) (s : 
 
   done_so : (P : List Piece → Type 0) → P (meaning_in s h.text h.data_texts h.tables).done → OfTexts words told (HasDone P)
   done_so P p = of_read words told s texts h.at.are_read (HasDone P) (record { meaning = meaning_in s h.text h.data_texts h.tables; means = means_of s texts h.text h.data_texts h.tables h.at.parts; has = p })
-
-  -- a table is left
-  pub left_cause : (files_rose out_rose : Type 0) (answer : Answer) → answer ≡ NoMemory Executed → Cause words told files_rose out_rose answer
-  left_cause files_rose out_rose answer is = subst (Cause words told files_rose out_rose) (sym is) (done_so (λ done. Unit {0}) tt)
-
-  pub left_written : (taken : Option (List ℕ)) (answer : Answer) → answer ≡ NoMemory Executed → AppendsPrefix now.outside.taken taken (line_of (NoMemory Executed)) → WrittenSince words told start.outside (record { taken = taken; told = now.outside.told }) answer
-  left_written taken answer is line =
-      let new : Outside = record { taken = taken; told = now.outside.told } in
-      subst (WrittenSince words told start.outside new) (sym is)
-      (done_so (ThenLine (extent_of (NoMemory Executed)) (line_of (NoMemory Executed)) start.outside new)
-      (now.outside, all_some (meaning_in s h.text h.data_texts h.tables).done start.outside now.outside h.at.since.written, (line, λ name. refl)))
 
   -- a table's file is not read
   module _ (u : UnreadFile) (is_halt : halt ≡ Unread u) (made answer : Answer) (means : made ≡ unread_answer Executed u.name u.fault) (told_is : answer ≡ made) where
@@ -87,16 +77,17 @@ module _ (words : List (List ℕ)) (told : ToldNames) (start now : Moment) (s : 
         (now.outside, h.at.since.written, (subst (λ a. AppendsPrefix now.outside.taken taken (line_of a)) means line, λ name. refl))))
 
 -- the end is one of the texts
-pub end_of_whole : (words : List (List ℕ)) (told : ToldNames) (start now : Moment) (s : Settings) (texts : List (List ℕ)) (halt : Halt) → IsWhole words told start now s texts halt → IsEndOf s texts halt
-end_of_whole words told start now s texts (End end) h = record { text = h.text; data_texts = h.data_texts; tables = h.tables; parts = h.at.parts; is_end = h.is_halt }
-end_of_whole words told start now s texts (Table w) h = tt
-end_of_whole words told start now s texts (Unread u) h = tt
+pub end_of_whole : (words : List (List ℕ)) (told : ToldNames) (start now : Moment) (s : Settings) (texts : List (List ℕ)) (halt : Halt) → is_waiting halt ≡ false → IsWhole words told start now s texts halt → IsEndOf s texts halt
+end_of_whole words told start now s texts (End end) over h = record { text = h.text; data_texts = h.data_texts; tables = h.tables; parts = h.at.parts; is_end = h.is_halt }
+end_of_whole words told start now s texts (Table w) over h = cc
+end_of_whole words told start now s texts (Unread u) over h = tt
 
 -- ---- not all is written
 
 module _ (words : List (List ℕ)) (told : ToldNames) (start now : Moment) (fault : PublishFault) (h : IsUnwritten words told start now fault) (made answer : Answer) (means : made ≡ unwritten_answer Executed fault) (told_is : answer ≡ made) where
   cause_by : (files_rose out_rose : Type 0) (f : PublishFault) → OfTexts words told (HasDone (λ done. Unit {0})) → HasFailed files_rose out_rose f → Cause words told files_rose out_rose (unwritten_answer Executed f)
   cause_by files_rose out_rose (Write target) done failed = (done, failed)
+  cause_by files_rose out_rose CutOutput done failed = done
   cause_by files_rose out_rose PublishNoMemory done failed = done
 
   pub unwritten_cause : (out : ℕ) → now.out ≤ out → Cause words told (Rose start.files now.files) (Rose start.out out) answer
@@ -108,9 +99,10 @@ module _ (words : List (List ℕ)) (told : ToldNames) (start now : Moment) (faul
 
   written_by : (new : Outside) (f : PublishFault) → OfTexts words told (HasDone (ThenLine (extent_of (unwritten_answer Executed f)) (line_of (unwritten_answer Executed f)) start.outside new)) → WrittenSince words told start.outside new (unwritten_answer Executed f)
   written_by new (Write target) k = k
+  written_by new CutOutput k = k
   written_by new PublishNoMemory k = k
 
-  pub unwritten_written : (taken : Option (List ℕ)) → AppendsPrefix now.outside.taken taken (line_of made) → WrittenSince words told start.outside (record { taken = taken; told = now.outside.told }) answer
+  pub unwritten_written : (taken : Option (List ℕ)) → TellsBehind fault now.outside.taken taken made → WrittenSince words told start.outside (record { taken = taken; told = now.outside.told }) answer
   unwritten_written taken line =
       let new : Outside = record { taken = taken; told = now.outside.told } in
       let built : Answer = unwritten_answer Executed fault in
@@ -120,7 +112,7 @@ module _ (words : List (List ℕ)) (told : ToldNames) (start now : Moment) (faul
       (λ s texts d. record {
         meaning = d.meaning;
         means = d.means;
-        has = unwritten_line Executed fault d.meaning.done start.outside now.outside taken d.has (subst (λ a. AppendsPrefix now.outside.taken taken (line_of a)) means line);
+        has = unwritten_line Executed fault d.meaning.done start.outside now.outside taken d.has (subst (TellsBehind fault now.outside.taken taken) means line);
       }) h.done))
 
 -- ---- from the inputs on
@@ -174,7 +166,7 @@ pub unexecuted_written : (words : List (List ℕ)) (told : ToldNames) (taken tak
 unexecuted_written words told taken taken' told' answer is line =
     let old : Outside = record { taken = taken; told = told' } in
     let new : Outside = record { taken = taken'; told = told' } in
-    subst (WrittenSince words told old new) (sym is) (old, nothing old, (line, λ name. refl))
+    subst (WrittenSince words told old new) (sym is) (inl (old, nothing old, (line, λ name. refl)))
 
 -- ---- by the outside that the words found
 

@@ -1,6 +1,7 @@
 pub mod Follow
 pub mod Writing
 pub mod Parts
+pub mod Left
 pub mod Runs
 pub mod Answers
 pub mod Reports
@@ -12,6 +13,5 @@ pub mod Verdicts
 pub mod Limits
 pub mod Stories
 pub mod Completes
-mod OneColumn
-mod OneNode
+mod Completed
 mod WorkedExample

@@ -1,5 +1,5 @@
 -- The cause of an answer and all that is written are of the same texts.
-use Rattle.std.proofs.Common.{◌≡◌, ◌∙◌, ◌≤◌, ℕ, List, [], Option, refl, sym, subst, arith}
+use Rattle.std.proofs.Common.{◌≡◌, ◌∙◌, ◌≤◌, ℕ, List, [], Option, inl, refl, sym, subst, arith}
 use Rattle.std.proofs.KnownBytes.{Appends-nil}
 use Rattle.std.specs.Prelude.{Err}
 use Rattle.outside.specs.Causes.{Rose}
@@ -16,7 +16,7 @@ use Rattle.glpsol_cli.specs.Texts.{IsTableInTurn, OfTexts}
 use Rattle.glpsol_cli.specs.Cause.{reached_of}
 use Rattle.glpsol_cli.specs.Written.{ThenLine, extent_of, line_of}
 use Rattle.glpsol_cli.specs.Together.{CauseIn, CauseBy, IsOfOneText, IsStory, OnceExecuted, PiecesIn, Tells, VerdictBy}
-use Rattle.glpsol_cli.specs.Stages.{EndsWriting, IsHaltOrUnread, IsUnread, IsUnwritten, IsWhole, LeftWritten, Moment, stop_answer, unread_answer, unwritten_answer}
+use Rattle.glpsol_cli.specs.Stages.{EndsWriting, IsHaltOrUnread, IsUnread, IsUnwritten, IsWhole, LeftWritten, Moment, TellsBehind, stop_answer, unread_answer, unwritten_answer}
 use Rattle.glpsol_cli.specs.declared.answer.Answer.{Answer}
 use Rattle.glpsol_cli.specs.declared.answer.Answer.TheVariants.{Optimal, Infeasible, Unbounded, Translated, Accepted, Usage, Missing, OpenFault, ReadFault, WriteFault, TooLong, BadText, FaultBehindSolve, BadCertificate, Overflow, Undecided, Refused, NoMemory}
 use Rattle.glpsol_cli.specs.declared.answer.Reached.{Reached}
@@ -125,18 +125,6 @@ module _ (words : List (List ℕ)) (told : ToldNames) (start now : Moment) (s : 
         (λ ps j. line_after (extent_of answer) (line_of answer) means.done ps start.outside now.outside new h.at.since.written j) left;
   })
 
-  -- a table is left
-  pub left_tells : (files_rose out_rose : Type 0) (taken : Option (List ℕ)) (answer : Answer) → answer ≡ NoMemory Executed → AppendsPrefix now.outside.taken taken (line_of (NoMemory Executed))
-      → Tells words told start.outside (record { taken = taken; told = now.outside.told }) files_rose out_rose answer
-  left_tells files_rose out_rose taken answer is line =
-      let new : Outside = record { taken = taken; told = now.outside.told } in
-      subst (Tells words told start.outside new files_rose out_rose) (sym is)
-      (of_story new files_rose out_rose (NoMemory Executed) (record {
-        cause = done_so (λ done. Unit {0}) tt;
-        written = done_so (ThenLine (extent_of (NoMemory Executed)) (line_of (NoMemory Executed)) start.outside new)
-            (now.outside, all_some means.done start.outside now.outside h.at.since.written, (line, λ name. refl));
-      }))
-
   table_tells : (new : Outside) (files_rose out_rose : Type 0) (name : List ℕ) (fault : LoadFault) → IsTableInTurn told name (λ now. IsUnread now files_rose fault) s texts
       → (middle : Outside) × AllWritten means.done start.outside middle × IsWrittenInPart Out (line_of (unread_answer Executed name fault)) middle new
       → Tells words told start.outside new files_rose out_rose (unread_answer Executed name fault)
@@ -146,7 +134,7 @@ module _ (words : List (List ℕ)) (told : ToldNames) (start now : Moment) (s : 
   table_tells new files_rose out_rose name LoadTooLong turn line = of_story new files_rose out_rose (TooLong name Executed) (record { cause = turn; written = done_so _ line })
   table_tells new files_rose out_rose name LoadNoMemory turn line = of_story new files_rose out_rose (NoMemory Executed) (record {
     cause = done_so (λ done. Unit {0}) tt;
-    written = done_so (ThenLine (extent_of (NoMemory Executed)) (line_of (NoMemory Executed)) start.outside new) (line.0, all_some means.done start.outside line.0 line.1, line.2);
+    written = done_so (ThenLine (extent_of (NoMemory Executed)) (line_of (NoMemory Executed)) start.outside new) (inl (line.0, all_some means.done start.outside line.0 line.1, line.2));
   })
 
   -- a table's file is not read
@@ -169,7 +157,7 @@ module _ (words : List (List ℕ)) (told : ToldNames) (start now : Moment) (s : 
 -- ---- not all is written
 
 pub unwritten_tells : (words : List (List ℕ)) (told : ToldNames) (start now : Moment) (fault : PublishFault) → IsUnwritten words told start now fault → (made answer : Answer) → made ≡ unwritten_answer Executed fault → answer ≡ made → (out : ℕ) (taken : Option (List ℕ)) → now.out ≤ out
-    → AppendsPrefix now.outside.taken taken (line_of made) → Tells words told start.outside (record { taken = taken; told = now.outside.told }) (Rose start.files now.files) (Rose start.out out) answer
+    → TellsBehind fault now.outside.taken taken made → Tells words told start.outside (record { taken = taken; told = now.outside.told }) (Rose start.files now.files) (Rose start.out out) answer
 unwritten_tells words told start now fault h made answer is told_is out taken later line =
     let new : Outside = record { taken = taken; told = now.outside.told } in
     let built : Answer = unwritten_answer Executed fault in
@@ -183,7 +171,7 @@ unwritten_tells words told start now fault h made answer is told_is out taken la
           (unwritten_cause s texts files_rose out_rose Executed fault (record { meaning = d.meaning; means = d.means; has = tt })
           (failed_within start.files start.files now.files now.files (omega arith) (omega arith) start.out start.out now.out out (omega arith) later fault h.failed));
       written = subst (λ r. PiecesIn s texts r (ThenLine (extent_of built) (line_of built) start.outside new)) (sym (reached_unwritten Executed fault))
-          (record { meaning = d.meaning; means = d.means; has = unwritten_line Executed fault d.meaning.done start.outside now.outside taken d.has (subst (λ a. AppendsPrefix now.outside.taken taken (line_of a)) is line) });
+          (record { meaning = d.meaning; means = d.means; has = unwritten_line Executed fault d.meaning.done start.outside now.outside taken d.has (subst (TellsBehind fault now.outside.taken taken) is line) });
     }) h.done))
 
 -- ---- by the outside that the words found

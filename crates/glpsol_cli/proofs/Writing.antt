@@ -3,7 +3,7 @@ use Rattle.std.proofs.Common.{◌∙◌, ◌≤◌, ℕ, List, [], ◌∷◌, �
 use Rattle.std.proofs.KnownBytes.{Appends-nil, Appends-trans}
 use Rattle.outside.specs.Told.{AppendsPrefix}
 use Rattle.glpsol_cli.specs.Asked.{ToldNames}
-use Rattle.glpsol_cli.specs.Pieces.{Piece, Outside, IsSame, IsWritten, IsWrittenInPart, AllWritten, WrittenUpTo, SomeWritten, Extent, Whole, UpTo, Part, WrittenTo}
+use Rattle.glpsol_cli.specs.Pieces.{Piece, Outside, IsSame, IsWritten, IsWrittenInPart, IsFileInPart, AllWritten, WrittenUpTo, SomeWritten, Extent, Whole, UpTo, Part, WrittenTo}
 use Rattle.glpsol_cli.specs.Written.{ThenLine}
 use Rattle.outside.specs.Causes.{Rose}
 use Rattle.std.specs.Prelude.{Result, Ok, Err}
@@ -11,7 +11,7 @@ use Rattle.glpsol_cli.specs.Stages.{EndsWriting, HasFailed}
 use Rattle.glpsol_cli.specs.declared.answer.Target.{Target}
 use Rattle.glpsol_cli.specs.declared.answer.Target.TheVariants.{Out, File}
 use Rattle.glpsol_cli.specs.declared.publish.PublishFault.{PublishFault}
-use Rattle.glpsol_cli.specs.declared.publish.PublishFault.TheVariants.{Write, NoMemory}
+use Rattle.glpsol_cli.specs.declared.publish.PublishFault.TheVariants.{Write, CutOutput, NoMemory}
 use Rattle.glpsol_cli.proofs.Follow.{rose_within}
 
 -- ---- nothing written
@@ -23,9 +23,13 @@ pub no_part : (target : Target) (text : List ℕ) (old new : Outside) → IsSame
 no_part Out text old new same = ((0, same.0), same.1)
 no_part (File name) text old new same = (same.0, λ before had. inl (same.1 name ∙ had), λ other not. same.1 other)
 
+no_file_part : (target : Target) (text : List ℕ) (old new : Outside) → IsSame old new → IsFileInPart target text old new
+no_file_part Out text old new same = same
+no_file_part (File name) text old new same = no_part (File name) text old new same
+
 none_of : (ps : List Piece) (old new : Outside) → IsSame old new → SomeWritten ps old new
 none_of [] old new same = same
-none_of (p ∷ ps) old new same = inl (no_part p.target p.text old new same)
+none_of (p ∷ ps) old new same = inl (no_file_part p.target p.text old new same)
 
 pub none_written : (ps : List Piece) (o : Outside) → SomeWritten ps o o
 none_written ps o = none_of ps o o (nothing o)
@@ -46,6 +50,10 @@ module _ (old middle : Outside) (same : IsSame old middle) where
   none_from : (new : Outside) → IsSame middle new → IsSame old new
   none_from new h = (Appends-trans old.taken middle.taken new.taken [] [] same.0 h.0, λ name. h.1 name ∙ same.1 name)
 
+  file_part_from : (target : Target) (text : List ℕ) (new : Outside) → IsFileInPart target text middle new → IsFileInPart target text old new
+  file_part_from Out text new h = none_from new h
+  file_part_from (File name) text new h = part_from (File name) text new h
+
   pub written_to_from : (extent : Extent) (ps : List Piece) (new : Outside) → WrittenTo extent ps middle new → WrittenTo extent ps old new
   written_to_from Whole [] new h = none_from new h
   written_to_from Whole (p ∷ ps) new h = (h.0, written_from p.target p.text h.0 h.1, h.2)
@@ -56,12 +64,17 @@ module _ (old middle : Outside) (same : IsSame old middle) where
   ]
   written_to_from Part [] new h = none_from new h
   written_to_from Part (p ∷ ps) new h = elim h [
-    | inl part ↦ inl (part_from p.target p.text new part)
+    | inl part ↦ inl (file_part_from p.target p.text new part)
     | inr more ↦ inr (more.0, written_from p.target p.text more.0 more.1, more.2)
   ]
 
   pub line_from : (extent : Extent) (line : List ℕ) (ps : List Piece) (new : Outside) → ThenLine extent line middle new ps → ThenLine extent line old new ps
-  line_from extent line ps new h = (h.0, written_to_from extent ps h.0 h.1, h.2)
+  line_from Whole line ps new h = (h.0, written_to_from Whole ps h.0 h.1, h.2)
+  line_from (UpTo target) line ps new h = (h.0, written_to_from (UpTo target) ps h.0 h.1, h.2)
+  line_from Part line ps new h = elim h [
+    | inl behind ↦ inl (behind.0, written_to_from Part ps behind.0 behind.1, behind.2)
+    | inr cut ↦ inr (written_to_from (UpTo Out) ps new cut)
+  ]
 
 -- ---- what is written in two goes
 
@@ -73,7 +86,12 @@ written_after Part (p ∷ ps) qs old middle new all more = inr (all.0, all.1, wr
 
 -- and then a line
 pub line_after : (extent : Extent) (line : List ℕ) (ps qs : List Piece) (old middle new : Outside) → AllWritten ps old middle → ThenLine extent line middle new qs → ThenLine extent line old new (ps ++ qs)
-line_after extent line ps qs old middle new all h = (h.0, written_after extent ps qs old middle h.0 all h.1, h.2)
+line_after Whole line ps qs old middle new all h = (h.0, written_after Whole ps qs old middle h.0 all h.1, h.2)
+line_after (UpTo target) line ps qs old middle new all h = (h.0, written_after (UpTo target) ps qs old middle h.0 all h.1, h.2)
+line_after Part line ps qs old middle new all h = elim h [
+  | inl behind ↦ inl (behind.0, written_after Part ps qs old middle behind.0 all behind.1, behind.2)
+  | inr cut ↦ inr (written_after (UpTo Out) ps qs old middle new all cut)
+]
 
 -- what is written up to a target of the first of them is so of all
 pub up_to_of_more : (target : Target) (ps qs : List Piece) (old new : Outside) → WrittenUpTo target ps old new → WrittenUpTo target (ps ++ qs) old new
@@ -111,6 +129,7 @@ module _ (a b c d : ℕ) (before : a ≤ b) (after : c ≤ d) (p q r s : ℕ) (b
   pub failed_within : (fault : PublishFault) → HasFailed (Rose b c) (Rose q r) fault → HasFailed (Rose a d) (Rose p s) fault
   failed_within (Write Out) h = rose_within p q r s before' after' h
   failed_within (Write (File name)) h = rose_within a b c d before after h
+  failed_within CutOutput h = tt
   failed_within NoMemory h = tt
 
 -- ---- a fault of the writing
@@ -118,11 +137,13 @@ module _ (a b c d : ℕ) (before : a ≤ b) (after : c ≤ d) (p q r s : ℕ) (b
 -- of the first of them it is so of all
 pub ends_of_more : (fault : PublishFault) (ps qs : List Piece) (old middle : Outside) → EndsWriting {T = Unit {0}} ps old middle (Err fault) → EndsWriting {T = Unit {0}} (ps ++ qs) old middle (Err fault)
 ends_of_more (Write target) ps qs old middle h = up_to_of_more target ps qs old middle h
+ends_of_more CutOutput ps qs old middle h = up_to_of_more Out ps qs old middle h
 ends_of_more NoMemory ps qs old middle h = some_of_more ps qs old middle h
 
 -- behind others that were all written
 pub ends_after : (fault : PublishFault) (ps qs : List Piece) (old middle new : Outside) → AllWritten ps old middle → EndsWriting {T = Unit {0}} qs middle new (Err fault) → EndsWriting {T = Unit {0}} (ps ++ qs) old new (Err fault)
 ends_after (Write target) ps qs old middle new all h = written_after (UpTo target) ps qs old middle new all h
+ends_after CutOutput ps qs old middle new all h = written_after (UpTo Out) ps qs old middle new all h
 ends_after NoMemory ps qs old middle new all h = written_after Part ps qs old middle new all h
 
 -- the writing of both ends so

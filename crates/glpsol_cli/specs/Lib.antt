@@ -8,4 +8,5 @@ pub mod Code
 pub mod Written
 pub mod Together
 pub mod Stages
+pub mod Left
 pub mod WorkedExample

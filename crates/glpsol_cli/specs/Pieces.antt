@@ -57,11 +57,16 @@ WrittenUpTo target (p ∷ ps) old new =
     ((p.target ≡ target) × IsWrittenInPart p.target p.text old new)
     ⊎ ((middle : Outside) × IsWritten p.target p.text old middle × WrittenUpTo target ps middle new)
 
--- the first of them are written, then a part of the next, and no others
+-- a part of the text is written where it goes to a file, and nothing else
+abbrev pub IsFileInPart : Target → List ℕ → Outside → Outside → Type 0
+IsFileInPart Out text old new = IsSame old new
+IsFileInPart (File name) text old new = IsWrittenInPart (File name) text old new
+
+-- the first of them are written, then a part of the next where that goes to a file, and no others
 abbrev pub SomeWritten : List Piece → Outside → Outside → Type 0
 SomeWritten [] old new = IsSame old new
 SomeWritten (p ∷ ps) old new =
-    IsWrittenInPart p.target p.text old new
+    IsFileInPart p.target p.text old new
     ⊎ ((middle : Outside) × IsWritten p.target p.text old middle × SomeWritten ps middle new)
 
 -- how far the writing comes

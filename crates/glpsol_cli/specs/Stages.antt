@@ -16,7 +16,7 @@ use Rattle.gmpl_reader.specs.declared.read.ReadingEnd.TheVariants as reading_end
 use Rattle.branch_search.specs.declared.whole_fault.VerdictFault.{VerdictFault}
 use Rattle.branch_search.specs.declared.whole_fault.VerdictFault.TheVariants.{NoFit as SearchNoFit, PivotLimit, SplitLimit, NoMemory as SearchNoMemory}
 use Rattle.cert_check.specs.Outcome.{Acceptance as Accepting, outcome, trials}
-use Rattle.outside.specs.Told.{Lacks, Has}
+use Rattle.outside.specs.Told.{Lacks, Has, AppendsPrefix}
 use Rattle.outside.specs.declared.store.LoadFault.{LoadFault}
 use Rattle.outside.specs.declared.store.LoadFault.TheVariants.{Missing as LoadMissing, Open, Read, TooLong as LoadTooLong, NoMemory as LoadNoMemory}
 use Rattle.command_line.specs.Meaning.{settings_of}
@@ -28,7 +28,7 @@ use Rattle.command_line.specs.declared.settings.WordsFault.TheVariants.{Usage as
 use Rattle.solution_writer.specs.Report.{IsReportable}
 use Rattle.outside.specs.Causes.{Rose}
 use Rattle.glpsol_cli.specs.Asked.{ToldNames, AreTexts, AreThere, IsInTurn, Solves, Translates, names_read}
-use Rattle.glpsol_cli.specs.Pieces.{Piece, Outside, AllWritten, SameNames, Says, WrittenUpTo, SomeWritten, IsWritten, IsWrittenInPart, told_behind}
+use Rattle.glpsol_cli.specs.Pieces.{Piece, Outside, AllWritten, SameNames, Says, WrittenUpTo, SomeWritten, IsFileInPart, IsWritten, IsWrittenInPart, told_behind}
 use Rattle.glpsol_cli.specs.Meaning.{Behind, Declared, Faulty, Wanting, Meaning, IsRefused, HasDone, HasFound, asked_of, behind_of, displayed, ends_in, file_pieces, files_behind, files_by, found_pieces, made_in, meaning_in, meaning_of, nothing_behind, shown_by}
 use Rattle.glpsol_cli.specs.Texts.{AreTables, OfTexts, OfPieces}
 use Rattle.glpsol_cli.specs.Written.{ThenLine, extent_of, line_of}
@@ -40,6 +40,7 @@ use Rattle.glpsol_cli.specs.declared.answer.OverflowSite.TheVariants.{AtNode, In
 use Rattle.glpsol_cli.specs.declared.answer.Reached.{Reached}
 use Rattle.glpsol_cli.specs.declared.answer.Reached.TheVariants.{Nothing, Executed, Size as SizeReached, Acceptance as AcceptanceReached, Verdict as VerdictReached}
 use Rattle.glpsol_cli.specs.declared.answer.TextFault.TheVariants as text_fault
+use Rattle.glpsol_cli.specs.declared.answer.Target.TheVariants.{Out}
 use Rattle.glpsol_cli.specs.declared.inputs.Inputs.{Inputs}
 use Rattle.glpsol_cli.specs.declared.execution.Executed.{Executed as ExecutedHeld}
 use Rattle.glpsol_cli.specs.declared.execution.ExecutionEnd.{ExecutionEnd}
@@ -59,7 +60,7 @@ use Rattle.glpsol_cli.specs.declared.stop.Unread.{Unread}
 use Rattle.glpsol_cli.specs.declared.stop.CheckStop.{CheckStop}
 use Rattle.glpsol_cli.specs.declared.stop.CheckStop.TheVariants.{BadText, Refused as CheckRefused, NoFit as CheckNoFit, NoMemory as CheckNoMemory}
 use Rattle.glpsol_cli.specs.declared.publish.PublishFault.{PublishFault}
-use Rattle.glpsol_cli.specs.declared.publish.PublishFault.TheVariants.{Write, NoMemory as PublishNoMemory}
+use Rattle.glpsol_cli.specs.declared.publish.PublishFault.TheVariants.{Write, CutOutput, NoMemory as PublishNoMemory}
 use Rattle.glpsol_cli.specs.declared.publish.Piece.{Piece as PieceHeld}
 use Rattle.glpsol_cli.specs.declared.tables.Run.{Run as RunHeld}
 
@@ -147,7 +148,7 @@ pub record IsEndIn (s : Settings) (texts : List (List ℕ)) (end : ExecutionEnd)
 
 abbrev pub IsEndOf : Settings → List (List ℕ) → Halt → Type 0
 IsEndOf s texts (halts.End end) = IsEndIn s texts end
-IsEndOf s texts (halts.Table w) = Unit {0}
+IsEndOf s texts (halts.Table w) = ⊥
 IsEndOf s texts (halts.Unread u) = Unit {0}
 
 -- this is the problem that is asked about, and what the statements behind `solve` need is kept
@@ -318,17 +319,20 @@ IsShown p (VerdictFound c) = IsReportable p c
 abbrev pub EndsWriting : {T : Type 0} → List Piece → Outside → Outside → Result T PublishFault → Type 0
 EndsWriting ps old new (Ok u) = AllWritten ps old new
 EndsWriting ps old new (Err (Write target)) = WrittenUpTo target ps old new
+EndsWriting ps old new (Err CutOutput) = WrittenUpTo Out ps old new
 EndsWriting ps old new (Err PublishNoMemory) = SomeWritten ps old new
 
 -- how the writing of one piece ends
 abbrev pub EndsPiece : {T : Type 0} → Piece → Outside → Outside → Result T PublishFault → Type 0
 EndsPiece p old new (Ok u) = IsWritten p.target p.text old new
 EndsPiece p old new (Err (Write target)) = (p.target ≡ target) × IsWrittenInPart p.target p.text old new
-EndsPiece p old new (Err PublishNoMemory) = IsWrittenInPart p.target p.text old new
+EndsPiece p old new (Err CutOutput) = (p.target ≡ Out) × IsWrittenInPart p.target p.text old new
+EndsPiece p old new (Err PublishNoMemory) = IsFileInPart p.target p.text old new
 
 -- what can't be written has failed
 abbrev pub HasFailed : Type 0 → Type 0 → PublishFault → Type 0
 HasFailed files_rose out_rose (Write target) = RoseAt target files_rose out_rose
+HasFailed files_rose out_rose CutOutput = Unit {0}
 HasFailed files_rose out_rose PublishNoMemory = Unit {0}
 
 -- the pieces of what is found are written so
@@ -340,7 +344,14 @@ pub record IsPublished {T : Type 0} (task : Task) (p : Problem) (finding : Findi
 -- the answer where not all is written of what was reached
 abbrev pub unwritten_answer : Reached → PublishFault → Answer
 unwritten_answer reached (Write target) = WriteFault target reached
+unwritten_answer reached CutOutput = NoMemory reached
 unwritten_answer reached PublishNoMemory = NoMemory reached
+
+-- what the output has taken behind it: the line of the answer, or a part of it; behind a write on the output that failed nothing
+abbrev pub TellsBehind : PublishFault → Option (List ℕ) → Option (List ℕ) → Answer → Type 0
+TellsBehind (Write target) old new answer = AppendsPrefix old new (line_of answer)
+TellsBehind CutOutput old new answer = new ≡ old
+TellsBehind PublishNoMemory old new answer = AppendsPrefix old new (line_of answer)
 
 -- ---- the statements behind `solve`
 

@@ -1,7 +1,8 @@
 -- What a run writes with each answer: the pieces of what it reached, or the first of them, and then the line of a fault or a part of it.
-use Rattle.std.specs.Prelude.{ℕ, List, [], codes}
+-- Behind a write on the output that fails nothing more is written there.
+use Rattle.std.specs.Prelude.{◌⊎◌, ℕ, List, [], codes}
 use Rattle.solution_writer.specs.FaultLine.{named_line, overflow_line, usage_line, syntax_line, data_line, model_line, file_line, certificate_line, undecided_nodes_line, undecided_pivots_line, refused_line, no_memory_line}
-use Rattle.glpsol_cli.specs.Pieces.{Piece, Outside, IsWrittenInPart, Extent, Whole, UpTo, Part, WrittenTo}
+use Rattle.glpsol_cli.specs.Pieces.{Piece, Outside, IsWrittenInPart, Extent, Whole, UpTo, Part, WrittenTo, WrittenUpTo}
 use Rattle.glpsol_cli.specs.Texts.{OfPieces}
 use Rattle.glpsol_cli.specs.Cause.{reached_of}
 use Rattle.glpsol_cli.specs.declared.answer.Answer.{Answer}
@@ -71,8 +72,14 @@ extent_of (Refused part) = Whole
 extent_of (NoMemory reached) = Part
 
 -- the pieces are written so far, and then a part of the line from its front
+abbrev pub LineBehind : Extent → List ℕ → Outside → Outside → List Piece → Type 0
+LineBehind extent line old new pieces = (middle : Outside) × WrittenTo extent pieces old middle × IsWrittenInPart Out line middle new
+
+-- the same; or, where memory is wanting for a write on the output, the pieces are written up to that one, and no line comes
 abbrev pub ThenLine : Extent → List ℕ → Outside → Outside → List Piece → Type 0
-ThenLine extent line old new pieces = (middle : Outside) × WrittenTo extent pieces old middle × IsWrittenInPart Out line middle new
+ThenLine Whole line old new pieces = LineBehind Whole line old new pieces
+ThenLine (UpTo target) line old new pieces = LineBehind (UpTo target) line old new pieces
+ThenLine Part line old new pieces = LineBehind Part line old new pieces ⊎ WrittenUpTo Out pieces old new
 
 -- what is written with an answer: the pieces of what was reached, and then the line
 abbrev pub Written : List (List ℕ) → Outside → Outside → Answer → Type 0

@@ -163,4 +163,11 @@ impl Answer {
             Answer::Refused(_) => 6,
         }
     }
+
+    /// The same, where the answer is let go: a caller that owns no answer has no proof of what it is made of.
+    pub fn into_code(self) -> u8
+        ensures { result ≡ code_of self }
+    {
+        self.code()
+    }
 }

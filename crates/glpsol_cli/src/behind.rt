@@ -12,8 +12,7 @@ ghost use Rattle.glpsol_cli.specs.Stages.{IsEndBehind, IsKept, IsLater, behind_i
 use crate::display::{behind_files, with_earlier};
 use crate::execution::Later;
 use crate::publish::{Piece, write_pieces};
-use crate::stop::unwritten_answer;
-use crate::tell::tell;
+use crate::tell::{tell, tell_unwritten};
 use crate::{Answer, Reached};
 use certificate::Certificate;
 use command_line::Settings;
@@ -96,11 +95,7 @@ pub fn end_behind<S: Store, O: Sink>(
     let Behind { pieces, fault } = behind;
     match write_pieces(files, out, pieces) {
         Ok(()) => at_end(alloc, fault, certificate, out),
-        Err(fault) => tell(
-            alloc,
-            out,
-            unwritten_answer(Reached::Verdict(certificate), fault),
-        ),
+        Err(fault) => tell_unwritten(alloc, out, Reached::Verdict(certificate), fault),
     }
 }
 

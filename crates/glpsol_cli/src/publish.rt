@@ -30,6 +30,9 @@ pub struct Piece {
 pub enum PublishFault {
     // this can't be written
     Write(Target),
+    // memory is wanting for a write on the output
+    CutOutput,
+    // memory is wanting elsewhere
     NoMemory,
 }
 
@@ -253,7 +256,7 @@ fn write_piece<S: Store, O: Sink>(
         Target::Out => match write_all(out, &text) {
             Ok(()) => Ok(()),
             Err(Trouble::Failed) => Err(PublishFault::Write(Target::Out)),
-            Err(Trouble::NoMemory) => Err(PublishFault::NoMemory),
+            Err(Trouble::NoMemory) => Err(PublishFault::CutOutput),
         },
         Target::File(name) => match write_file(files, name.as_str(), &text) {
             Ok(()) => Ok(()),

@@ -1,8 +1,7 @@
 // Why the work stops, by the stage of it that says so.
 ghost use Rattle.std.specs.Prelude.{◌≡◌};
-ghost use Rattle.glpsol_cli.specs.Stages.{words_answer, unread_answer, solve_answer, check_answer, unfound_answer, stop_answer, unwritten_answer};
+ghost use Rattle.glpsol_cli.specs.Stages.{words_answer, unread_answer, solve_answer, check_answer, unfound_answer, stop_answer};
 
-use crate::publish::PublishFault;
 use crate::{Answer, Limit, OverflowSite, Reached};
 use branch_search::VerdictFault;
 use cert_check::{CheckFault, Part};
@@ -114,16 +113,6 @@ fn check_answer(stop: CheckStop) -> Answer
             fault,
         },
         CheckStop::NoMemory => no_memory(Reached::Executed),
-    }
-}
-
-/// The answer where not all is written of what was reached.
-pub fn unwritten_answer(reached: Reached, fault: PublishFault) -> Answer
-    ensures { result ≡ unwritten_answer reached fault }
-{
-    match fault {
-        PublishFault::Write(target) => Answer::WriteFault { target, reached },
-        PublishFault::NoMemory => no_memory(reached),
     }
 }
 

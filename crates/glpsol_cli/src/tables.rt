@@ -1,6 +1,7 @@
 // Tables that are read while the texts are executed.
-ghost use Rattle.std.specs.Prelude.{◌≡◌, ◌≤◌, ℕ, List, IfOk, IfErr};
+ghost use Rattle.std.specs.Prelude.{◌≡◌, ◌≤◌, ℕ, List, false, IfOk, IfErr};
 ghost use Rattle.glpsol_cli.specs.Pieces.{Outside};
+ghost use Rattle.glpsol_cli.specs.Left.{IsNext, IsNextOf, IsSomeHalt, IsSomeWaiting, is_waiting};
 ghost use Rattle.glpsol_cli.specs.Stages.{GoesOn, GoesOnPaused, IsTableExecuted, Moment, Stops, pieces_of};
 ghost use Rattle.glpsol_cli.specs.declared.publish.PublishFault.TheVariants.{NoMemory};
 
@@ -19,14 +20,16 @@ pub struct Run {
     pub executed: Executed,
 }
 
-/// The run where the files of all tables are read that the execution asks for, or one of them is not; where a table is left that is to
-/// be read, memory is wanting.
+/// The run where the files of all tables are read that the execution asks for, or one of them is not. Behind each table that is read less
+/// of the text is left.
 pub fn with_tables<S: Store, O: Sink>(
     alloc: Global,
     run: Run,
     files: &mut S,
     out: &mut O,
 ) -> Result<Run, PublishFault>
+    requires { IsSomeHalt run.inputs.settings run.executed.halt }
+    ensures over { IfOk result (λ made. is_waiting made.executed.halt ≡ false) }
     ensures run { IfOk result (GoesOn (record { outside = record { taken = O.taken out.old; told = S.told files.old }; files = S.faults files.old; out = O.faults out.old })
         (record { outside = record { taken = O.taken out.new; told = S.told files.new }; files = S.faults files.new; out = O.faults out.new }) run) }
     ensures unwritten { IfErr result (Stops (record { outside = record { taken = O.taken out.old; told = S.told files.old }; files = S.faults files.old; out = O.faults out.old })
@@ -35,10 +38,7 @@ pub fn with_tables<S: Store, O: Sink>(
     ensures out_later { O.faults out.old ≤ O.faults out.new }
 {
     let mut latest = run;
-    for _turn in 0..u64::MAX {
-        if !is_waiting(&latest.executed.halt) {
-            return Ok(latest);
-        }
+    while is_waiting(&latest.executed.halt) {
         latest = match behind_table(alloc, latest, files, out) {
             Ok(made) => made,
             Err(fault) => return Err(fault),
@@ -47,7 +47,9 @@ pub fn with_tables<S: Store, O: Sink>(
     Ok(latest)
 }
 
-fn is_waiting(halt: &Halt) -> bool {
+fn is_waiting(halt: &Halt) -> bool
+    ensures { result ≡ is_waiting halt.now }
+{
     match halt {
         Halt::Table(_) => true,
         Halt::End(_) | Halt::Unread(_) => false,
@@ -61,6 +63,8 @@ fn behind_table<S: Store, O: Sink>(
     files: &mut S,
     out: &mut O,
 ) -> Result<Run, PublishFault>
+    requires { IsSomeHalt run.inputs.settings run.executed.halt }
+    ensures next { IfOk result (IsNextOf run.executed.halt) }
     ensures run { IfOk result (GoesOn (record { outside = record { taken = O.taken out.old; told = S.told files.old }; files = S.faults files.old; out = O.faults out.old })
         (record { outside = record { taken = O.taken out.new; told = S.told files.new }; files = S.faults files.new; out = O.faults out.new }) run) }
     ensures unwritten { IfErr result (Stops (record { outside = record { taken = O.taken out.old; told = S.told files.old }; files = S.faults files.old; out = O.faults out.old })
@@ -100,6 +104,8 @@ fn at_table<S: Store, O: Sink>(
     files: &mut S,
     out: &mut O,
 ) -> Result<Run, PublishFault>
+    requires { IsSomeWaiting inputs.settings waiting }
+    ensures next { IfOk result (IsNext (Halt.Table waiting)) }
     ensures run { IfOk result (GoesOn (record { outside = record { taken = O.taken out.old; told = S.told files.old }; files = S.faults files.old; out = O.faults out.old })
         (record { outside = record { taken = O.taken out.new; told = S.told files.new }; files = S.faults files.new; out = O.faults out.new }) (record { inputs = inputs; executed = record { files = made; shown = shown; halt = Halt.Table waiting } })) }
     ensures unwritten { IfErr result (Stops (record { outside = record { taken = O.taken out.old; told = S.told files.old }; files = S.faults files.old; out = O.faults out.old })
@@ -121,6 +127,8 @@ fn read_table<S: Store>(
     waiting: Waiting,
     files: &mut S,
 ) -> Result<Run, PublishFault>
+    requires { IsSomeWaiting inputs.settings waiting }
+    ensures next { IfOk result (IsNext (Halt.Table waiting)) }
     ensures run { IfOk result (GoesOnPaused (S.told files.old) (S.faults files.old) (S.told files.new) (S.faults files.new) inputs (pieces_of shown.items) waiting) }
     ensures fault { IfErr result (λ fault. fault ≡ NoMemory) }
     ensures told { (other : List ℕ) → S.told files.new other ≡ S.told files.old other }

@@ -11,8 +11,8 @@ use crate::execution::Later;
 use crate::found::Finding;
 use crate::inputs::Inputs;
 use crate::publish::publish;
-use crate::stop::{unfound_answer, unwritten_answer};
-use crate::tell::tell;
+use crate::stop::unfound_answer;
+use crate::tell::{tell, tell_unwritten};
 use crate::work_out::finding;
 use crate::{Answer, Reached};
 use certificate::{Certificate, Verdict};
@@ -69,7 +69,7 @@ fn from_finding<S: Store, O: Sink>(
     );
     match published {
         Ok(()) => from_report(alloc, inputs, problem, later, finding, files, out),
-        Err(fault) => tell(alloc, out, unwritten_answer(finding.reached(), fault)),
+        Err(fault) => tell_unwritten(alloc, out, finding.reached(), fault),
     }
 }
 

@@ -2,8 +2,10 @@
 ghost use Rattle.std.specs.Prelude.{◌≡◌, ◌≤◌, IfOk, string_bytes};
 ghost use Rattle.outside.specs.Told.{AppendsPrefix};
 ghost use Rattle.solution_writer.specs.FaultLine.{no_memory_line};
+ghost use Rattle.glpsol_cli.specs.Stages.{TellsBehind, unwritten_answer};
 ghost use Rattle.glpsol_cli.specs.Written.{line_of, target_line_of};
 
+use crate::publish::PublishFault;
 use crate::{Answer, Limit, Reached, Target, TextFault};
 use outside::{Sink, write_all};
 use solution_writer::{Fault, fault_line};
@@ -33,6 +35,25 @@ pub fn tell<O: Sink>(alloc: Global, out: &mut O, answer: Answer) -> Answer
         let _ = write_all(out, line.as_bytes());
     }
     answer
+}
+
+/// The answer where not all is written of what was reached. Its line is written, or, where that fails, a part of it; nothing, where a
+/// write on the output failed.
+pub fn tell_unwritten<O: Sink>(
+    alloc: Global,
+    out: &mut O,
+    reached: Reached,
+    fault: PublishFault,
+) -> Answer
+    ensures answer { result ≡ unwritten_answer reached fault }
+    ensures line { TellsBehind fault (O.taken out.old) (O.taken out.new) result }
+    ensures later { O.faults out.old ≤ O.faults out.new }
+{
+    match fault {
+        PublishFault::Write(target) => tell(alloc, out, Answer::WriteFault { target, reached }),
+        PublishFault::CutOutput => Answer::NoMemory { reached },
+        PublishFault::NoMemory => tell(alloc, out, Answer::NoMemory { reached }),
+    }
 }
 
 // The line of a fault; an answer without a fault has none.

@@ -1,5 +1,5 @@
 // The whole of the program's work.
-ghost use Rattle.std.specs.Prelude.{◌≡◌, ◌≤◌, ℕ, List, Some, map, string_bytes};
+ghost use Rattle.std.specs.Prelude.{◌≡◌, ◌≤◌, ℕ, List, false, Some, map, string_bytes};
 ghost use Rattle.verdicts.specs.Certificate.{Certificate};
 ghost use Rattle.outside.specs.Causes.{Rose};
 ghost use Rattle.command_line.specs.Meaning.{settings_of};
@@ -11,15 +11,16 @@ ghost use Rattle.glpsol_cli.specs.Cause.{Cause, IsBest, HasNoPoint, HasRay, IsNo
 ghost use Rattle.glpsol_cli.specs.Written.{Written};
 ghost use Rattle.glpsol_cli.specs.Complete.{IsComplete, IsVerdictOrNoMemory};
 ghost use Rattle.glpsol_cli.specs.Stages.{AreInputs, AreSomeInputs, IsEndIn, IsEndOf, IsRun, IsSomeRun, IsSubject, IsWhole, LeftWritten, Moment, WrittenSince, texts_in};
+ghost use Rattle.glpsol_cli.specs.Left.{is_waiting};
 ghost use Rattle.glpsol_cli.specs.Together.{CauseIn, IsOfOneText, Tells};
 
 use crate::execution::{Executed, ExecutionEnd, Halt, Later, execute};
 use crate::inputs::{Inputs, read_inputs};
 use crate::publish::write_both;
-use crate::stop::{stop_answer, unread_answer, unwritten_answer};
+use crate::stop::{stop_answer, unread_answer};
 use crate::tables::{Run, with_tables};
 use crate::task::from_problem;
-use crate::tell::tell;
+use crate::tell::{tell, tell_unwritten};
 use crate::{Answer, Reached};
 use instance::Instance;
 use outside::{Sink, Store};
@@ -143,13 +144,14 @@ fn from_execution<S: Store, O: Sink>(
 {
     match with_tables(alloc, Run { inputs, executed }, files, out) {
         Ok(run) => from_run(alloc, run, files, out),
-        Err(fault) => tell(alloc, out, unwritten_answer(Reached::Executed, fault)),
+        Err(fault) => tell_unwritten(alloc, out, Reached::Executed, fault),
     }
 }
 
 // What is not written yet of what was executed is written.
 fn from_run<S: Store, O: Sink>(alloc: Global, run: Run, files: &mut S, out: &mut O) -> Answer
-    requires { IsSomeRun (record { outside = record { taken = O.taken out.old; told = S.told files.old }; files = S.faults files.old; out = O.faults out.old }) run.inputs.settings (texts_in run.inputs) run.executed }
+    requires over { is_waiting run.executed.halt ≡ false }
+    requires run { IsSomeRun (record { outside = record { taken = O.taken out.old; told = S.told files.old }; files = S.faults files.old; out = O.faults out.old }) run.inputs.settings (texts_in run.inputs) run.executed }
     ensures cause { (words : List (List ℕ)) (told : ToldNames) (start : Moment)
         → IsRun words told start (record { outside = record { taken = O.taken out.old; told = S.told files.old }; files = S.faults files.old; out = O.faults out.old }) run.inputs.settings (texts_in run.inputs) run.executed
         → Cause words told (Rose start.files (S.faults files.new)) (Rose start.out (O.faults out.new)) result }
@@ -168,11 +170,11 @@ fn from_run<S: Store, O: Sink>(alloc: Global, run: Run, files: &mut S, out: &mut
     } = executed;
     match write_both(files, out, made, shown) {
         Ok(()) => from_halt(alloc, inputs, halt, files, out),
-        Err(fault) => tell(alloc, out, unwritten_answer(Reached::Executed, fault)),
+        Err(fault) => tell_unwritten(alloc, out, Reached::Executed, fault),
     }
 }
 
-// The execution is over, or the file of a table is not read. Where a table is left that is to be read, memory is wanting.
+// The execution is over, or the file of a table is not read.
 fn from_halt<S: Store, O: Sink>(
     alloc: Global,
     inputs: Inputs,
@@ -193,13 +195,7 @@ fn from_halt<S: Store, O: Sink>(
 {
     match halt {
         Halt::End(end) => from_end(alloc, &inputs, end, files, out),
-        Halt::Table(_) => tell(
-            alloc,
-            out,
-            Answer::NoMemory {
-                reached: Reached::Executed,
-            },
-        ),
+        Halt::Table(_) => unreachable!(),
         Halt::Unread(unread) => tell(alloc, out, unread_answer(Reached::Executed, unread)),
     }
 }

@@ -87,7 +87,9 @@ fn the_sink_fails(rt: HostRuntime) -> Result<(), Fail> {
         &mut files,
         &mut out,
     );
-    assert!(rt; is_unwritten_verdict(&answer));
+    let is_unwritten = is_unwritten_verdict(&answer);
+    assert_eq!(rt; answer.into_code(), 1);
+    assert!(rt; is_unwritten);
     assert_eq!(rt; out.bytes(), b"OPTI".as_slice());
     Ok(())
 }

@@ -6,6 +6,7 @@ use std::test::Fail;
 // integer columns of free MPS and MathProg, and rays with and without a feasible point.
 const INTEGER: &str = "\
 0 OPTIMAL$objective obj 21$column a 0$column b 1$column c 1$column d 1$row r.1 14$ <- --lp f <- max$ 8 a + 11 b + 6 c + 4 d$st$ 5 a + 7 b + 4 c + 3 d <= 14$binary$ a b c d$end$
+0 OPTIMAL$objective obj 21$column a 0$column b 1$column c 1$column d 1$row r.1 14$ <- --lp f --pivlim 0 <- max$ 8 a + 11 b + 6 c + 4 d$st$ 5 a + 7 b + 4 c + 3 d <= 14$binary$ a b c d$end$
 0 OPTIMAL$objective obj 22$column a 1$column b 1$column c 1/2$column d 0$row r.1 14$ <- --lp f --nomip <- max$ 8 a + 11 b + 6 c + 4 d$st$ 5 a + 7 b + 4 c + 3 d <= 14$binary$ a b c d$end$
 4 UNDECIDED nodes$ <- --lp f --nodlim 3 <- min$ x$st$ 2 x - 2 y = 1$general$ x y$end$
 4 UNDECIDED nodes$ <- --lp f --nodlim 0 <- min$ x$st$ 2 x - 2 y = 1$general$ x y$end$

@@ -17,7 +17,7 @@ pub(crate) fn status<T: Threads + Sync>(
     files: &mut MemStore,
     out: &mut MemSink,
 ) -> u8 {
-    run(rt, alloc, words, files, out).code()
+    run(rt, alloc, words, files, out).into_code()
 }
 
 /// The words of a text.

@@ -7,7 +7,7 @@ use Rattle.gmpl_token.specs.declared.kind.TokenKind.{TokenKind}
 use Rattle.gmpl_token.specs.declared.kind.TokenKind.TheVariants as k
 use Rattle.gmpl_token.specs.Token.{Token}
 use Rattle.gmpl_blocks.specs.declared.fault.DataFaultKind.{DataFaultKind}
-use Rattle.gmpl_blocks.specs.declared.fault.DataFaultKind.TheVariants.{BadForm}
+use Rattle.gmpl_blocks.specs.declared.fault.DataFaultKind.TheVariants.{BadForm, Unended, WrongDimension}
 
 -- the tokens that are left, and why none stands behind them
 pub record Input : Type 0 where
@@ -48,6 +48,18 @@ next i = record { rest = behind i.rest; end = i.end }
 -- why no rule reads it: the text has another token there, or it ends
 unfoldable pub refusal : Input → DataFaultKind
 refusal i = refused_at i.rest i.end
+
+abbrev pub wanting_kind : DataFaultKind → DataFaultKind
+wanting_kind Unended = WrongDimension
+wanting_kind kind = kind
+
+abbrev pub wanting_at : List Token → DataFaultKind → DataFaultKind
+wanting_at [] end = wanting_kind end
+wanting_at (token ∷ tokens) end = WrongDimension
+
+-- why there are no subscripts where some are wanted: the next token is a bad one, or the dimension is wrong
+unfoldable pub wanting : Input → DataFaultKind
+wanting i = wanting_at i.rest i.end
 
 -- ---- its kind
 

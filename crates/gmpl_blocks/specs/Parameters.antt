@@ -57,24 +57,24 @@ values (Some table) slots members = row table slots members
 
 -- ---- the block
 
--- a slice is in force up to the next one, and a table up to the next slice or `:=`
+-- a slice is in force up to the next one, `(tr)` up to the next slice, and a table up to the next slice or `:=`
 unfoldable pub assignment : ParameterBlock → Rule ParameterBlock
-assignment block = expect k.Assign >> pure (record { slots = block.slots; table = None; values = block.values; is_behind_item = false })
+assignment block = expect k.Assign >> pure (record { slots = block.slots; is_transposed = block.is_transposed; table = None; values = block.values; is_behind_item = false })
 
 unfoldable pub separator : ParameterBlock → Rule ParameterBlock
-separator block = comma block.is_behind_item >> pure (record { slots = block.slots; table = block.table; values = block.values; is_behind_item = false })
+separator block = comma block.is_behind_item >> pure (record { slots = block.slots; is_transposed = block.is_transposed; table = block.table; values = block.values; is_behind_item = false })
 
 unfoldable pub slice_item : ℕ → ParameterBlock → Rule ParameterBlock
 slice_item dimension block = do
   expect k.OpenBracket
   slots ← slice k.CloseBracket dimension
-  pure (record { slots = slots; table = None; values = block.values; is_behind_item = true })
+  pure (record { slots = slots; is_transposed = false; table = None; values = block.values; is_behind_item = true })
 
 unfoldable pub table_item : Bool → ParameterBlock → Rule ParameterBlock
 table_item is_transposed block = do
   expect k.Colon
   head ← table is_transposed block.slots
-  pure (record { slots = block.slots; table = Some head; values = block.values; is_behind_item = false })
+  pure (record { slots = block.slots; is_transposed = is_transposed; table = Some head; values = block.values; is_behind_item = false })
 
 abbrev pub transposition_by : Bool → Rule (Unit {0})
 transposition_by true = expect k.CloseParenthesis
@@ -91,13 +91,13 @@ unfoldable pub transposed_item : ParameterBlock → Rule ParameterBlock
 transposed_item block = transposition >> table_item true block
 
 unfoldable pub values_item : ParameterBlock → Rule ParameterBlock
-values_item block = values block.table block.slots block.values >>= (λ more. pure (record { slots = block.slots; table = block.table; values = more; is_behind_item = true }))
+values_item block = values block.table block.slots block.values >>= (λ more. pure (record { slots = block.slots; is_transposed = block.is_transposed; table = block.table; values = more; is_behind_item = true }))
 
 abbrev pub item_by : Option TokenKind → ℕ → ParameterBlock → Rule ParameterBlock
 item_by (Some k.Assign) dimension block = assignment block
 item_by (Some k.Comma) dimension block = separator block
 item_by (Some k.OpenBracket) dimension block = slice_item dimension block
-item_by (Some k.Colon) dimension block = table_item false block
+item_by (Some k.Colon) dimension block = table_item block.is_transposed block
 item_by (Some k.OpenParenthesis) dimension block = transposed_item block
 item_by (Some k.NumericLiteral) dimension block = values_item block
 item_by (Some k.Name) dimension block = values_item block
@@ -135,5 +135,5 @@ default before = do
 unfoldable pub parameter_block : ℕ → ParameterData → Rule ParameterData
 parameter_block dimension before = do
   value ← default before.default
-  members ← items dimension (record { slots = all_stars dimension; table = None; values = before.values; is_behind_item = false })
+  members ← items dimension (record { slots = all_stars dimension; is_transposed = false; table = None; values = before.values; is_behind_item = false })
   pure (record { values = members; default = value })

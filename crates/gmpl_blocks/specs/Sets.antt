@@ -7,7 +7,7 @@ use Rattle.gmpl_value.specs.declared.fault.SetFault.{SetFault}
 use Rattle.gmpl_value.specs.Sets.{Elements, is_member, with_element}
 use Rattle.gmpl_blocks.specs.declared.fault.DataFaultKind.{DataFaultKind}
 use Rattle.gmpl_blocks.specs.declared.fault.DataFaultKind.TheVariants.{Twice, WrongDimension}
-use Rattle.gmpl_blocks.specs.Input.{sees_transposition}
+use Rattle.gmpl_blocks.specs.Input.{sees_transposition, wanting}
 use Rattle.gmpl_blocks.specs.Rules.{Rule, ◌>>=◌, ◌>>◌, pure, refuse, fault, judged, peek, take_token, expect, eat}
 use Rattle.gmpl_blocks.specs.Symbols.{Slot, symbol, next_symbol, word}
 use Rattle.gmpl_blocks.specs.declared.block_slots.TableHead.{TableHead}
@@ -64,25 +64,25 @@ elements (Some head) slots given = row head slots given
 
 -- ---- the block
 
--- a slice is in force up to the next one, and a matrix up to the next slice or `:=`
+-- a slice is in force up to the next one, `(tr)` up to the next slice, and a matrix up to the next slice or `:=`
 unfoldable pub assignment : SetBlock → Rule SetBlock
-assignment block = expect k.Assign >> pure (record { slots = block.slots; table = None; given = block.given; is_behind_item = false })
+assignment block = expect k.Assign >> pure (record { slots = block.slots; is_transposed = block.is_transposed; table = None; given = block.given; is_behind_item = false })
 
 unfoldable pub separator : SetBlock → Rule SetBlock
-separator block = comma block.is_behind_item >> pure (record { slots = block.slots; table = block.table; given = block.given; is_behind_item = false })
+separator block = comma block.is_behind_item >> pure (record { slots = block.slots; is_transposed = block.is_transposed; table = block.table; given = block.given; is_behind_item = false })
 
 unfoldable pub slice_item : ℕ → SetBlock → Rule SetBlock
 slice_item dimension block = do
   expect k.OpenParenthesis
   slots ← slice k.CloseParenthesis dimension
   more ← whole_slice slots block.given
-  pure (record { slots = slots; table = None; given = more; is_behind_item = true })
+  pure (record { slots = slots; is_transposed = false; table = None; given = more; is_behind_item = true })
 
 unfoldable pub matrix_item : Bool → SetBlock → Rule SetBlock
 matrix_item is_transposed block = do
   expect k.Colon
   head ← table is_transposed block.slots
-  pure (record { slots = block.slots; table = Some head; given = block.given; is_behind_item = false })
+  pure (record { slots = block.slots; is_transposed = is_transposed; table = Some head; given = block.given; is_behind_item = false })
 
 unfoldable pub transposed_item : SetBlock → Rule SetBlock
 transposed_item block = do
@@ -96,12 +96,12 @@ unfoldable pub parenthesis_item : ℕ → SetBlock → Rule SetBlock
 parenthesis_item dimension block = λ i. if sees_transposition i then transposed_item block i else slice_item dimension block i
 
 unfoldable pub elements_item : SetBlock → Rule SetBlock
-elements_item block = elements block.table block.slots block.given >>= (λ more. pure (record { slots = block.slots; table = block.table; given = more; is_behind_item = true }))
+elements_item block = elements block.table block.slots block.given >>= (λ more. pure (record { slots = block.slots; is_transposed = block.is_transposed; table = block.table; given = more; is_behind_item = true }))
 
 abbrev pub item_by : Option TokenKind → ℕ → SetBlock → Rule SetBlock
 item_by (Some k.Assign) dimension block = assignment block
 item_by (Some k.Comma) dimension block = separator block
-item_by (Some k.Colon) dimension block = matrix_item false block
+item_by (Some k.Colon) dimension block = matrix_item block.is_transposed block
 item_by (Some k.OpenParenthesis) dimension block = parenthesis_item dimension block
 item_by (Some k.NumericLiteral) dimension block = elements_item block
 item_by (Some k.Name) dimension block = elements_item block
@@ -124,7 +124,7 @@ items dimension block = λ i. items_from dimension (length i.rest) block i
 
 -- the block behind the name and the subscripts, of a set of this dimension, with what blocks before it gave
 unfoldable pub set_block : ℕ → SetData → Rule SetData
-set_block dimension before = items dimension (record { slots = all_stars dimension; table = None; given = before; is_behind_item = false })
+set_block dimension before = items dimension (record { slots = all_stars dimension; is_transposed = false; table = None; given = before; is_behind_item = false })
 
 -- ---- the subscripts of a member of a set
 
@@ -138,9 +138,13 @@ subscripts_from (suc n) found = do
 abbrev pub further_subscripts : List Symbol → Rule (List Symbol)
 further_subscripts found = λ i. subscripts_from (length i.rest) found i
 
-abbrev pub subscripts_by : Bool → Rule (List Symbol)
-subscripts_by false = pure []
-subscripts_by true = symbol >>= (λ first. further_subscripts (first ∷ []))
+abbrev pub no_subscripts : ℕ → Rule (List Symbol)
+no_subscripts zero = pure []
+no_subscripts (suc n) = λ i. Err (wanting i)
+
+abbrev pub subscripts_by : ℕ → Bool → Rule (List Symbol)
+subscripts_by count false = no_subscripts count
+subscripts_by count true = symbol >>= (λ first. further_subscripts (first ∷ []))
 
 abbrev pub counted : ℕ → List Symbol → Rule (List Symbol)
 counted count subscripts = if length subscripts == count then pure subscripts else fault WrongDimension
@@ -149,5 +153,5 @@ counted count subscripts = if length subscripts == count then pure subscripts el
 unfoldable pub subscripts : ℕ → Rule (List Symbol)
 subscripts count = do
   is_open ← eat k.OpenBracket
-  found ← subscripts_by is_open
+  found ← subscripts_by count is_open
   counted count found

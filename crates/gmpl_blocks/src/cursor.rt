@@ -136,6 +136,20 @@ impl<'s, 'a> Cursor<'s, 'a> {
         }
     }
 
+    // What is wrong where the subscripts of a member are wanting: a bad token comes next, or the dimension is another.
+    #[tactic(auto, unfolding(crate::specs::Input::wanting))]
+    pub(crate) fn wanting(&self) -> DataFaultKind
+        ensures { result ≡ spec.wanting self.now }
+    {
+        match self.rest {
+            [_, ..] => DataFaultKind::WrongDimension,
+            [] => match self.end {
+                DataFaultKind::Unended => DataFaultKind::WrongDimension,
+                end => end,
+            },
+        }
+    }
+
     /// Goes behind the next token, whatever it is, and gives its text.
     #[tactic(auto, unfolding(crate::specs::Input::spelling, crate::specs::Input::next))]
     pub fn take(&mut self) -> &'a str

@@ -19,11 +19,12 @@ pub struct ParameterData {
     pub default: Option<Symbol>,
 }
 
-// A block between two items: the slice and the table that are in force, the values so far, and whether an item stands right
-// before, behind which a comma may come.
+// A block between two items: the slice, `(tr)` and the table that are in force, the values so far, and whether an item stands
+// right before, behind which a comma may come.
 #[derive(Drop)]
 pub(crate) struct ParameterBlock {
     pub(crate) slots: Items<Option<Symbol>>,
+    pub(crate) is_transposed: bool,
     pub(crate) table: Option<TableHead>,
     pub(crate) values: Members,
     pub(crate) is_behind_item: bool,
@@ -141,6 +142,7 @@ fn assignment(
     tokens.expect(TokenKind::Assign)?;
     Ok(ParameterBlock {
         slots: block.slots,
+        is_transposed: block.is_transposed,
         table: None,
         values: block.values,
         is_behind_item: false,
@@ -157,6 +159,7 @@ fn separator(
     comma(block.is_behind_item, tokens)?;
     Ok(ParameterBlock {
         slots: block.slots,
+        is_transposed: block.is_transposed,
         table: block.table,
         values: block.values,
         is_behind_item: false,
@@ -176,6 +179,7 @@ fn slice_item(
     let slots = slice(alloc, TokenKind::CloseBracket, dimension, tokens)?;
     Ok(ParameterBlock {
         slots,
+        is_transposed: false,
         table: None,
         values: block.values,
         is_behind_item: true,
@@ -195,6 +199,7 @@ fn table_item(
     let head = table(alloc, is_transposed, block.slots.as_slice(), tokens)?;
     Ok(ParameterBlock {
         slots: block.slots,
+        is_transposed,
         table: Some(head),
         values: block.values,
         is_behind_item: false,
@@ -236,6 +241,7 @@ fn values_item(
 {
     let ParameterBlock {
         slots,
+        is_transposed,
         table,
         values: before,
         ..
@@ -243,6 +249,7 @@ fn values_item(
     let values = values(alloc, &table, slots.as_slice(), before, tokens)?;
     Ok(ParameterBlock {
         slots,
+        is_transposed,
         table,
         values,
         is_behind_item: true,
@@ -262,7 +269,7 @@ fn item(
         Some(TokenKind::Assign) => assignment(block, tokens),
         Some(TokenKind::Comma) => separator(block, tokens),
         Some(TokenKind::OpenBracket) => slice_item(alloc, dimension, block, tokens),
-        Some(TokenKind::Colon) => table_item(alloc, false, block, tokens),
+        Some(TokenKind::Colon) => table_item(alloc, block.is_transposed, block, tokens),
         Some(TokenKind::OpenParenthesis) => transposed_item(alloc, block, tokens),
         Some(TokenKind::NumericLiteral) => values_item(alloc, block, tokens),
         Some(TokenKind::Name) => values_item(alloc, block, tokens),
@@ -331,6 +338,7 @@ pub fn parameter_block(
     let slots = all_stars(alloc, dimension)?;
     let block = ParameterBlock {
         slots,
+        is_transposed: false,
         table: None,
         values: before.values,
         is_behind_item: false,

@@ -18,11 +18,12 @@ pub struct SetData {
     pub is_overfull: bool,
 }
 
-// A block between two items: the slice and the matrix that are in force, the elements so far, and whether an item stands right
-// before, behind which a comma may come.
+// A block between two items: the slice, `(tr)` and the matrix that are in force, the elements so far, and whether an item stands
+// right before, behind which a comma may come.
 #[derive(Drop)]
 pub(crate) struct SetBlock {
     pub(crate) slots: Items<Option<Symbol>>,
+    pub(crate) is_transposed: bool,
     pub(crate) table: Option<TableHead>,
     pub(crate) given: SetData,
     pub(crate) is_behind_item: bool,
@@ -167,6 +168,7 @@ fn assignment(block: SetBlock, tokens: &mut Cursor<'_, '_>) -> Result<SetBlock, 
     tokens.expect(TokenKind::Assign)?;
     Ok(SetBlock {
         slots: block.slots,
+        is_transposed: block.is_transposed,
         table: None,
         given: block.given,
         is_behind_item: false,
@@ -180,6 +182,7 @@ fn separator(block: SetBlock, tokens: &mut Cursor<'_, '_>) -> Result<SetBlock, D
     comma(block.is_behind_item, tokens)?;
     Ok(SetBlock {
         slots: block.slots,
+        is_transposed: block.is_transposed,
         table: block.table,
         given: block.given,
         is_behind_item: false,
@@ -200,6 +203,7 @@ fn slice_item(
     let given = whole_slice(alloc, slots.as_slice(), block.given, tokens)?;
     Ok(SetBlock {
         slots,
+        is_transposed: false,
         table: None,
         given,
         is_behind_item: true,
@@ -219,6 +223,7 @@ fn matrix_item(
     let head = table(alloc, is_transposed, block.slots.as_slice(), tokens)?;
     Ok(SetBlock {
         slots: block.slots,
+        is_transposed,
         table: Some(head),
         given: block.given,
         is_behind_item: false,
@@ -266,6 +271,7 @@ fn elements_item(
 {
     let SetBlock {
         slots,
+        is_transposed,
         table,
         given: before,
         ..
@@ -273,6 +279,7 @@ fn elements_item(
     let given = elements(alloc, &table, slots.as_slice(), before, tokens)?;
     Ok(SetBlock {
         slots,
+        is_transposed,
         table,
         given,
         is_behind_item: true,
@@ -291,7 +298,7 @@ fn item(
     match tokens.peek() {
         Some(TokenKind::Assign) => assignment(block, tokens),
         Some(TokenKind::Comma) => separator(block, tokens),
-        Some(TokenKind::Colon) => matrix_item(alloc, false, block, tokens),
+        Some(TokenKind::Colon) => matrix_item(alloc, block.is_transposed, block, tokens),
         Some(TokenKind::OpenParenthesis) => parenthesis_item(alloc, dimension, block, tokens),
         Some(TokenKind::NumericLiteral) => elements_item(alloc, block, tokens),
         Some(TokenKind::Name) => elements_item(alloc, block, tokens),
@@ -333,6 +340,7 @@ pub fn set_block(
     let slots = all_stars(alloc, dimension)?;
     let block = SetBlock {
         slots,
+        is_transposed: false,
         table: None,
         given: before,
         is_behind_item: false,
@@ -358,21 +366,36 @@ fn further_subscripts(
     Err(tokens.refuse())
 }
 
+fn no_subscripts(
+    alloc: Global,
+    count: usize,
+    tokens: &mut Cursor<'_, '_>,
+) -> Result<Tuple, DataError>
+    ensures { Reads (spec.no_subscripts count tokens.old) result tokens.new }
+{
+    match count {
+        0 => Ok(Tuple::new(alloc)),
+        _ => Err(DataError::Fault(tokens.wanting())),
+    }
+}
+
 fn subscripts_by(
     alloc: Global,
+    count: usize,
     is_open: bool,
     tokens: &mut Cursor<'_, '_>,
 ) -> Result<Tuple, DataError>
-    ensures { Reads (spec.subscripts_by is_open tokens.old) result tokens.new }
+    ensures { Reads (spec.subscripts_by count is_open tokens.old) result tokens.new }
 {
     if !is_open {
-        return Ok(Tuple::new(alloc));
+        return no_subscripts(alloc, count, tokens);
     }
     let first = Tuple::single(alloc, symbol(alloc, tokens)?)?;
     further_subscripts(alloc, tokens, first)
 }
 
-/// The subscripts of a member of a set that has so many, in brackets.
+/// The subscripts of a member of a set that has so many, in brackets. Where these are wanting, a bad token that comes next decides,
+/// else it is `WrongDimension`.
 #[tactic(auto, unfolding(crate::specs::Sets::subscripts))]
 pub fn subscripts(
     alloc: Global,
@@ -382,7 +405,7 @@ pub fn subscripts(
     ensures { Reads (spec.subscripts count tokens.old) result tokens.new }
 {
     let is_open = tokens.eat(TokenKind::OpenBracket);
-    let found = subscripts_by(alloc, is_open, tokens)?;
+    let found = subscripts_by(alloc, count, is_open, tokens)?;
     if found.len() == count {
         Ok(found)
     } else {

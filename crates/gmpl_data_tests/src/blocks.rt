@@ -53,6 +53,8 @@ t.1.2.3=4 t.1.5.6=7 => param t := [1 * *] 2 3 4 5 6 7;
 c.1.1=3 c.1.2=4 c.2.1=5 c.2.2=6 => param c : 1 2 := 1 3 4 2 5 6;
 c.1.1=3 c.2.1=4 c.1.2=5 c.2.2=6 => param c (tr) : 1 2 := 1 3 4 2 5 6;
 c.1.1=3 c.2.1=4 => param c (tr): 1 2 := 1 3 4;
+c.1.1=3 c.2.1=4 c.5.1=6 => param c (tr) : 1 2 := 1 3 4 : 5 := 1 6;
+t.1.7.2=3 t.5.2.7=4 => param t := [1,*,*] (tr) : 7 := 2 3 [5,*,*] : 7 := 2 4;
 c.1.2=4 c.2.1=5 => param c : 1 2 := 1 . 4 2 5 .;
 c.1.1='.' => param c : 1 := 1 '.';
 c.1.1=3 c.1.2=4 c.1.3=5 => param c : 1 2 := 1 3 4 : 3 := 1 5;
@@ -83,6 +85,8 @@ A={1.2,1.3,4.3} => set A := (1,*) 2 3 (*,3) 4;
 A={1.2,1.3} => set A := (1,*) 2, 3;
 A={1.2,3.1} => set A : 1 2 3 := 1 - + - 3 + - -;
 A={2.1,1.3} => set A (tr) : 1 2 3 := 1 - + - 3 + - -;
+A={1.3,5.4} => set A (tr) : 1 2 := 3 + - : 5 := 4 +;
+A={1.3,4.5} => set A (tr) : 1 2 := 3 + - (*,*) : 5 := 4 +;
 A={1.1,2.2} => set A : 1 2 := 1 + - 2 - +;
 A={1.1,7.8} => set A : 1 := 1 + := 7 8;
 A={tr.1} => set A := (tr,1);
@@ -167,6 +171,9 @@ A={1.1} => set A : 1 := 1 + 1 -;
 !WrongDimension 1 1 => set S := (a,b);
 !WrongDimension 1 1 => set S : 1 := 1 +;
 !WrongDimension 1 1 => set M := a;
+!WrongDimension 1 1 => set M
+!BadByte 1 1 => set M {
+!UnendedString 1 1 => set M 'a
 !WrongDimension 1 1 => set M[1,2] := a;
 !WrongDimension 1 1 => set S[1] := a;
 !WrongDimension 1 1 => param : p c := 1 2 3;

@@ -25,7 +25,7 @@ use std::alloc::Global;
 const MOST_HEIGHT: u32 = 400;
 
 // How many expressions may stand within one another, through members too.
-const ROOM: u32 = 1300;
+const ROOM: u32 = 1700;
 
 /// The value that an expression comes to, of whatever kind.
 pub fn eval_value(

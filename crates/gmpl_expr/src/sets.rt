@@ -9,6 +9,7 @@ ghost use Rattle.gmpl_operations.specs.Values.{set_in};
 ghost use Rattle.gmpl_meaning.specs.Right.{AreRight};
 
 use crate::evaluate::eval;
+use crate::kept_sets::{found_set, remembered_set};
 use crate::members::demanded;
 use crate::parts::{index_set, kept_range};
 use crate::values::{number, symbols};
@@ -61,6 +62,7 @@ pub(crate) fn shared_set(
     }
 }
 
+// Kept, where no index is in scope.
 #[cycle(evaluation)]
 fn own_set(
     alloc: Global,
@@ -75,8 +77,13 @@ fn own_set(
     ensures right { AreRight model.now kept.new }
     ensures value { GivesAs (λ set. set.value) result (walks.entry_set (at.expr model.now height whole.now) bindings.now) }
 {
-    let set = eval(alloc, model, kept, height, room, whole, bindings)?.into_set()?;
-    Ok(Rc::new(alloc, set)?)
+    match found_set(alloc, model, kept, height, whole, bindings) {
+        Some(set) => Ok(set),
+        None => {
+            let value = eval(alloc, model, kept, height, room, whole, bindings)?;
+            remembered_set(alloc, model, kept, height, whole, bindings, value)
+        }
+    }
 }
 
 #[cycle(evaluation)]

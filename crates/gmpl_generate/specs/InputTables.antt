@@ -1,6 +1,6 @@
 -- What `table IN` adds to the data of a model (GNU MathProg Language Reference, section on the table statement), once the text of its
 -- file is there.
-use Rattle.std.specs.Prelude.{◌≡◌, ℕ, List, slice_get, Option, Some, None, Result, Ok, Err}
+use Rattle.std.specs.Prelude.{◌≡◌, ℕ, ◌+◌, List, [], ◌∷◌, drop, slice_get, Option, Some, None, Result, Ok, Err}
 use Rattle.gmpl_resolved.specs.declared.statement.Numbered.{Numbered}
 use Rattle.gmpl_resolved.specs.declared.statement.NumberedStep.{NumberedStep}
 use Rattle.gmpl_resolved.specs.declared.statement.Step.{Step}
@@ -48,6 +48,32 @@ in_model model (Err fault) = Err fault
 -- the model with what the table gives at which its execution pauses, or the fault of the table's text
 unfoldable pub with_table : LoadedModel → Pause → List ℕ → Result LoadedModel ModelFault
 with_table model p text = in_model model (with_step_at model.tables.objects text (step_of model.statements model.steps p))
+
+-- ---- the tables that are still to be read
+
+abbrev pub tables_at : Step → ℕ
+tables_at (step.TableInput t) = 1
+tables_at (step.Action a) = 0
+tables_at step.Solve = 0
+
+-- the `table IN` statements among these steps
+abbrev pub tables_in : List NumberedStep → ℕ
+tables_in [] = 0
+tables_in (s ∷ ss) = tables_at s.step + tables_in ss
+
+-- those before these statements, and behind the last of them
+abbrev pub tables_among : List Numbered → List NumberedStep → ℕ
+tables_among [] steps = tables_in steps
+tables_among (x ∷ xs) steps = tables_in x.steps + tables_among xs steps
+
+-- those behind a step before the first of these statements
+abbrev pub tables_behind : ℕ → List Numbered → List NumberedStep → ℕ
+tables_behind place [] steps = tables_in (drop (place + 1) steps)
+tables_behind place (x ∷ xs) steps = tables_in (drop (place + 1) x.steps) + tables_among xs steps
+
+-- how many `table IN` statements stand behind that at which an execution pauses
+unfoldable pub tables_left : LoadedModel → Pause → ℕ
+tables_left model p = tables_behind p.step (drop p.place model.statements) model.steps
 
 -- ---- a call goes the way of the definition; want of memory is free
 

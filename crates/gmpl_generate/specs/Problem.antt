@@ -1,5 +1,5 @@
 -- What the execution of a model with its data makes, where it stops, and the problem that it means, or its first fault.
-use Rattle.std.specs.Prelude.{◌≡◌, ℕ, Bool, true, false, Result, Ok, Err, List, [], ◌∷◌, ◌+◌, ◌++◌, drop, map, string_bytes, if◌then◌else◌}
+use Rattle.std.specs.Prelude.{◌≡◌, ◌<◌, ℕ, Bool, true, false, Result, Ok, Err, List, [], ◌∷◌, ◌+◌, ◌++◌, drop, map, string_bytes, if◌then◌else◌}
 use Rattle.gmpl_resolved.specs.declared.statement.Attribute.{Attribute}
 use Rattle.gmpl_resolved.specs.declared.statement.Attribute.TheVariants as a
 use Rattle.gmpl_resolved.specs.declared.statement.Numbered.{Numbered}
@@ -19,7 +19,7 @@ use Rattle.gmpl_generate.specs.declared.turns.Stopped.{Stopped}
 use Rattle.gmpl_generate.specs.declared.turns.Stopped.TheVariants as stopped
 use Rattle.gmpl_generate.specs.Running.{File, Made, Ran, Running, files_of, nothing_made, result_of, state_of}
 use Rattle.gmpl_generate.specs.Execution.{executed_from, resumed_from}
-use Rattle.gmpl_generate.specs.InputTables.{with_table}
+use Rattle.gmpl_generate.specs.InputTables.{tables_left, with_table}
 
 -- ---- what statements declare
 
@@ -131,6 +131,12 @@ abbrev pub IsEnd : Result Execution ModelFault → End → Type 0
 IsEnd right (ends.Problem model g) = IsProblemOf right model g
 IsEnd right (ends.Table model p) = right ≡ Ok (record { model = model; stopped = stopped.AtTable p })
 IsEnd right (ends.Fault fault) = right ≡ Err fault
+
+-- where it pauses again, it has fewer tables left to read
+abbrev pub HasFewerLeft : ℕ → End → Type 0
+HasFewerLeft count (ends.Table model p) = tables_left model p < count
+HasFewerLeft count (ends.Problem model g) = Unit {0}
+HasFewerLeft count (ends.Fault fault) = Unit {0}
 
 -- what is made and where it ends
 pub record IsExecuted (run : Executing) (e : Executed) : Type 0 where

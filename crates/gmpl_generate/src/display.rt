@@ -1,6 +1,7 @@
 // What is shown.
 ghost use Rattle.std.specs.Prelude.{◌≡◌, ◌++◌, [], string_bytes, IfOk, OnOk, length};
 ghost use Rattle.gmpl_value.specs.Outcome.{GivesAs};
+ghost use Rattle.gmpl_generate.specs.Shown as texts;
 ghost use Rattle.gmpl_generate.specs.Running.{Follows};
 ghost use Rattle.gmpl_generate.specs.Display as spec;
 
@@ -13,6 +14,7 @@ use gmpl_data::LoadedModel;
 use gmpl_expr::Context;
 use gmpl_meaning::{Element, Walk};
 use gmpl_member_names::member_name;
+use gmpl_operations::Value;
 use gmpl_resolved::{Expr, Head, Meaning, Numbered, Statement};
 use gmpl_syntax::Suffix;
 use gmpl_text::Text;
@@ -24,6 +26,13 @@ fn line(alloc: Global, name: &str, value: &str) -> Result<String, AllocError>
     ensures { IfOk result (λ text. string_bytes text ≡ spec.line name.now value.now) }
 {
     format!(in alloc; "{name} = {value}\n")
+}
+
+// The text of a value, which is let go.
+fn value_text(alloc: Global, value: Value) -> Result<String, EvalFault>
+    ensures { GivesAs string_bytes result (texts.shown value) }
+{
+    shown(alloc, &value)
 }
 
 // ---- expressions
@@ -39,8 +48,7 @@ fn expression_line(
     ensures of { context.new ≡ model.now }
     ensures value { GivesAs string_bytes result (spec.expression_line model.now whole.now bindings.now) }
 {
-    let value = value_of(alloc, model, context, bindings, whole)?;
-    let text = shown(alloc, &value)?;
+    let text = value_text(alloc, value_of(alloc, model, context, bindings, whole)?)?;
     Ok(line(alloc, "display", &text)?)
 }
 
@@ -58,8 +66,10 @@ fn member_line(
     ensures of { context.new ≡ model.now }
     ensures value { GivesAs string_bytes result (spec.member_line model.now place name.now subscripts.now) }
 {
-    let value = member_value_of(alloc, model, context, place, subscripts)?;
-    let text = shown(alloc, &value)?;
+    let text = value_text(
+        alloc,
+        member_value_of(alloc, model, context, place, subscripts)?,
+    )?;
     let name = member_name(alloc, name.as_str(), subscripts)?;
     Ok(line(alloc, &name, &text)?)
 }

@@ -136,6 +136,13 @@ pub(crate) fn member_value_of(
     member_value(alloc, context, place, subscripts)
 }
 
+// The only error of what goes over elements.
+fn want_of_memory(_fault: EvalFault) -> AllocError
+    requires { _fault ≡ EvalFault.NoMemory }
+{
+    AllocError
+}
+
 /// What a domain goes over, where the indices in scope have these values.
 pub(crate) fn over_domain(
     alloc: Global,
@@ -150,7 +157,7 @@ pub(crate) fn over_domain(
 {
     match gmpl_expr::elements_of(alloc, context, domain, bindings) {
         Ok(walk) => Ok(walk),
-        Err(_) => Err(AllocError),
+        Err(fault) => Err(want_of_memory(fault)),
     }
 }
 
@@ -168,6 +175,6 @@ pub(crate) fn over_head(
 {
     match elements_over(alloc, context, head, bindings) {
         Ok(walk) => Ok(walk),
-        Err(_) => Err(AllocError),
+        Err(fault) => Err(want_of_memory(fault)),
     }
 }

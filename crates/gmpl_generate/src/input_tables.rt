@@ -10,13 +10,25 @@ use csv_tables::TableError;
 use gmpl_data::{DataTables, LoadedModel};
 use gmpl_resolved::{Numbered, NumberedStep, Step};
 use gmpl_table_data::with_table as data_with_table;
-use std::alloc::Global;
+use sqlite_items::Boxed;
+use std::alloc::{AllocError, Global};
 
 // Why a table gives nothing.
 #[derive(Clone, Copy, Drop)]
 pub(crate) enum Untaken {
     Fault(ModelFault),
     NoMemory,
+}
+
+impl From<AllocError> for Untaken {
+    ghost use Rattle.std.specs.Prelude.{◌≡◌};
+    ghost use Rattle.gmpl_generate.specs.declared.input_tables.Untaken.TheVariants as untaken;
+
+    ghost from_gives = { λ _ error. error ≡ untaken.NoMemory };
+
+    fn from(_: AllocError) -> Untaken {
+        Untaken::NoMemory
+    }
 }
 
 // The step at which an execution pauses.
@@ -70,9 +82,9 @@ fn with_step_at(
     }
 }
 
-/// The model with what the table gives at which its execution pauses.
+// The model with what the table gives at which its execution pauses.
 #[tactic(auto, unfolding(crate::specs::InputTables::with_table))]
-pub(crate) fn with_table(
+fn taken(
     alloc: Global,
     model: LoadedModel,
     pause: &Pause,
@@ -94,6 +106,21 @@ pub(crate) fn with_table(
             tables,
             solution,
         }),
+        Err(error) => Err(error),
+    }
+}
+
+/// The model with what the table gives at which its execution pauses.
+pub(crate) fn with_table(
+    alloc: Global,
+    model: Boxed<LoadedModel>,
+    pause: &Pause,
+    text: &[u8],
+) -> Result<Boxed<LoadedModel>, Untaken>
+    ensures { Takes (spec.with_table model pause.now text.now) result }
+{
+    match taken(alloc, model.into_inner(), pause, text) {
+        Ok(model) => Ok(Boxed::new(alloc, model)?),
         Err(error) => Err(error),
     }
 }

@@ -1,7 +1,8 @@
 // The problem of a model.
 ghost use Rattle.std.specs.Prelude.{◌≡◌, Ok, IfOk, string_bytes};
 ghost use Rattle.gmpl_generate.specs.Problem as spec;
-ghost use Rattle.gmpl_generate.specs.Problem.{all_declared, Execution, IsEnd, IsExecuted, IsMade};
+ghost use Rattle.gmpl_generate.specs.InputTables.{tables_left};
+ghost use Rattle.gmpl_generate.specs.Problem.{all_declared, Execution, HasFewerLeft, IsEnd, IsExecuted, IsMade};
 ghost use Rattle.gmpl_generate.specs.Running.{Made, Ran, Runs, files_of, made_of};
 ghost use Rattle.gmpl_rows.specs.Premises.{AreObjects};
 
@@ -16,6 +17,7 @@ use gmpl_rows::{Draft, column_members, finish, row_members};
 use gmpl_solution::Member;
 use gmpl_value::EvalFault;
 use instance::Instance;
+use sqlite_items::Boxed;
 use std::alloc::{AllocError, Global};
 
 /// What the execution of a model comes to, up to where it stops.
@@ -32,9 +34,9 @@ pub struct Executed {
 #[derive(Drop)]
 pub enum End {
     /// At `solve` or behind the last statement: the model with what tables gave, and its problem.
-    Problem(LoadedModel, Generated),
+    Problem(Boxed<LoadedModel>, Boxed<Generated>),
     /// At a table whose file is to be read.
-    Table(LoadedModel, Pause),
+    Table(Boxed<LoadedModel>, Pause),
     /// At the first fault.
     Fault(ModelFault),
 }
@@ -61,7 +63,7 @@ fn all_executed(
     executed_from(alloc, model, &mut context, 0, draft, so_far)
 }
 
-// Behind the table at which it pauses. A place of a step that has none behind it, which no text reaches, counts as want of memory.
+// Behind the table at which it pauses.
 fn from_pause(
     alloc: Global,
     model: &LoadedModel,
@@ -76,11 +78,8 @@ fn from_pause(
         draft,
         ..
     } = pause;
-    let Some(next) = step.checked_add(1) else {
-        return Err(Halt::NoMemory);
-    };
     let mut context = Context::new(alloc, model);
-    resumed_from(alloc, model, &mut context, place, next, draft, so_far)
+    resumed_from(alloc, model, &mut context, place, step, draft, so_far)
 }
 
 // ---- the end
@@ -89,20 +88,22 @@ fn from_pause(
 fn made(alloc: Global, draft: &Draft) -> Result<Generated, AllocError>
     ensures { IfOk result (λ made. IsMade draft.now made) }
 {
+    let columns = column_members(alloc, draft)?;
+    let rows = row_members(alloc, draft)?;
     Ok(Generated {
         problem: finish(alloc, draft)?,
-        columns: column_members(alloc, draft)?,
-        rows: row_members(alloc, draft)?,
+        columns,
+        rows,
     })
 }
 
-fn end_of(alloc: Global, model: LoadedModel, stopped: Stopped) -> Result<End, AllocError>
+fn end_of(alloc: Global, model: Boxed<LoadedModel>, stopped: Stopped) -> Result<End, AllocError>
     ensures { IfOk result (IsEnd (Ok (record { model = model; stopped = stopped }))) }
 {
     match stopped {
         Stopped::AtEnd(draft) => {
             let made = made(alloc, &draft)?;
-            Ok(End::Problem(model, made))
+            Ok(End::Problem(model, Boxed::new(alloc, made)?))
         }
         Stopped::AtTable(pause) => Ok(End::Table(model, pause)),
     }
@@ -130,7 +131,7 @@ fn at_fault(so_far: Progress, fault: ModelFault) -> Executed
 // What an execution comes to that stops so, and has made this.
 fn outcome_of(
     alloc: Global,
-    model: LoadedModel,
+    model: Boxed<LoadedModel>,
     stopped: Result<Stopped, Halt<EvalFault>>,
     so_far: Progress,
 ) -> Result<Executed, AllocError>
@@ -160,22 +161,20 @@ fn outcome_of(
 /// Objects have names, of which no two are the same.
 /// Errors: want of memory.
 #[tactic(auto, unfolding(crate::specs::Problem::execution))]
-pub fn generate(alloc: Global, model: LoadedModel) -> Result<Executed, AllocError>
+pub fn generate(alloc: Global, model: Boxed<LoadedModel>) -> Result<Executed, AllocError>
     requires { AreObjects (all_declared model) }
     ensures { IfOk result (IsExecuted (spec.execution model)) }
 {
     let mut so_far = Progress::new(alloc);
-    let stopped = all_executed(alloc, &model, &mut so_far);
+    let stopped = all_executed(alloc, model.get(), &mut so_far);
     outcome_of(alloc, model, stopped, so_far)
 }
 
-/// The same from a table on at which an execution paused: with what the text of its file gives, where this was printed before. The
-/// fault of a text is that of the table's statement.
-/// Errors: want of memory.
+// From a table on at which an execution paused.
 #[tactic(auto, unfolding(crate::specs::Problem::resumed))]
-pub fn resume(
+fn behind_table(
     alloc: Global,
-    model: LoadedModel,
+    model: Boxed<LoadedModel>,
     pause: Pause,
     printed: String,
     text: &[u8],
@@ -186,10 +185,26 @@ pub fn resume(
     let mut so_far = Progress { printed, files };
     match with_table(alloc, model, &pause, text) {
         Ok(model) => {
-            let stopped = from_pause(alloc, &model, pause, &mut so_far);
+            let stopped = from_pause(alloc, model.get(), pause, &mut so_far);
             outcome_of(alloc, model, stopped, so_far)
         }
         Err(Untaken::Fault(fault)) => Ok(at_fault(so_far, fault)),
         Err(Untaken::NoMemory) => Err(AllocError),
     }
+}
+
+/// The same from a table on at which an execution paused: with what the text of its file gives, where this was printed before. The
+/// fault of a text is that of the table's statement. Where it pauses again, fewer tables are left to be read.
+/// Errors: want of memory.
+pub fn resume(
+    alloc: Global,
+    model: Boxed<LoadedModel>,
+    pause: Pause,
+    printed: String,
+    text: &[u8],
+) -> Result<Executed, AllocError>
+    ensures executed { IfOk result (IsExecuted (spec.resumed model pause (string_bytes printed) text.now)) }
+    ensures left { IfOk result (λ executed. HasFewerLeft (tables_left model pause) executed.end) }
+{
+    behind_table(alloc, model, pause, printed, text)
 }

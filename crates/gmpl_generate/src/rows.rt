@@ -1,6 +1,6 @@
 // The row of a constraint or an objective at an element of its domain.
-ghost use Rattle.std.specs.Prelude.{◌≡◌, IfOk};
-ghost use Rattle.gmpl_value.specs.Outcome.{Gives};
+ghost use Rattle.std.specs.Prelude.{◌≡◌, [], IfOk};
+ghost use Rattle.gmpl_value.specs.Outcome.{Gives, GivesAs};
 ghost use Rattle.gmpl_generate.specs.Rows as spec;
 ghost use Rattle.gmpl_rows.specs.Draft.{with_row};
 
@@ -50,6 +50,20 @@ fn with_row(
     }
 }
 
+// The terms of a form, which is let go.
+fn terms_in(
+    alloc: Global,
+    model: &LoadedModel,
+    context: &mut Context<'_>,
+    form: Form,
+) -> Result<Vec<Term>, EvalFault>
+    requires of { context.old ≡ model.now }
+    ensures of { context.new ≡ model.now }
+    ensures value { GivesAs (λ terms. terms.items) result (spec.terms_of model.now [] form.terms) }
+{
+    terms_of(alloc, model, context, &form)
+}
+
 fn with_form(
     alloc: Global,
     model: &LoadedModel,
@@ -64,7 +78,7 @@ fn with_form(
     ensures value { Gives result (spec.with_form model.now place subscripts.now draft row) }
 {
     let RowForm { form, bounds } = row;
-    let terms = terms_of(alloc, model, context, &form)?;
+    let terms = terms_in(alloc, model, context, form)?;
     let head = row_head(alloc, place, subscripts, bounds)?;
     with_row(alloc, draft, head, terms)
 }

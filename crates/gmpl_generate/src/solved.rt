@@ -19,6 +19,7 @@ use gmpl_resolved::Numbered;
 use gmpl_solution::{Member, Solution, SolvedRow};
 use gmpl_value::EvalFault;
 use instance::{Instance, Point, Row, activity};
+use sqlite_items::Boxed;
 use std::alloc::{AllocError, Global};
 
 /// What the statements behind `solve` come to.
@@ -163,6 +164,21 @@ fn statements_after(
     Ok(solved)
 }
 
+fn all_after_in(
+    alloc: Global,
+    model: &LoadedModel,
+    context: &mut Context<'_>,
+    so_far: &mut Progress,
+) -> Result<bool, Halt<EvalFault>>
+    requires { context.old ≡ model.now }
+    ensures { Runs (spec.all_after model.now (made_of so_far.old)) result (made_of so_far.new) }
+{
+    let statements = model.statements.as_slice();
+    let solved = statements_after(alloc, model, context, statements, so_far)?;
+    let steps = model.steps.as_slice();
+    steps_after(alloc, model, context, steps, solved, so_far)
+}
+
 fn all_after(
     alloc: Global,
     model: &LoadedModel,
@@ -171,10 +187,7 @@ fn all_after(
     ensures { Runs (spec.all_after model.now (made_of so_far.old)) result (made_of so_far.new) }
 {
     let mut context = Context::new(alloc, model);
-    let statements = model.statements.as_slice();
-    let solved = statements_after(alloc, model, &mut context, statements, so_far)?;
-    let steps = model.steps.as_slice();
-    steps_after(alloc, model, &mut context, steps, solved, so_far)
+    all_after_in(alloc, model, &mut context, so_far)
 }
 
 fn behind_solve(alloc: Global, model: &LoadedModel) -> Result<Afterwards, AllocError>
@@ -205,7 +218,7 @@ fn behind_solve(alloc: Global, model: &LoadedModel) -> Result<Afterwards, AllocE
 #[tactic(auto, unfolding(crate::specs::Solved::after_by))]
 pub fn after_solve(
     alloc: Global,
-    model: LoadedModel,
+    model: Boxed<LoadedModel>,
     columns: &[Member],
     rows: &[Member],
     problem: &Instance,
@@ -217,5 +230,5 @@ pub fn after_solve(
         → spec.after_by model d point.now ≡ (made_after after, after.fault)) }
 {
     let solution = solution_by(alloc, columns, rows, problem, point)?;
-    behind_solve(alloc, &with_solution(model, solution))
+    behind_solve(alloc, &with_solution(model.into_inner(), solution))
 }

@@ -1,5 +1,5 @@
 // Steps: what is done where statements stand that declare nothing.
-ghost use Rattle.std.specs.Prelude.{◌≡◌, [], drop};
+ghost use Rattle.std.specs.Prelude.{◌≡◌, ◌+◌, [], drop};
 ghost use Rattle.gmpl_value.specs.Outcome.{Gives};
 ghost use Rattle.gmpl_generate.specs.Running.{Runs, Makes, made_of};
 ghost use Rattle.gmpl_generate.specs.Faults.{of_statement};
@@ -127,6 +127,26 @@ pub(crate) fn steps_before(
         }
     }
     Ok(Reached::End)
+}
+
+/// The same behind the step at a place. Behind the last step there is none.
+#[tactic(auto, using(crate::proofs::Behind::none_behind))]
+pub(crate) fn steps_behind(
+    alloc: Global,
+    model: &LoadedModel,
+    context: &mut Context<'_>,
+    steps: &[NumberedStep],
+    at: usize,
+    so_far: &mut Progress,
+) -> Result<Reached, Halt<EvalFault>>
+    requires of { context.old ≡ model.now }
+    ensures of { context.new ≡ model.now }
+    ensures value { Runs (spec.steps_before model.now (at + 1) (drop (at + 1) steps.now) (made_of so_far.old)) result (made_of so_far.new) }
+{
+    if at >= steps.len() {
+        return Ok(Reached::End);
+    }
+    steps_before(alloc, model, context, steps, at + 1, so_far)
 }
 
 // ---- behind `solve`

@@ -1,12 +1,12 @@
 // The statements in order.
-ghost use Rattle.std.specs.Prelude.{◌≡◌, drop};
+ghost use Rattle.std.specs.Prelude.{◌≡◌, ◌+◌, drop};
 ghost use Rattle.gmpl_generate.specs.Execution as spec;
 ghost use Rattle.gmpl_generate.specs.Running.{Made, Runs, Makes, made_of};
 
 use crate::execution::executed;
 use crate::fault::Halt;
 use crate::progress::Progress;
-use crate::steps::{Reached, steps_before};
+use crate::steps::{Reached, steps_before, steps_behind};
 use gmpl_data::LoadedModel;
 use gmpl_expr::Context;
 use gmpl_resolved::Numbered;
@@ -101,8 +101,27 @@ fn turn_by(
     }
 }
 
-// The steps before the statement at a place from one of them on, then the statement.
+// The steps before the statement at a place, then the statement.
 fn turn(
+    alloc: Global,
+    model: &LoadedModel,
+    context: &mut Context<'_>,
+    place: usize,
+    numbered: &Numbered,
+    draft: Draft,
+    so_far: &mut Progress,
+) -> Result<Going, Halt<EvalFault>>
+    requires of { context.old ≡ model.now }
+    ensures of { context.new ≡ model.now }
+    ensures value { Runs (spec.turn model.now place 0 numbered.now draft (made_of so_far.old)) result (made_of so_far.new) }
+{
+    let steps = numbered.steps.as_slice();
+    let reached = steps_before(alloc, model, context, steps, 0, so_far)?;
+    turn_by(alloc, model, context, place, numbered, draft, reached)
+}
+
+// The same behind one of these steps.
+fn turn_behind(
     alloc: Global,
     model: &LoadedModel,
     context: &mut Context<'_>,
@@ -114,10 +133,10 @@ fn turn(
 ) -> Result<Going, Halt<EvalFault>>
     requires of { context.old ≡ model.now }
     ensures of { context.new ≡ model.now }
-    ensures value { Runs (spec.turn model.now place step numbered.now draft (made_of so_far.old)) result (made_of so_far.new) }
+    ensures value { Runs (spec.turn model.now place (step + 1) numbered.now draft (made_of so_far.old)) result (made_of so_far.new) }
 {
     let steps = numbered.steps.as_slice();
-    let reached = steps_before(alloc, model, context, steps, step, so_far)?;
+    let reached = steps_behind(alloc, model, context, steps, step, so_far)?;
     turn_by(alloc, model, context, place, numbered, draft, reached)
 }
 
@@ -130,8 +149,26 @@ fn ending(place: usize, draft: Draft, reached: Reached) -> Stopped
     }
 }
 
-// The steps behind the last statement, from one of them on.
+// The steps behind the last statement.
 fn last_steps(
+    alloc: Global,
+    model: &LoadedModel,
+    context: &mut Context<'_>,
+    place: usize,
+    draft: Draft,
+    so_far: &mut Progress,
+) -> Result<Stopped, Halt<EvalFault>>
+    requires of { context.old ≡ model.now }
+    ensures of { context.new ≡ model.now }
+    ensures value { Runs (spec.last_steps model.now place 0 model.now.steps draft (made_of so_far.old)) result (made_of so_far.new) }
+{
+    let steps = model.steps.as_slice();
+    let reached = steps_before(alloc, model, context, steps, 0, so_far)?;
+    Ok(ending(place, draft, reached))
+}
+
+// The same behind one of them.
+fn last_steps_behind(
     alloc: Global,
     model: &LoadedModel,
     context: &mut Context<'_>,
@@ -142,10 +179,10 @@ fn last_steps(
 ) -> Result<Stopped, Halt<EvalFault>>
     requires of { context.old ≡ model.now }
     ensures of { context.new ≡ model.now }
-    ensures value { Runs (spec.last_steps model.now place step model.now.steps draft (made_of so_far.old)) result (made_of so_far.new) }
+    ensures value { Runs (spec.last_steps model.now place (step + 1) model.now.steps draft (made_of so_far.old)) result (made_of so_far.new) }
 {
     let steps = model.steps.as_slice();
-    let reached = steps_before(alloc, model, context, steps, step, so_far)?;
+    let reached = steps_behind(alloc, model, context, steps, step, so_far)?;
     Ok(ending(place, draft, reached))
 }
 
@@ -167,16 +204,16 @@ pub(crate) fn executed_from(
     let mut place = from;
     while place < statements.len() {
         let numbered = &statements[place];
-        match turn(alloc, model, context, place, 0, numbered, draft, so_far)? {
+        match turn(alloc, model, context, place, numbered, draft, so_far)? {
             Going::Stopped(stopped) => return Ok(stopped),
             Going::On(more) => draft = more,
         }
         place += 1;
     }
-    last_steps(alloc, model, context, place, 0, draft, so_far)
+    last_steps(alloc, model, context, place, draft, so_far)
 }
 
-/// The same from a step before the statement at a place on.
+/// The same behind a step before the statement at a place.
 pub(crate) fn resumed_from(
     alloc: Global,
     model: &LoadedModel,
@@ -188,14 +225,14 @@ pub(crate) fn resumed_from(
 ) -> Result<Stopped, Halt<EvalFault>>
     requires of { context.old ≡ model.now }
     ensures of { context.new ≡ model.now }
-    ensures value { Runs (spec.resumed_from model.now place step (drop place model.now.statements) model.now.steps draft (made_of so_far.old)) result (made_of so_far.new) }
+    ensures value { Runs (spec.resumed_from model.now place (step + 1) (drop place model.now.statements) model.now.steps draft (made_of so_far.old)) result (made_of so_far.new) }
 {
     let statements = model.statements.as_slice();
     if place >= statements.len() {
-        return last_steps(alloc, model, context, place, step, draft, so_far);
+        return last_steps_behind(alloc, model, context, place, step, draft, so_far);
     }
     let numbered = &statements[place];
-    match turn(alloc, model, context, place, step, numbered, draft, so_far)? {
+    match turn_behind(alloc, model, context, place, step, numbered, draft, so_far)? {
         Going::Stopped(stopped) => Ok(stopped),
         Going::On(draft) => executed_from(alloc, model, context, place + 1, draft, so_far),
     }

@@ -117,10 +117,15 @@ braces indexing = if has indexing.condition || is_indexed indexing.entries then 
 
 -- ---- expressions
 
+-- how many parts a tuple has behind n of them: each is a number or a symbol, and the first that is one too many has a fault
+abbrev pub tuple_parts : ℕ → List Judged → Or_fault ℕ
+tuple_parts n [] = Ok n
+tuple_parts n (x ∷ xs) = and_then (and_then (and_then x as_scalar) (λ _. add_dimensions n 1)) (λ n. tuple_parts n xs)
+
 abbrev pub group : List Judged → Judged
 group [] = Ok Scalar
 group (x ∷ []) = x
-group xs = and_then (all_scalars xs) (λ _. and_then (within_most (length xs)) (λ n. Ok (Tuple n)))
+group xs = and_then (tuple_parts 0 xs) (λ n. Ok (Tuple n))
 
 abbrev pub call : Function → List Judged → Judged
 call f.Card arguments = all_sets arguments

@@ -4,7 +4,7 @@ ghost use Rattle.gmpl_kinds.specs.Kinds as spec;
 
 use crate::demands::{
     add_dimensions, as_branch, as_logic, as_scalar, as_set, gathered, gathered_shape, iterated_by,
-    joined, left_of, or_one, part_of, related, right_of, same_branch, same_dimension, within_most,
+    joined, left_of, or_one, part_of, related, right_of, same_branch, same_dimension,
 };
 use crate::objects::named;
 use crate::shape::{Gathered, Object, Shape, Site};
@@ -106,11 +106,26 @@ fn group(objects: &[Object], site: Site, parts: &[Expr]) -> Result<Shape, Syntax
     match parts {
         [] => Ok(Shape::Scalar),
         [only] => shape_of(objects, site, only),
-        [_, _, ..] => {
-            all_scalars(objects, site, parts)?;
-            Ok(Shape::Tuple(within_most(parts.len())?))
-        }
+        [_, _, ..] => Ok(Shape::Tuple(tuple_parts(objects, site, 0, parts)?)),
     }
+}
+
+// How many parts a tuple has; the first that is one too many has a fault.
+#[cycle(kinds)]
+fn tuple_parts(
+    objects: &[Object],
+    site: Site,
+    before: usize,
+    parts: &[Expr],
+) -> Result<usize, SyntaxFaultKind>
+    ensures { result ≡ spec.tuple_parts before (spec.shapes_of objects.now site parts.now) }
+{
+    let mut count = before;
+    for one in parts {
+        as_scalar(shape_of(objects, site, one)?)?;
+        count = add_dimensions(count, 1)?;
+    }
+    Ok(count)
 }
 
 #[cycle(kinds)]

@@ -1,5 +1,5 @@
 -- What is kept stays right.
-use Rattle.std.proofs.Common.{◌≡◌, Bool, true, false, Option, Some, None, List, [], ◌∷◌, refl, sym, ap, subst, cond, IfSome, ◌&&◌, nat_eq, option_copied, Result, Ok, Err, OnOk, OnErr, Bor}
+use Rattle.std.proofs.Common.{◌≡◌, ℕ, Bool, true, false, Option, Some, None, List, [], ◌∷◌, refl, sym, ap, subst, cond, IfSome, ◌&&◌, nat_eq, option_copied, Result, Ok, Err, OnOk, OnErr, Bor}
 use Rattle.std.specs.Map.{lookup}
 use Rattle.std.specs.List.{AllByRecursion}
 use Rattle.std.proofs.lemmas.Bool.{and_parts, eqb-true}
@@ -14,7 +14,7 @@ use Rattle.gmpl_functions.specs.declared.variable.Variable.{Variable}
 use Rattle.gmpl_functions.specs.Linear.{variable_eq}
 use Rattle.gmpl_meaning.specs.declared.bounds.Bounds.{Bounds}
 use Rattle.gmpl_meaning.specs.declared.asked.Asked.{Asked}
-use Rattle.gmpl_meaning.specs.declared.asked.Asked.TheVariants.{Member, Range}
+use Rattle.gmpl_meaning.specs.declared.asked.Asked.TheVariants.{Member, Range, Entry, Restriction}
 use Rattle.gmpl_meaning.specs.declared.value.KeptValue.{KeptValue}
 use Rattle.gmpl_meaning.specs.Right.{Table, asked_eq, with_value, with_bounds, IsRight, HasBounds, AreRight}
 
@@ -36,6 +36,12 @@ same_tuple (x ∷ s) (y ∷ t) h =
     let rest = same_tuple s t parts.1 in
     λ j. first j ∷ rest j
 
+same_places : (p n h q m k : ℕ) → (nat_eq p q && (nat_eq n m && nat_eq h k)) ≡ true → (p ≡ q) × ((n ≡ m) × (h ≡ k))
+same_places p n h q m k e =
+    let first = and_parts (nat_eq p q) (nat_eq n m && nat_eq h k) e in
+    let others = and_parts (nat_eq n m) (nat_eq h k) first.1 in
+    (eqb-true p q first.0, (eqb-true n m others.0, eqb-true h k others.1))
+
 same_asked : (a b : Asked) → asked_eq a b ≡ true → a ≡ b
 same_asked (Member p h s) (Member q k t) e =
     let first = and_parts (nat_eq p q) (nat_eq h k && tuple_eq s t) e in
@@ -45,7 +51,23 @@ same_asked (Member p h s) (Member q k t) e =
     let subscripts = same_tuple s t others.1 in
     λ j. Member (place j) (height j) (subscripts j)
 same_asked (Member p h s) (Range x y z) e = absurd cc
+same_asked (Member p h s) (Entry q n k) e = absurd cc
+same_asked (Member p h s) (Restriction q n k) e = absurd cc
 same_asked (Range a b c) (Member q k t) e = absurd cc
+same_asked (Range a b c) (Entry q n k) e = absurd cc
+same_asked (Range a b c) (Restriction q n k) e = absurd cc
+same_asked (Entry p n h) (Member q k t) e = absurd cc
+same_asked (Entry p n h) (Range x y z) e = absurd cc
+same_asked (Entry p n h) (Restriction q m k) e = absurd cc
+same_asked (Entry p n h) (Entry q m k) e =
+    let parts = same_places p n h q m k e in
+    λ j. Entry (parts.0 j) (parts.1.0 j) (parts.1.1 j)
+same_asked (Restriction p n h) (Member q k t) e = absurd cc
+same_asked (Restriction p n h) (Range x y z) e = absurd cc
+same_asked (Restriction p n h) (Entry q m k) e = absurd cc
+same_asked (Restriction p n h) (Restriction q m k) e =
+    let parts = same_places p n h q m k e in
+    λ j. Restriction (parts.0 j) (parts.1.0 j) (parts.1.1 j)
 same_asked (Range a b c) (Range x y z) e =
     let first = and_parts (symbol_eq (Number a) (Number x)) (symbol_eq (Number b) (Number y) && symbol_eq (Number c) (Number z)) e in
     let others = and_parts (symbol_eq (Number b) (Number y)) (symbol_eq (Number c) (Number z)) first.1 in

@@ -4,4 +4,5 @@ pub mod Expressions
 pub mod Domains
 pub mod Restrictions
 pub mod Members
+pub mod Written
 pub mod Right

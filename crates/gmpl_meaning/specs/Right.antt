@@ -1,9 +1,12 @@
 -- What is kept of a model is right: it is what the definition gives, evaluated anew.
-use Rattle.std.specs.Prelude.{◌≡◌, Bool, None, Ok, List, [], ◌∷◌}
+use Rattle.std.specs.Prelude.{◌≡◌, ℕ, Bool, Option, Some, None, Ok, Err, List, [], ◌∷◌}
 use Rattle.std.specs.List.{AllByRecursion}
 use Rattle.indexmap.specs.IndexMap.{insert_entry}
 use Rattle.rational.specs.Rational.{one_ℚ, zero_ℚ}
+use Rattle.gmpl_resolved.specs.declared.expression.Expr.{Expr}
 use Rattle.gmpl_data.specs.declared.tables.LoadedModel.{LoadedModel}
+use Rattle.gmpl_data.specs.Given.{statement_at}
+use Rattle.gmpl_value.specs.declared.eval_fault.EvalFault.TheVariants.{NoValue}
 use Rattle.gmpl_value.specs.Outcome.{Outcome}
 use Rattle.gmpl_functions.specs.declared.variable.Variable.{Variable}
 use Rattle.gmpl_functions.specs.Linear.{linear, variable_eq}
@@ -11,7 +14,8 @@ use Rattle.gmpl_operations.specs.declared.value.Value.{Value}
 use Rattle.gmpl_operations.specs.declared.value.Value.TheVariants as values
 use Rattle.gmpl_meaning.specs.declared.bounds.Bounds.{Bounds}
 use Rattle.gmpl_meaning.specs.Members.{bounds_at, member}
-use Rattle.gmpl_meaning.specs.Expressions.{range_by}
+use Rattle.gmpl_meaning.specs.Expressions.{meaning, range_by}
+use Rattle.gmpl_meaning.specs.Written.{entry_set, restriction}
 use Rattle.gmpl_meaning.specs.contracts.asked.AskedPartialEq.TheImpl as impl
 use Rattle.gmpl_meaning.specs.declared.asked.Asked.{Asked}
 use Rattle.gmpl_meaning.specs.declared.asked.Asked.TheVariants as asked
@@ -42,10 +46,17 @@ value_seen (kept.Elements set) = values.Elements set.value
 value_seen (kept.Variable v) = values.Linear (linear ((v, one_ℚ) ∷ []) zero_ℚ)
 value_seen (kept.Other v) = v
 
--- what is asked for, evaluated anew: a member without suffix
+-- what an expression comes to where no index is in scope
+abbrev pub alone : LoadedModel → ℕ → Option Expr → Outcome Value
+alone model height None = Err NoValue
+alone model height (Some x) = (meaning model.statements (member model height) x).value []
+
+-- what is asked for, evaluated anew: a member without suffix, a range, or a set that stands in a declaration
 abbrev pub anew : LoadedModel → Asked → Outcome Value
 anew model (asked.Member place height subscripts) = member model height place None subscripts
 anew model (asked.Range from to by) = range_by from to by
+anew model (asked.Entry place number height) = alone model height (entry_set (statement_at model place) number)
+anew model (asked.Restriction place number height) = alone model height (restriction (statement_at model place) number)
 
 abbrev pub IsRight : LoadedModel → Asked × KeptValue → Type 0
 IsRight model entry = anew model entry.0 ≡ Ok (value_seen entry.1)

@@ -6,9 +6,11 @@ mod bounds;
 mod kept;
 mod value;
 mod walk;
+mod written;
 
 pub use asked::Asked;
 pub use bounds::Bounds;
 pub use kept::Kept;
 pub use value::KeptValue;
 pub use walk::{Element, EntryValue, Walk};
+pub use written::asked_by;

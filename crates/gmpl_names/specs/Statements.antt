@@ -174,8 +174,13 @@ module _ (objects : List Name) where
     fields ← output_columns t.columns
     pure (ract.TableOutput (record { file = target; domain = over; columns = fields }))
 
+  -- the domain stands before the driver and the file, so its faults come first
+  unfoldable pub domain_alone : Indexing → Pass (Unit {0})
+  domain_alone x = (λ over. tt) <$> within (indexing objects x)
+
   unfoldable pub table_output : TableOutput → Pass ResolvedAction
   table_output t = do
+    domain_alone t.domain
     driver t.driver
     target ← expr objects t.file
     records target t

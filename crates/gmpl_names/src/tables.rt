@@ -6,7 +6,9 @@ ghost use Rattle.gmpl_names.specs.Statements as spec;
 use crate::parts::boxed_expr;
 use crate::{Names, NamesError, resolve_expr, resolve_indexing, room_for};
 use gmpl_resolved as resolved;
-use gmpl_syntax::{Expr, InputColumn, OutputColumn, SyntaxFaultKind, TableInput, TableOutput};
+use gmpl_syntax::{
+    Expr, Indexing, InputColumn, OutputColumn, SyntaxFaultKind, TableInput, TableOutput,
+};
 use gmpl_text::Text;
 use sqlite_items::{Boxed, Items};
 use std::alloc::{AllocError, Global};
@@ -195,6 +197,22 @@ fn records(
     }))
 }
 
+// The domain stands before the driver and the file, so its faults come first. Its indices are in scope in the columns alone.
+#[tactic(auto, unfolding(crate::specs::Statements::domain_alone))]
+fn domain_alone(
+    alloc: Global,
+    objects: &Names,
+    scope: &mut Names,
+    whole: &Indexing,
+) -> Result<(), NamesError>
+    ensures { Follows (spec.domain_alone objects.now whole.now scope.old) result scope.new }
+{
+    let before = scope.len();
+    resolve_indexing(alloc, objects, scope, whole)?;
+    scope.truncate(before);
+    Ok(())
+}
+
 /// A table that is written.
 #[tactic(auto, unfolding(crate::specs::Statements::table_output))]
 pub(crate) fn table_output(
@@ -205,6 +223,7 @@ pub(crate) fn table_output(
 ) -> Result<resolved::Action, NamesError>
     ensures { Follows (spec.table_output objects.now whole.now scope.old) result scope.new }
 {
+    domain_alone(alloc, objects, scope, &whole.domain)?;
     driver(scope, &whole.driver)?;
     let file = boxed_expr(alloc, objects, scope, &whole.file)?;
     records(alloc, objects, scope, file, whole)

@@ -11,7 +11,7 @@ use Rattle.gmpl_value.specs.Outcome.{Outcome, then_do}
 use Rattle.gmpl_functions.specs.Numbers.{greater_of, lesser_of}
 use Rattle.gmpl_operations.specs.declared.value.Value.{Value}
 use Rattle.gmpl_operations.specs.declared.value.Value.TheVariants.{Truth, Elements}
-use Rattle.gmpl_operations.specs.Values.{number_in, set_in, tuple_in, of_number, as_elements}
+use Rattle.gmpl_operations.specs.Values.{number_in, set_in, tuple_in, of_number, as_number, as_elements}
 use Rattle.gmpl_operations.specs.Operators.{taken, decides, applied}
 
 -- a set with one more element
@@ -24,10 +24,17 @@ greater_value total v = then_do (λ p. then_do (λ q. Ok (of_number (greater_of 
 abbrev pub lesser_value : Value → Value → Outcome Value
 lesser_value total v = then_do (λ p. then_do (λ q. Ok (of_number (lesser_of p q))) (number_in v)) (number_in total)
 
+-- a factor of `prod` is a number: a variable may not stand there
+abbrev pub factor : Value → Outcome Value
+factor v = as_number (number_in v)
+
+abbrev pub multiplied : Value → Value → Outcome Value
+multiplied total v = then_do (λ f. applied o.Times total f) (factor v)
+
 -- the first value: as the operator that it stands for takes it
 abbrev pub first : Iteration → Value → Outcome Value
 first i.Sum v = taken o.Plus v
-first i.Prod v = taken o.Times v
+first i.Prod v = factor v
 first i.Min v = taken o.Less v
 first i.Max v = taken o.Less v
 first i.Setof v = with_tuple (Elements []) v
@@ -37,7 +44,7 @@ first i.Exists v = taken o.Or v
 -- one value more
 abbrev pub next : Iteration → Value → Value → Outcome Value
 next i.Sum total v = applied o.Plus total v
-next i.Prod total v = applied o.Times total v
+next i.Prod total v = multiplied total v
 next i.Min total v = lesser_value total v
 next i.Max total v = greater_value total v
 next i.Setof total v = with_tuple total v

@@ -38,12 +38,26 @@ fn lesser_value(total: &Value, value: &Value) -> Result<Value, EvalFault>
     Ok(Value::number(lesser(total, number)))
 }
 
+// A factor of `prod` is a number: a variable may not stand there.
+fn factor(value: &Value) -> Result<Value, EvalFault>
+    ensures { result ≡ spec.factor value.now }
+{
+    Ok(Value::number(value.as_number()?))
+}
+
+fn multiplied(alloc: Global, total: Value, value: &Value) -> Result<Value, EvalFault>
+    ensures { Gives result (spec.multiplied total value.now) }
+{
+    let factor = factor(value)?;
+    applied(alloc, Operator::Times, total, factor)
+}
+
 fn first(alloc: Global, iteration: Iteration, value: Value) -> Result<Value, EvalFault>
     ensures { Gives result (spec.first iteration value) }
 {
     match iteration {
         Iteration::Sum => taken(Operator::Plus, value),
-        Iteration::Prod => taken(Operator::Times, value),
+        Iteration::Prod => factor(&value),
         Iteration::Min | Iteration::Max => taken(Operator::Less, value),
         Iteration::Setof => with_tuple(alloc, Value::Elements(SetValue::new(alloc)), value),
         Iteration::Forall => taken(Operator::And, value),
@@ -56,7 +70,7 @@ fn next(alloc: Global, iteration: Iteration, total: Value, value: Value) -> Resu
 {
     match iteration {
         Iteration::Sum => applied(alloc, Operator::Plus, total, value),
-        Iteration::Prod => applied(alloc, Operator::Times, total, value),
+        Iteration::Prod => multiplied(alloc, total, &value),
         Iteration::Min => lesser_value(&total, &value),
         Iteration::Max => greater_value(&total, &value),
         Iteration::Setof => with_tuple(alloc, total, value),

@@ -1,5 +1,5 @@
 -- What the execution of a model says of the text that it is read from.
-use Rattle.std.proofs.Common.{◌≡◌, ◌∙◌, ℕ, List, [], ◌∷◌, ◌++◌, Option, Some, Result, Ok, Err, string_bytes, refl, sym, ap}
+use Rattle.std.proofs.Common.{◌≡◌, ◌∙◌, ◌<◌, ℕ, List, [], ◌∷◌, ◌++◌, Option, Some, Result, Ok, Err, string_bytes, refl, sym, ap, subst}
 use Rattle.std.specs.Prelude.{IfOk}
 use Rattle.std.proofs.lemmas.List.{append_assoc}
 use Rattle.rational.specs.Rational.{Rational}
@@ -10,7 +10,8 @@ use Rattle.gmpl_solution.specs.declared.member.Member.{Member}
 use Rattle.gmpl_data.specs.declared.tables.LoadedModel.{LoadedModel}
 use Rattle.gmpl_rows.specs.Draft.{Draft}
 use Rattle.gmpl_rows.specs.Problem.{column_members, problem_of, row_members}
-use Rattle.gmpl_generate.specs.Problem.{Execution, Executing, IsEnd, behind_files, execution, made_behind, next, next_by, resumed, with_texts}
+use Rattle.gmpl_generate.specs.Problem.{Execution, Executing, HasFewerLeft as has_fewer_left, IsEnd, behind_files, execution, made_behind, next, next_by, resumed, with_texts}
+use Rattle.gmpl_generate.proofs.TablesLeft.{fewer}
 use Rattle.gmpl_generate.specs.Running.{File, Made, files_of, state_of}
 use Rattle.gmpl_generate.specs.Solved.{after_by, made_after}
 use Rattle.gmpl_generate.specs.declared.fault.ModelFault.{ModelFault}
@@ -21,7 +22,7 @@ use Rattle.gmpl_generate.specs.declared.solved.Afterwards.{Afterwards}
 use Rattle.gmpl_generate.specs.declared.turns.Pause.{Pause}
 use Rattle.gmpl_generate.specs.declared.turns.Stopped.{Stopped}
 use Rattle.gmpl_generate.specs.declared.turns.Stopped.TheVariants as stopped
-use Rattle.gmpl_reader.specs.MathProg.{Declares, Fails, IsNotLoaded, IsPending, IsReading, IsReadingEnd, IsReadingOf, IsRest, IsSameEnd, IsUnreadable, after_execution, afterwards, ending, ending_by, executing, executing_model, loaded_model, made_by, making}
+use Rattle.gmpl_reader.specs.MathProg.{Declares, Fails, HasFewerLeft, IsNotLoaded, IsPending, IsReading, IsReadingEnd, IsReadingOf, IsRest, IsSameEnd, IsUnreadable, after_execution, afterwards, ending, ending_by, executing, executing_model, loaded_model, made_by, making, tables_left}
 use Rattle.gmpl_reader.specs.declared.fault.MathProgFault.{MathProgFault}
 use Rattle.gmpl_reader.specs.declared.fault.MathProgFault.TheVariants.{Model}
 use Rattle.gmpl_reader.specs.declared.read.Pending.{Pending}
@@ -242,6 +243,18 @@ reads_on pending printed table_text r h text files tables before making_is is = 
 
         made_so : behind_files is.made.files (resumed pending.model pending.pause is.made.printed table_text) ≡ behind_files before (resumed pending.model pending.pause printed table_text)
         made_so = ap (λ (a : Made). behind_files a.files (resumed pending.model pending.pause a.printed table_text)) made
+
+-- ---- the tables that are left
+
+pub fewer_left : (pending : Pending) (printed table_text : List ℕ) (r : Reading) → IsReadingOf (resumed pending.model pending.pause printed table_text) r → HasFewerLeft (tables_left pending) r.end
+fewer_left pending printed table_text r h = by h.execution r.end (fewer pending.model pending.pause printed table_text h.execution h.is) h.end
+  where
+    by : (x : End) (y : ReadingEnd) → has_fewer_left (tables_left pending) x → IsSameEnd x y → HasFewerLeft (tables_left pending) y
+    by x (ends.Problem problem rest) left same = tt
+    by x (ends.Fault fault) left same = tt
+    by (end.Table model p) (ends.Table other) left same = subst (λ (q : Pending). tables_left q < tables_left pending) (sym same) left
+    by (end.Problem model g) (ends.Table other) left same = absurd same
+    by (end.Fault fault) (ends.Table other) left same = absurd same
 
 -- ---- behind `solve`
 

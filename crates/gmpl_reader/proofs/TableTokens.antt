@@ -1,5 +1,6 @@
 -- Tables leave names as they are.
-use Rattle.std.proofs.Common.{ℕ, Bool, ◌&&◌, not, List, [], ◌∷◌, Option, Some}
+use Rattle.std.proofs.Common.{ℕ, zero, suc, Bool, ◌&&◌, not, List, [], ◌∷◌, length, Option, Some, codes}
+use Rattle.std.specs.Str.{bytes_eq}
 use Rattle.gmpl_token.specs.declared.kind.TokenKind.{TokenKind}
 use Rattle.gmpl_token.specs.declared.kind.TokenKind.TheVariants as k
 use Rattle.gmpl_syntax.specs.declared.expression.Expr.{out-Expr}
@@ -9,8 +10,8 @@ use Rattle.gmpl_words.specs.Statements.{is_input, is_output}
 use Rattle.gmpl_expressions.specs.Trees.{is_name}
 use Rattle.gmpl_expressions.specs.Grammar.{expression, indexing_expression}
 use Rattle.gmpl_statements.specs.Parts.{name_by, name, titled_name}
-use Rattle.gmpl_statements.specs.Tables.{driver_by, driver, driver_and_file, optional_field, set_by, optional_set, keys, input_column, table_input, input_word_by, input_word, output_word_by, output_word, output_field, output_column, output_columns, table_output}
-use Rattle.gmpl_reader.proofs.KeptTokens.{Keeps, then_left, made_left, next_kept, after_kept, either_rule, expect_keeps, optional_keeps, further_keeps}
+use Rattle.gmpl_statements.specs.Tables.{driver_by, driver, argument, arguments_from, behind_file, driver_and_file, optional_field, set_by, optional_set, keys, input_column, table_input, input_word_by, input_word, output_word_by, output_word, output_field, output_column, output_columns, table_output}
+use Rattle.gmpl_reader.proofs.KeptTokens.{Keeps, then_left, made_left, next_kept, after_kept, either_rule, either_left, expect_keeps, optional_keeps, further_keeps}
 use Rattle.gmpl_reader.proofs.ExpressionTokens.{string_keeps, expression_keeps, indexing_expression_keeps}
 
 -- ---- names
@@ -37,12 +38,29 @@ driver_keeps : Keeps driver
 unfolding driver
 driver_keeps i h = driver_by_keeps (kind i) i h
 
+argument_keeps : (depth : ℕ) → Keeps (argument depth)
+unfolding argument
+argument_keeps depth i h =
+    then_left (expression depth (after k.Comma i)) _ (expression_keeps depth (after k.Comma i) (after_kept k.Comma i h)) (λ _ _ left. left)
+
+arguments_from_keeps : (depth n : ℕ) → Keeps (arguments_from depth n)
+unfolding arguments_from
+arguments_from_keeps depth zero i h = h
+arguments_from_keeps depth (suc n) i h =
+    either_left (sees k.Colon i) _ _ h
+    (then_left (argument depth i) _ (argument_keeps depth i h) (λ _ j left. arguments_from_keeps depth n j left))
+
+behind_file_keeps : (depth : ℕ) (said : List ℕ) → Keeps (behind_file depth said)
+unfolding behind_file
+behind_file_keeps depth said i h = either_rule (bytes_eq said (codes "CSV")) _ _ i h (arguments_from_keeps depth (length i.rest) i h)
+
 driver_and_file_keeps : (depth : ℕ) → Keeps (driver_and_file depth)
 unfolding driver_and_file
 driver_and_file_keeps depth i h =
     then_left (driver i) _ (driver_keeps i h)
-    (λ _ j kept. then_left (expression depth j) _ (expression_keeps depth j kept)
-    (λ _ n left. then_left (expect k.Colon n) _ (expect_keeps k.Colon n left) (λ _ _ end. end)))
+    (λ said j kept. then_left (expression depth j) _ (expression_keeps depth j kept)
+    (λ _ n left. then_left (behind_file depth said n) _ (behind_file_keeps depth said n left)
+    (λ _ m more. then_left (expect k.Colon m) _ (expect_keeps k.Colon m more) (λ _ _ end. end))))
 
 -- ---- columns
 

@@ -1,5 +1,5 @@
 -- What data files, or the data section behind a model, give to its objects (GNU MathProg Language Reference, chapter on model data).
-use Rattle.std.specs.Prelude.{◌≡◌, ℕ, ◌+◌, Bool, true, false, if◌then◌else◌, List, [], ◌∷◌, ◌++◌, map, Option, Some, None, Result, Err}
+use Rattle.std.specs.Prelude.{◌≡◌, ℕ, ◌+◌, Bool, true, false, if◌then◌else◌, List, [], ◌∷◌, map, Option, Some, None, Result, Err}
 use Rattle.model_text.specs.declared.error.ReadError.{ReadError}
 use Rattle.model_text.specs.declared.error.ReadError.TheVariants.{Fault, NoMemory}
 use Rattle.gmpl_resolved.specs.declared.statement.Attribute.{Attribute}
@@ -53,9 +53,6 @@ abbrev pub data_objects : List Numbered → List Object → List DataObject
 data_objects [] os = []
 data_objects (x ∷ xs) [] = []
 data_objects (x ∷ xs) (o ∷ os) = data_object x o ∷ data_objects xs os
-
-abbrev pub with_name : List (List ℕ) → List ℕ → List (List ℕ)
-with_name names name = names ++ name ∷ []
 
 -- ---- the texts of the data
 

@@ -1,6 +1,6 @@
 -- What a MathProg text with files of data and of tables comes to (GNU MathProg Language Reference): its tokens, its statements with
 -- their names and kinds, what the data give, and their execution; or the first fault of these, in this order.
-use Rattle.std.specs.Prelude.{◌≡◌, ℕ, List, ◌++◌, string_bytes, Option, Some, None, Result, Ok, Err}
+use Rattle.std.specs.Prelude.{◌≡◌, ◌<◌, ℕ, List, ◌++◌, string_bytes, Option, Some, None, Result, Ok, Err}
 use Rattle.rational.specs.Rational.{Rational}
 use Rattle.milp.specs.Problem.{Problem}
 use Rattle.model_text.specs.declared.error.ReadError.{ReadError}
@@ -18,6 +18,7 @@ use Rattle.gmpl_generate.specs.declared.problem.End.{End}
 use Rattle.gmpl_generate.specs.declared.problem.End.TheVariants as end
 use Rattle.gmpl_generate.specs.declared.turns.Stopped.{Stopped}
 use Rattle.gmpl_generate.specs.declared.turns.Stopped.TheVariants as stopped
+use Rattle.gmpl_generate.specs.InputTables.{tables_left as left_to_read}
 use Rattle.gmpl_generate.specs.Problem.{Executing, IsEnd, execution, with_texts}
 use Rattle.gmpl_generate.specs.Running.{File, Made, files_of, result_of, state_of}
 use Rattle.gmpl_generate.specs.Solved.{after_by}
@@ -130,6 +131,16 @@ abbrev pub IsReadingEnd : List ℕ → List (List ℕ) → List (List ℕ) → R
 IsReadingEnd text data_files tables (ends.Problem problem rest) = (ending text data_files tables ≡ Declares problem) × IsRest text data_files tables rest
 IsReadingEnd text data_files tables (ends.Table pending) = (ending text data_files tables ≡ Wants pending.pause.name) × IsPending text data_files tables pending
 IsReadingEnd text data_files tables (ends.Fault fault) = ending text data_files tables ≡ Fails (Model fault)
+
+-- how many `table IN` statements stand behind the table whose file is to be read
+abbrev pub tables_left : Pending → ℕ
+tables_left pending = left_to_read pending.model pending.pause
+
+-- where it is to go on behind a table again, fewer are left to be read
+abbrev pub HasFewerLeft : ℕ → ReadingEnd → Type 0
+HasFewerLeft count (ends.Table pending) = tables_left pending < count
+HasFewerLeft count (ends.Problem problem rest) = Unit {0}
+HasFewerLeft count (ends.Fault fault) = Unit {0}
 
 -- the end of a reading is that of an execution
 abbrev pub IsSameEnd : End → ReadingEnd → Type 0

@@ -1,6 +1,8 @@
 // What data give to the objects of a model.
-ghost use Rattle.std.specs.Prelude.{◌≡◌, map, IfOk, IfErr, Ok};
+ghost use Rattle.std.specs.Prelude.{◌≡◌, ◌+◌, map, IfOk, IfErr, Ok};
+ghost use Rattle.gmpl_lexer.specs.DataTokens.{data_tokens};
 ghost use Rattle.gmpl_reader.specs.Names.{object_name, names_of};
+ghost use Rattle.gmpl_rows.specs.Premises.{AreDifferent};
 ghost use Rattle.gmpl_reader.specs.Data as spec;
 ghost use Rattle.gmpl_reader.specs.Data.{IsNoData};
 
@@ -100,30 +102,31 @@ fn name_of(numbered: &Numbered) -> &str
     }
 }
 
-// Names of which two are the same, which no model has, count as want of memory.
-fn with_name<'a>(names: &mut Names<'a>, name: &'a str) -> Result<(), AllocError>
-    ensures { IfOk result (λ done. names.new ≡ spec.with_name names.old name.now) }
-{
-    match names.place(name) {
-        Some(_) => Err(AllocError),
-        None => names.push(name),
-    }
-}
-
 fn names_of(alloc: Global, statements: &[Numbered]) -> Result<Names<'_>, AllocError>
+    requires { AreDifferent (names_of statements.now) }
     ensures { IfOk result (λ names. names ≡ names_of statements.now) }
 {
     let mut names = Names::new(alloc);
     for numbered in statements {
-        with_name(&mut names, name_of(numbered))?;
+        names.push(name_of(numbered))?;
     }
     Ok(names)
 }
 
 // ---- the texts of the data
 
-// The data of a model's own section, which begins behind this place of its text. A place that has none behind it, which no text
-// reaches, counts as want of memory.
+// The data behind a place of a text. Behind its end there are none.
+#[tactic(auto, using(crate::proofs::Given::past_end))]
+fn tokens_behind(alloc: Global, text: &[u8], at: usize) -> Result<Tokens<'_>, AllocError>
+    ensures { IfOk result (λ tokens. tokens ≡ data_tokens (at + 1) text.now) }
+{
+    if at >= text.len() {
+        return Ok(Tokens::from_vec(Vec::new(alloc), None));
+    }
+    read_data_tokens(alloc, text, at + 1)
+}
+
+// The data of a model's own section, which begins behind this place of its text.
 fn section_tokens(
     alloc: Global,
     text: &[u8],
@@ -133,8 +136,7 @@ fn section_tokens(
 {
     let mut texts = Vec::new(alloc);
     if let Some(at) = section {
-        let start = at.checked_add(1).ok_or(AllocError)?;
-        texts.push(read_data_tokens(alloc, text, start)?)?;
+        texts.push(tokens_behind(alloc, text, at)?)?;
     }
     Ok(texts)
 }
@@ -173,6 +175,7 @@ fn given_by(
     model: &Model,
     texts: &[Tokens<'_>],
 ) -> Result<DataTables, ReadError<MathProgFault>>
+    requires { AreDifferent (names_of model.now.statements) }
     ensures tables { IfOk result (λ given. spec.given_by model.now texts.now ≡ Ok given.objects) }
     ensures fault { IfErr result (IsNoData (spec.given_by model.now texts.now)) }
 {
@@ -186,14 +189,15 @@ fn given_by(
     }
 }
 
-/// What the data give to the objects of a model: the data files in order, or the section behind the model where there are no files.
-/// A place of a text that has no place behind it, which no text reaches, counts as want of memory.
+/// What the data give to the objects of a model, of which no two have the same name: the data files in order, or the section behind
+/// the model where there are no files.
 pub(crate) fn given(
     alloc: Global,
     text: &[u8],
     data_texts: &[Vec<u8>],
     model: &Model,
 ) -> Result<DataTables, ReadError<MathProgFault>>
+    requires { AreDifferent (names_of model.now.statements) }
     ensures tables { IfOk result (λ given. spec.given text.now (map (λ file. file.items) data_texts.now) model.now ≡ Ok given.objects) }
     ensures fault { IfErr result (IsNoData (spec.given text.now (map (λ file. file.items) data_texts.now) model.now)) }
 {

@@ -4,7 +4,7 @@ ghost use Rattle.milp.specs.Problem.{Problem};
 ghost use Rattle.gmpl_load.specs.Tables.{Tables};
 ghost use Rattle.gmpl_reader.specs.Data as spec_data;
 ghost use Rattle.gmpl_reader.specs.MathProg as spec;
-ghost use Rattle.gmpl_reader.specs.MathProg.{Declares, IsNoModel, IsNotLoaded, IsPending, IsReading, IsRest, IsUnreadable, afterwards, ending, loaded, making};
+ghost use Rattle.gmpl_reader.specs.MathProg.{Declares, IsNoModel, IsNotLoaded, IsPending, HasFewerLeft, IsReading, IsRest, IsUnreadable, afterwards, ending, loaded, making, tables_left};
 ghost use Rattle.gmpl_rows.specs.Premises.{AreObjects};
 ghost use Rattle.gmpl_generate.specs.Problem.{Executing, all_declared, execution, IsExecuted};
 ghost use Rattle.gmpl_generate.specs.Running.{File};
@@ -12,7 +12,6 @@ ghost use Rattle.gmpl_generate.specs.Solved.{RowsFit, made_after};
 
 use crate::data::given;
 use crate::fault::MathProgFault;
-use crate::objects_have_names;
 use gmpl_data::{DataTables, LoadedModel};
 use gmpl_generate::{
     Afterwards, End, Executed, Generated, ModelFault, Pause, TableFile, generate, resume,
@@ -48,7 +47,7 @@ pub enum ReadingEnd {
 /// from.
 #[derive(Drop)]
 pub struct Rest {
-    pub model: LoadedModel,
+    pub model: Boxed<LoadedModel>,
     pub columns: Vec<Member>,
     pub rows: Vec<Member>,
 }
@@ -56,7 +55,7 @@ pub struct Rest {
 /// An execution that is to go on behind a table, whose file has the name of the pause.
 #[derive(Drop)]
 pub struct Pending {
-    pub model: LoadedModel,
+    pub model: Boxed<LoadedModel>,
     pub pause: Pause,
 }
 
@@ -79,7 +78,8 @@ pub fn read_math_prog(
     }
 }
 
-/// What the text comes to with the text of one more table's file, at which its execution paused, having printed this.
+/// What the text comes to with the text of one more table's file, at which its execution paused, having printed this. Where it
+/// pauses again, fewer tables are left to be read.
 /// Errors: want of memory.
 pub fn read_on(
     alloc: Global,
@@ -87,9 +87,10 @@ pub fn read_on(
     printed: String,
     table_text: &[u8],
 ) -> Result<Reading, AllocError>
-    ensures { IfOk result (λ r. (text : List ℕ) (data_texts tables : List (List ℕ)) (before : List File)
+    ensures reading { IfOk result (λ r. (text : List ℕ) (data_texts tables : List (List ℕ)) (before : List File)
         → making text data_texts tables ≡ Some (record { printed = string_bytes printed; files = before })
         → IsPending text data_texts tables pending → IsReading before text data_texts (tables ++ table_text.now ∷ []) r) }
+    ensures left { IfOk result (λ r. HasFewerLeft (tables_left pending) r.end) }
 {
     let Pending { model, pause } = pending;
     let executed = resume(alloc, model, pause, printed, table_text)?;
@@ -103,7 +104,6 @@ fn model_in(alloc: Global, text: &[u8]) -> Result<Model, ReadError<MathProgFault
     ensures objects { IfOk result (λ model. (tables : Tables) → AreObjects (all_declared (loaded model tables))) }
     ensures fault { IfErr result (IsNoModel (spec.model_in text.now)) }
 {
-    objects_have_names();
     let tokens = read_tokens(alloc, text)?;
     match parse(alloc, tokens) {
         Ok(model) => Ok(model),
@@ -167,6 +167,7 @@ fn executed(alloc: Global, model: LoadedModel) -> Result<Reading, AllocError>
     requires { AreObjects (all_declared model) }
     ensures { IfOk result (spec.IsReadingOf (execution model)) }
 {
+    let model = Boxed::new(alloc, model)?;
     let executed = generate(alloc, model)?;
     let reading = reading_of(alloc, executed)?;
     Ok(reading)
@@ -197,7 +198,7 @@ fn reading_end(alloc: Global, end: End) -> Result<ReadingEnd, AllocError>
                 problem,
                 columns,
                 rows,
-            } = made;
+            } = made.into_inner();
             let rest = Rest {
                 model,
                 columns,

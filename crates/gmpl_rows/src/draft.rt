@@ -1,6 +1,6 @@
 // The rows so far.
-ghost use Rattle.std.specs.Prelude.{◌≡◌, ◌≤◌, length, map, IfOk};
-ghost use Rattle.gmpl_rows.specs.Draft.{no_rows, with_row, with_objective, row_member};
+ghost use Rattle.std.specs.Prelude.{◌≡◌, ◌<◌, ◌≤◌, false, length, map, IfOk};
+ghost use Rattle.gmpl_rows.specs.Draft.{is_row, no_rows, row_member, with_new_row, with_objective, with_row};
 ghost use Rattle.gmpl_rows.specs.Premises.{AreDeclared, AreDifferent, AreObjects};
 ghost use Rattle.gmpl_rows.specs.Demanded.{cell_count, used_count};
 ghost use Rattle.gmpl_rows.specs.Follows.{Follows};
@@ -16,6 +16,7 @@ use gmpl_value::Tuple;
 use indexmap::IndexSet;
 use instance::{MAX_COLUMNS, MAX_ENTRIES, MAX_ROWS};
 use milp::Direction;
+use sqlite_items::Boxed;
 use std::alloc::{AllocError, Global};
 use std::marker::Model;
 
@@ -48,13 +49,19 @@ pub struct ObjectiveRow {
     pub constant: Frac,
 }
 
-/// What the statements have made so far.
+// All rows so far, and the members of variables that they demand.
 #[derive(Drop)]
-pub struct Draft {
+pub(crate) struct Rows {
     objects: Vec<Declared>,
     rows: Vec<RowHead>,
     members: IndexSet<Member>,
     variables: Variables,
+}
+
+/// What the statements have made so far.
+#[derive(Drop)]
+pub struct Draft {
+    so_far: Boxed<Rows>,
     objective: Option<ObjectiveRow>,
 }
 
@@ -66,9 +73,9 @@ impl Model for Draft {
 
     ghost Value = { DraftOf };
 
-    ghost view = { λ d. record { objects = d.objects.items; rows = d.rows.items; variables = d.variables; objective = d.objective } };
+    ghost view = { λ d. record { objects = d.so_far.objects.items; rows = d.so_far.rows.items; variables = d.so_far.variables; objective = d.objective } };
 
-    ghost invariant = { λ d. record { few : length d.rows.items ≤ 100000; members : keys d.members ≡ map row_member d.rows.items; differ : AreDifferent (map row_member d.rows.items); objects : AreObjects d.objects.items; declared : AreDeclared d.objects.items d.rows.items } };
+    ghost invariant = { λ d. record { few : length d.so_far.rows.items ≤ 100000; members : keys d.so_far.members ≡ map row_member d.so_far.rows.items; differ : AreDifferent (map row_member d.so_far.rows.items); objects : AreObjects d.so_far.objects.items; declared : AreDeclared d.so_far.objects.items d.so_far.rows.items } };
 }
 
 impl Draft {
@@ -78,11 +85,17 @@ impl Draft {
         ensures { IfOk result (λ made. made ≡ no_rows objects.items) }
     {
         let variables = Variables::new(alloc, objects.len())?;
+        let so_far = Boxed::new(
+            alloc,
+            Rows {
+                objects,
+                rows: Vec::new(alloc),
+                members: IndexSet::new(alloc),
+                variables,
+            },
+        )?;
         Ok(Draft {
-            objects,
-            rows: Vec::new(alloc),
-            members: IndexSet::new(alloc),
-            variables,
+            so_far,
             objective: None,
         })
     }
@@ -93,64 +106,68 @@ impl Draft {
     pub fn row(self, alloc: Global, head: RowHead, terms: Vec<Term>) -> Result<Self, DraftFault>
         ensures { Follows result (with_row head terms.items self) }
     {
-        let Draft {
+        let member = head.member(alloc)?;
+        if head.statement >= self.objects().len() || self.so_far.get().members.contains(&member) {
+            return Ok(self);
+        }
+        self.new_row(alloc, head, member, terms)
+    }
+
+    // One more row, of a member that is none, whose statement is there.
+    fn new_row(
+        self,
+        alloc: Global,
+        head: RowHead,
+        member: Member,
+        terms: Vec<Term>,
+    ) -> Result<Self, DraftFault>
+        requires member { member ≡ row_member head }
+        requires new { is_row member self.rows ≡ false }
+        requires there { head.statement < length self.objects }
+        ensures { Follows result (with_new_row head terms.items self) }
+    {
+        let Draft { so_far, objective } = self;
+        let place = so_far.get().rows.len();
+        if place >= MAX_ROWS {
+            return Err(DraftFault::TooMany);
+        }
+        let Rows {
             objects,
             mut rows,
             mut members,
             variables,
-            objective,
-        } = self;
-        let member = head.member(alloc)?;
-        if head.statement >= objects.len() || members.contains(&member) {
-            return Ok(Draft {
-                objects,
-                rows,
-                members,
-                variables,
-                objective,
-            });
-        }
-        let place = rows.len();
-        if place >= MAX_ROWS {
-            return Err(DraftFault::TooMany);
-        }
+        } = so_far.into_inner();
         let variables = variables.note_all(alloc, place as u32, terms)?;
         rows.reserve(1)?;
         members.insert(member)?;
         rows.push_reserved(head);
-        Ok(Draft {
-            objects,
-            rows,
-            members,
-            variables,
-            objective,
-        })
+        let so_far = Boxed::new(
+            alloc,
+            Rows {
+                objects,
+                rows,
+                members,
+                variables,
+            },
+        )?;
+        Ok(Draft { so_far, objective })
     }
 
     /// The last row is the objective's, where no row before it is. The constant is that of its form.
     pub fn objective(self, direction: Direction, constant: Frac) -> Self
         ensures { result ≡ with_objective direction constant self }
     {
-        let Draft {
-            objects,
-            rows,
-            members,
-            variables,
-            objective,
-        } = self;
+        let Draft { so_far, objective } = self;
         let objective = match objective {
             Some(first) => first,
             None => ObjectiveRow {
-                row: (rows.len() as u32).saturating_sub(1),
+                row: (so_far.get().rows.len() as u32).saturating_sub(1),
                 direction,
                 constant,
             },
         };
         Draft {
-            objects,
-            rows,
-            members,
-            variables,
+            so_far,
             objective: Some(objective),
         }
     }
@@ -160,7 +177,7 @@ impl Draft {
         ensures value { result.now ≡ self.now.objects }
         ensures differ { AreObjects self.now.objects }
     {
-        &self.objects
+        &self.so_far.get().objects
     }
 
     pub(crate) fn rows(&self) -> &[RowHead]
@@ -169,7 +186,7 @@ impl Draft {
         ensures members { AreDifferent (map row_member self.now.rows) }
         ensures declared { AreDeclared self.now.objects self.now.rows }
     {
-        &self.rows
+        &self.so_far.get().rows
     }
 
     pub(crate) fn objective_row(&self) -> Option<ObjectiveRow>
@@ -183,6 +200,6 @@ impl Draft {
         ensures entries { cell_count self.now.variables ≤ MAX_ENTRIES }
         ensures columns { used_count self.now.variables ≤ MAX_COLUMNS }
     {
-        self.variables.demanded()
+        self.so_far.get().variables.demanded()
     }
 }

@@ -246,7 +246,7 @@ module _ (objects : List Object) where
   values site xs = each (map (λ column. scalar_at site column.value) xs)
 
   unfoldable pub table_output : Site → TableOutput → Or_fault (Unit {0})
-  table_output site t = and_then (scalar_at site t.file) (λ _. and_then (indexing_dimension (indexing_parts objects site t.domain)) (λ _. values site t.columns))
+  table_output site t = and_then (indexing_dimension (indexing_parts objects site t.domain)) (λ _. and_then (scalar_at site t.file) (λ _. values site t.columns))
 
   abbrev pub heads : Site → List Indexing → Or_fault (Unit {0})
   heads site xs = each (map (λ x. indexing_dimension (indexing_parts objects site x)) xs)

@@ -27,8 +27,8 @@ pub(crate) fn table_output(
 ) -> Result<(), SyntaxFaultKind>
     ensures { result ≡ spec.table_output objects.now site whole.now }
 {
-    scalar_at(objects, site, &whole.file)?;
     indexing_dimension(objects, site, &whole.domain)?;
+    scalar_at(objects, site, &whole.file)?;
     values(objects, site, whole.columns.as_slice())
 }
 

@@ -1,5 +1,6 @@
 -- Table statements, behind their names (GNU MathProg Language Reference, section on the table statement).
-use Rattle.std.specs.Prelude.{ℕ, Bool, ◌&&◌, not, List, [], ◌∷◌, Option, Some, None, if◌then◌else◌}
+use Rattle.std.specs.Prelude.{ℕ, zero, suc, Bool, ◌&&◌, not, List, [], ◌∷◌, length, Option, Some, None, Ok, if◌then◌else◌, codes}
+use Rattle.std.specs.Str.{bytes_eq}
 use Rattle.gmpl_token.specs.declared.kind.TokenKind.{TokenKind}
 use Rattle.gmpl_token.specs.declared.kind.TokenKind.TheVariants as k
 use Rattle.gmpl_syntax.specs.declared.expression.Expr.{Expr, out-Expr}
@@ -7,6 +8,7 @@ use Rattle.gmpl_syntax.specs.declared.statement.InputColumn.{InputColumn}
 use Rattle.gmpl_syntax.specs.declared.statement.TableInput.{TableInput}
 use Rattle.gmpl_syntax.specs.declared.statement.OutputColumn.{OutputColumn}
 use Rattle.gmpl_syntax.specs.declared.statement.TableOutput.{TableOutput}
+use Rattle.gmpl_input.specs.Input.{sees}
 use Rattle.gmpl_input.specs.Rules.{Rule, ◌>>=◌, ◌>>◌, ◌<$>◌, pure, refuse, peek, ahead, take_token, eat, expect, further, optional}
 use Rattle.gmpl_words.specs.Statements.{is_input, is_output}
 use Rattle.gmpl_expressions.specs.Literals.{string}
@@ -14,7 +16,7 @@ use Rattle.gmpl_expressions.specs.Trees.{is_name}
 use Rattle.gmpl_expressions.specs.Grammar.{expression, indexing_expression}
 use Rattle.gmpl_statements.specs.Parts.{name}
 
--- ---- the driver and the file: string E ":"
+-- ---- the driver and what is behind it: string E ":", and behind another driver than CSV, which is not supported, more expressions
 
 abbrev pub driver_by : Option TokenKind → Rule (List ℕ)
 driver_by (Some k.StringLiteral) = string
@@ -23,10 +25,29 @@ driver_by _ = refuse
 unfoldable pub driver : Rule (List ℕ)
 driver = peek >>= driver_by
 
+unfoldable pub argument : ℕ → Rule (Unit {0})
+argument depth = do
+  eat k.Comma
+  value ← expression depth
+  pure tt
+
+-- The number bounds the turns; each turn takes a token, so that the count of the tokens left is enough.
+unfoldable pub arguments_from : ℕ → ℕ → Rule (Unit {0})
+arguments_from depth zero = pure tt
+arguments_from depth (suc n) = λ i. if sees k.Colon i then Ok (tt, i) else (argument depth >> arguments_from depth n) i
+
+-- { [","] E }*, up to a colon
+abbrev pub arguments : ℕ → Rule (Unit {0})
+arguments depth = λ i. arguments_from depth (length i.rest) i
+
+unfoldable pub behind_file : ℕ → List ℕ → Rule (Unit {0})
+behind_file depth driver = if bytes_eq driver (codes "CSV") then pure tt else arguments depth
+
 unfoldable pub driver_and_file : ℕ → Rule (List ℕ × Expr)
 driver_and_file depth = do
   driver ← driver
   file ← expression depth
+  more ← behind_file depth driver
   expect k.Colon
   pure (driver, file)
 

@@ -35,6 +35,39 @@ fn boxed_expression(reader: Reader, tokens: &mut Cursor<'_>) -> Result<Boxed<Exp
     Ok(Boxed::new(reader.alloc, made)?)
 }
 
+#[tactic(auto, unfolding(crate::specs::Tables::argument))]
+fn argument(reader: Reader, tokens: &mut Cursor<'_>) -> Result<(), ParseError>
+    ensures { Reads (spec.argument reader.depth tokens.old) result tokens.new }
+{
+    tokens.eat(TokenKind::Comma);
+    boxed_expression(reader, tokens)?;
+    Ok(())
+}
+
+fn arguments(reader: Reader, tokens: &mut Cursor<'_>) -> Result<(), ParseError>
+    ensures { Reads (spec.arguments reader.depth tokens.old) result tokens.new }
+{
+    for _turn in 0..tokens.left() {
+        if tokens.sees(TokenKind::Colon) {
+            return Ok(());
+        }
+        argument(reader, tokens)?;
+    }
+    Ok(())
+}
+
+// Another driver than CSV may take more than a file. It is not supported, and is read whole.
+#[tactic(auto, unfolding(crate::specs::Tables::behind_file))]
+fn behind_file(reader: Reader, tokens: &mut Cursor<'_>, driver: &Text) -> Result<(), ParseError>
+    ensures { Reads (spec.behind_file reader.depth driver.now tokens.old) result tokens.new }
+{
+    if driver.as_str() == "CSV" {
+        Ok(())
+    } else {
+        arguments(reader, tokens)
+    }
+}
+
 #[tactic(auto, unfolding(crate::specs::Tables::driver_and_file))]
 fn driver_and_file(
     reader: Reader,
@@ -44,6 +77,7 @@ fn driver_and_file(
 {
     let driver = driver(reader.alloc, tokens)?;
     let file = boxed_expression(reader, tokens)?;
+    behind_file(reader, tokens, &driver)?;
     tokens.expect(TokenKind::Colon)?;
     Ok((driver, file))
 }

@@ -36,6 +36,8 @@ S1/1 => set S{i in 0..3} := if i = 0 then {1} else S[i-1] union {i};
 S1/2 => set S{i in 0..3} := if i = 0 then {(1,2)} else S[i-1];
 S0/1 => set S := S;
 !WrongDimension 1 1 => set S dimen 1 := S cross S;
+!WrongDimension 1 1 => param p := if (1,1,1,1,1,1,1,1,1,1,1,1,1,1,1,1,1,1,1,1, 1, {1}) in {1} then 1 else 0;
+!WrongKind 1 1 => param p := if (1,1,1,1,1,1,1,1,1,1,1,1,1,1,1,1,1,1,1,1, {1}, 1) in {1} then 1 else 0;
 !WrongDimension 1 1 => set S := S cross {1};
 !Undeclared 2 1 => var x; c: x >= y;
 S0/1 P1 => set S := 1..3; param p{i in S} := i;
@@ -207,6 +209,10 @@ const TABLES_READ: &str = "\
 - => table t IN 'CSV' 'f': [k];
 !Unsupported 1 1 => table t IN 'ODBC' f: [k];
 !Unsupported 1 1 => table t IN 'csv' 'f': [k];
+!Unsupported 2 1 => set K; table t IN 'ODBC' 'x' 'y': K <- [k];
+!Unsupported 2 1 => set K; table t IN 'ODBC' 'x', 'y' & 'z', 'w': K <- [k];
+!NotAStatement 2 1 => set K; table t IN 'CSV' 'x' 'y': K <- [k];
+!NotAStatement 2 1 => set K; table t IN 'ODBC' 'x' ,: K <- [k];
 !Undeclared 1 1 => table t IN 'CSV' f: [k];
 !Undeclared 1 1 => table t IN 'CSV' k: [k];
 !Undeclared 1 1 => table t IN 'CSV' 'f': [k], p;
@@ -253,7 +259,11 @@ const TABLES_WRITTEN: &str = "\
 !Undeclared 2 1 => table t {i in 1..2} OUT 'CSV' 'f': i; display i;
 !Undeclared 1 1 => for {i in 1..2} { table t {j in 1..2} OUT 'CSV' 'f': j; display j; }
 !Unsupported 1 1 => table t {i in 1..2} OUT 'ODBC' f: i ~ k;
-!Unsupported 1 1 => table t {i in j..2} OUT 'csv' 'f': i ~ k;
+!Unsupported 1 1 => table t {i in 1..2} OUT 'ODBC' 'f', 'g' 'h': i ~ k;
+!Undeclared 1 1 => table t {i in S} OUT 'ODBC' 'f': i;
+!WrongDimension 2 1 => set S := {(1,2)}; table t {i in S} OUT 'CSV' {1}: i;
+!Unsupported 1 1 => table t {i in 1..2} OUT 'csv' 'f': i ~ k;
+!Undeclared 1 1 => table t {i in j..2} OUT 'csv' 'f': i ~ k;
 !Undeclared 1 1 => for {i in j..2} table t {k in 1..2} OUT 'ODBC' 'f': k;
 P0 => param f symbolic := 'f'; table t {i in 1..2} OUT 'CSV' f & '.csv': i;
 - => for {i in 1..2} table t {j in i..2} OUT 'CSV' 'f' & i: i, j;

@@ -64,9 +64,10 @@ fn proposed_and_found(alloc: Global, problem: &Instance) -> Result<String, Alloc
 
 // What the search proposes.
 fn proposed(alloc: Global, problem: &Instance) -> Result<&'static str, AllocError> {
-    let candidate = propose(alloc, problem, &SplitsTaken::new(alloc), None, 100)?;
+    let candidate = propose(alloc, problem, &SplitsTaken::new(alloc), None, 100, None)?;
     let word = match &candidate {
         Some(Candidate::Optimal(_)) => "optimal",
+        Some(Candidate::Bounded(_)) => "bounded",
         Some(Candidate::Infeasible(_)) => "infeasible",
         Some(Candidate::Unbounded(_)) => "unbounded",
         None => "nothing",
@@ -148,6 +149,7 @@ fn optimum(alloc: Global, numbers: &str, weights: Weights) -> Result<Candidate, 
         point: point_of(alloc, numbers)?,
         weights,
         basis: Basis::from_vec(Vec::new(alloc)),
+        column: None,
         told: None,
     }))
 }

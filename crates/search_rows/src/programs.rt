@@ -96,7 +96,7 @@ pub(crate) fn verdict_word(certificate: &Certificate) -> &'static str {
 
 /// The point that is proposed for a problem's relaxation, where it is shown to be an optimal one.
 pub(crate) fn shown_optimum(alloc: Global, problem: &Instance) -> Result<String, AllocError> {
-    let candidate = propose(alloc, problem, &SplitsTaken::new(alloc), None, 100)?;
+    let candidate = propose(alloc, problem, &SplitsTaken::new(alloc), None, 100, None)?;
     let words = match &candidate {
         Some(Candidate::Optimal(found)) => optimum_words(alloc, problem, found),
         _ => "no point".to_string(alloc),

@@ -1,14 +1,11 @@
 -- The closed leaves and the branches of a tree in preorder.
-use Rattle.std.proofs.Common.{◌≡◌, ◌∙◌, List, [], ◌∷◌, ◌++◌, refl, sym, ap, append_assoc, append-nil, Some, None}
-use Rattle.verdicts.specs.Certificate.{TreeNode, Branch}
+use Rattle.std.proofs.Common.{◌≡◌, ◌∙◌, List, [], ◌∷◌, ◌++◌, refl, sym, ap, append_assoc, append-nil}
+use Rattle.verdicts.specs.Certificate.{Branch}
 use Rattle.search_tree.specs.declared.leaf.Slot.{Slot}
-use Rattle.search_tree.specs.declared.event.Entry.{Entry}
 use Rattle.search_tree.specs.Tree.{Tree, Divided, AtLeaf}
 use Rattle.search_tree.specs.Slots.{slots_of}
 use Rattle.search_tree.specs.Kept.{closed_node}
 use Rattle.search_tree.specs.Finished.{nodes_of, one_or_none}
-use Rattle.tree_pool.specs.declared.refs.NodeRef.{NodeRef}
-use Rattle.tree_pool.specs.LogNodes.{node_at, nodes_in}
 use Rattle.tree_pool.specs.Ledger.{closed_in, closed_slots}
 
 closed_both : (xs ys : List Slot) → closed_slots (xs ++ ys) ≡ closed_slots xs ++ closed_slots ys

@@ -1,24 +1,33 @@
 -- A log with the nodes of the tree that it leads to, after one more entry.
-use Rattle.std.proofs.Common.{◌≡◌, ◌∙◌, ℕ, zero, suc, ◌+◌, ◌-◌, ◌<◌, ◌≤◌, List, [], ◌∷◌, ◌++◌, Bool, true, false, map, set, length, length-append, take, drop, refl, sym, ap, subst, cond, Option, Some, None, IfSome, slice_get, append_assoc, arith}
-use Rattle.std.proofs.lemmas.List.{map-append, take-map, drop-map}
+use Rattle.std.proofs.Common.{◌≡◌, ◌∙◌, ℕ, zero, suc, ◌+◌, ◌<◌, ◌≤◌, List, [], ◌∷◌, ◌++◌, Bool, true, false, set, length, length-append, refl, sym, ap, subst, cond, Option, Some, None, IfSome, slice_get, arith}
 use Rattle.rational.specs.Rational.{Rational}
+use Rattle.verdicts.specs.Certificate.{Split}
 use Rattle.certificate.specs.declared.split.Side.{Side}
+use Rattle.certificate.specs.declared.split.Side.TheVariants.{Low, High}
+use Rattle.search_node.specs.declared.node.SplitTaken.{SplitTaken}
 use Rattle.search_tree.specs.declared.leaf.Lease.{Lease}
 use Rattle.search_tree.specs.declared.leaf.Leaf.{Leaf}
-use Rattle.search_tree.specs.declared.leaf.Leaf.TheVariants.{Leased}
+use Rattle.search_tree.specs.declared.leaf.Leaf.TheVariants.{Todo, Leased}
 use Rattle.search_tree.specs.declared.leaf.Slot.{Slot}
 use Rattle.search_tree.specs.declared.leaf.Slot.TheVariants as slot
-use Rattle.search_tree.specs.declared.event.Event.TheVariants.{Grafting}
+use Rattle.search_tree.specs.declared.event.Event.TheVariants.{Leasing, Grafting}
 use Rattle.search_tree.specs.declared.event.Reply.{Reply}
+use Rattle.search_tree.specs.declared.event.Reply.TheVariants.{Given}
 use Rattle.search_tree.specs.declared.event.Entry.{Entry}
+use Rattle.search_tree.specs.Slots.{slots_of}
+use Rattle.search_tree.specs.Tree.{Tree, Divided, AtLeaf, at_place, replaced, leased_under}
 use Rattle.tree_pool.specs.declared.refs.NodeRef.{NodeRef}
-use Rattle.tree_pool.specs.declared.refs.NodeRef.TheVariants.{Again, Under, Held}
-use Rattle.search_tree.specs.Tree.{Tree, AtLeaf, at_place, replaced}
-use Rattle.search_tree.specs.Slots.{slots_of, place_of}
-use Rattle.tree_pool.specs.LogNodes.{leased_by, leased_in, node_at, nodes_in, IsInLog, AllInLog, held}
-use Rattle.tree_pool.specs.Ledger.{offered_by, offered_in, best_at}
-use Rattle.tree_pool.proofs.LogNodes.{same_entry, last_entry, same_nodes, put_nodes}
-use Rattle.tree_pool.proofs.Slots.{put_gives, set_gives}
+use Rattle.tree_pool.specs.declared.refs.NodeRef.TheVariants.{Again, Under, Held, Forked}
+use Rattle.tree_pool.specs.declared.kind.Kind.TheVariants as kind
+use Rattle.tree_pool.specs.LogNodes.{leased_in, put_in, slot_or_todo, node_at, IsInLog, AllInLog}
+use Rattle.tree_pool.specs.Paths.{path_at}
+use Rattle.tree_pool.specs.Standing.{way_of, ref_at, AreNodes}
+use Rattle.tree_pool.specs.Grown.{tree_by, grown, tree_after}
+use Rattle.tree_pool.specs.Ledger.{Ledger, offered_by, offered_in, best_at, IsPlaceOf, IsTaken}
+use Rattle.tree_pool.proofs.KindLemmas.{todo_slot, under_slot}
+use Rattle.tree_pool.proofs.LogNodes.{same_entry, last_entry, entry_at, same_at}
+use Rattle.tree_pool.proofs.Standing.{leaf_on, relabelled, forked, read_anew}
+use Rattle.tree_pool.proofs.Unders.{put_is}
 
 -- ---- references
 
@@ -26,6 +35,7 @@ more_in_log : (m n : ℕ) (r : NodeRef) → m ≤ n → IsInLog m r → IsInLog 
 more_in_log m n Again h k = tt
 more_in_log m n (Under entry) h k = omega arith
 more_in_log m n (Held entry i) h k = omega arith
+more_in_log m n (Forked entry place) h k = omega arith
 
 all_more_in_log : (m n : ℕ) (refs : List NodeRef) → m ≤ n → AllInLog m refs → AllInLog n refs
 all_more_in_log m n [] h k = tt
@@ -40,85 +50,123 @@ both_in_log : (n : ℕ) (refs more : List NodeRef) → AllInLog n refs → AllIn
 both_in_log n [] more h k = k
 both_in_log n (r ∷ refs) more h k = (h.0, both_in_log n refs more h.1 k)
 
-take_in_log : (n : ℕ) (refs : List NodeRef) (i : ℕ) → AllInLog n refs → AllInLog n (take i refs)
-take_in_log n [] zero h = tt
-take_in_log n [] (suc i) h = tt
-take_in_log n (r ∷ refs) zero h = tt
-take_in_log n (r ∷ refs) (suc i) h = (h.0, take_in_log n refs i h.1)
-
-drop_in_log : (n : ℕ) (refs : List NodeRef) (i : ℕ) → AllInLog n refs → AllInLog n (drop i refs)
-drop_in_log n [] zero h = tt
-drop_in_log n [] (suc i) h = tt
-drop_in_log n (r ∷ refs) zero h = h
-drop_in_log n (r ∷ refs) (suc i) h = drop_in_log n refs i h.1
-
-held_in_log : (n entry i count : ℕ) → entry < n → AllInLog n (held entry i count)
-held_in_log n entry i zero h = tt
-held_in_log n entry i (suc count) h = (h, held_in_log n entry (suc i) count h)
-
-map_set : (f : NodeRef → Slot) (refs : List NodeRef) (i : ℕ) (r : NodeRef) → map f (set refs i r) ≡ set (map f refs) i (f r)
-map_set f [] i r = refl
-map_set f (q ∷ refs) zero r = refl
-map_set f (q ∷ refs) (suc i) r = ap (λ (xs : List Slot). f q ∷ xs) (map_set f refs i r)
-
-pub size : (log : List Entry) (refs : List NodeRef) → length (nodes_in log refs) ≡ length refs
-size log [] = refl
-size log (r ∷ refs) = ap suc (size log refs)
-
--- ---- one more entry
+-- ---- the tree after one more entry
 
 pub longer : (log more : List Entry) (e : Entry) → more ≡ log ++ e ∷ [] → length log + 1 ≡ length more
 longer log more e h = let l = length-append log (e ∷ []) in let k = ap length h in omega arith
 
-pub leased_nodes : (log more : List Entry) (e : Entry) (refs : List NodeRef) (place count : ℕ) (t : Tree) (lease : Lease) → more ≡ log ++ e ∷ [] → count ≡ length log → leased_by e.reply ≡ slot.Leaf (Leased lease) → nodes_in log refs ≡ slots_of t → AllInLog (length log) refs
-    → (way : List Side) (leaf : Leaf) → at_place t way ≡ Some (AtLeaf leaf) → place_of t way ≡ place → nodes_in more (set refs place (Under count)) ≡ slots_of (replaced t way (AtLeaf (Leased lease)))
-leased_nodes log more e refs place count t lease is_more is_count leases are within way leaf there number =
-    let new : node_at more (Under count) ≡ slot.Leaf (Leased lease) = ap (λ es. leased_in (slice_get es count)) is_more ∙ ap (λ n. leased_in (slice_get (log ++ e ∷ []) n)) is_count ∙ ap leased_in (last_entry log e) ∙ leases in
-    let old : nodes_in more refs ≡ nodes_in log refs = ap (λ es. nodes_in es refs) is_more ∙ same_nodes log (e ∷ []) refs within in
-    set_gives (nodes_in log refs) (nodes_in more (set refs place (Under count))) t place (Leased lease) are
-    (map_set (node_at more) refs place (Under count) ∙ ap (λ xs. set xs place (node_at more (Under count))) old ∙ ap (λ x. set (nodes_in log refs) place x) new) way leaf there number
+grown_more : (t : Tree) (log : List Entry) (e : Entry) → grown t (log ++ e ∷ []) ≡ tree_by e.event e.reply (grown t log)
+grown_more t [] e = refl
+grown_more t (d ∷ log) e = grown_more (tree_by d.event d.reply t) log e
+
+pub tree_more : (log more : List Entry) (e : Entry) → more ≡ log ++ e ∷ [] → tree_after more ≡ tree_by e.event e.reply (tree_after log)
+tree_more log more e h = ap tree_after h ∙ grown_more (AtLeaf (Todo tt)) log e
+
+pub all_later : (log more : List Entry) (e : Entry) (refs : List NodeRef) → more ≡ log ++ e ∷ [] → AllInLog (length log) refs → AllInLog (length more) refs
+all_later log more e refs h within = let l = longer log more e h in all_more_in_log (length log) (length more) refs (omega arith) within
+
+later : (log more : List Entry) (e : Entry) (t : Tree) (paths : List (List SplitTaken)) (refs : List NodeRef) → more ≡ log ++ e ∷ [] → AllInLog (length log) refs → AreNodes (node_at log) t paths refs → AreNodes (node_at more) t paths refs
+later log more e t paths refs is_more within are = read_anew (node_at log) (node_at more) t paths refs are (λ p less. same_at log more e refs p is_more within less)
+
+-- the same log in another place of memory
+pub unchanged : (log more : List Entry) (paths : List (List SplitTaken)) (refs : List NodeRef) (best : Option ℕ) → more ≡ log → AreNodes (node_at log) (tree_after log) paths refs × AllInLog (length log) refs × IfSome best (λ n. n < length log)
+    → AreNodes (node_at more) (tree_after more) paths refs × AllInLog (length more) refs × IfSome best (λ n. n < length more)
+unchanged log more paths refs best e h = subst (λ l. AreNodes (node_at l) (tree_after l) paths refs × AllInLog (length l) refs × IfSome best (λ n. n < length l)) (sym e) h
+
+-- an entry that leaves the tree as it is, or makes this one of it
+pub nodes_after : (log more : List Entry) (e : Entry) (u : Tree) (paths : List (List SplitTaken)) (refs : List NodeRef) → more ≡ log ++ e ∷ [] → tree_by e.event e.reply (tree_after log) ≡ u → AllInLog (length log) refs → AreNodes (node_at log) u paths refs
+    → AreNodes (node_at more) (tree_after more) paths refs
+nodes_after log more e u paths refs is_more is_tree within are = subst (λ t. AreNodes (node_at more) t paths refs) (sym (tree_more log more e is_more ∙ is_tree)) (later log more e u paths refs is_more within are)
+
+-- a leaf is leased
+pub leased_nodes : (log more : List Entry) (seat : ℕ) (way : List Side) (lease : Lease) (paths : List (List SplitTaken)) (refs : List NodeRef) (place count : ℕ) → more ≡ log ++ record { event = Leasing seat; reply = Given way lease } ∷ [] → count ≡ length log
+    → way ≡ way_of (path_at paths place) → AllInLog (length log) refs → AreNodes (node_at log) (tree_after log) paths refs → IsPlaceOf kind.ToDo log refs place → AreNodes (node_at more) (tree_after more) paths (set refs place (Under count))
+leased_nodes log more seat way lease paths refs place count is_more is_count is_way within are at =
+    let e : Entry = record { event = Leasing seat; reply = Given way lease } in
+    let t = tree_after log in
+    let found = todo_slot (node_at log (ref_at refs place)) at.is_kind in
+    let new : node_at more (Under count) ≡ slot.Leaf (Leased lease) = ap leased_in (entry_at log more e count is_more is_count) in
+    let is_tree : tree_after more ≡ replaced t (way_of (path_at paths place)) (AtLeaf (Leased lease)) = tree_more log more e is_more ∙ ap (λ w. replaced t w (AtLeaf (Leased lease))) is_way in
+    subst (λ u. AreNodes (node_at more) u paths (set refs place (Under count))) (sym is_tree)
+    (relabelled (node_at more) t paths refs place (Under count) found.leaf (Leased lease) (later log more e t paths refs is_more within are) at.within (same_at log more e refs place is_more within at.within ∙ found.is_slot) new)
 
 pub leased_in_log : (log more : List Entry) (e : Entry) (refs : List NodeRef) (place count : ℕ) → more ≡ log ++ e ∷ [] → count ≡ length log → AllInLog (length log) refs → AllInLog (length more) (set refs place (Under count))
 leased_in_log log more e refs place count is_more is_count within =
     let l = longer log more e is_more in
     set_in_log (length more) refs place (Under count) (all_more_in_log (length log) (length more) refs (omega arith) within) (omega arith)
 
-pub grafted_nodes : (log more : List Entry) (seat : ℕ) (lease : Lease) (u : Tree) (reply : Reply) (refs news others : List NodeRef) (place : ℕ) (t : Tree) → more ≡ log ++ record { event = Grafting seat lease u; reply = reply } ∷ [] → others ≡ held (length log) 0 (length (slots_of u))
-    → news ≡ take place refs ++ (others ++ drop (place + 1) refs) → nodes_in log refs ≡ slots_of t → AllInLog (length log) refs
-    → (way : List Side) (leaf : Leaf) → at_place t way ≡ Some (AtLeaf leaf) → place_of t way ≡ place → nodes_in more news ≡ slots_of (replaced t way u)
-grafted_nodes log more seat lease u reply refs news others place t is_more are_others are_news are within way leaf there number =
-    let f = node_at more in
-    let xs = nodes_in log refs in
-    let old : nodes_in more refs ≡ xs = ap (λ es. nodes_in es refs) is_more ∙ same_nodes log (record { event = Grafting seat lease u; reply = reply } ∷ []) refs within in
-    let put : map f others ≡ slots_of u = ap (map f) are_others ∙ ap (λ es. map (node_at es) (held (length log) 0 (length (slots_of u)))) is_more ∙ put_nodes log seat lease u reply in
-    let first : map f (take place refs) ≡ take place xs = sym (take-map f place refs) ∙ ap (take place) old in
-    let rest : map f (drop (place + 1) refs) ≡ drop (place + 1) xs = sym (drop-map f (place + 1) refs) ∙ ap (drop (place + 1)) old in
-    put_gives xs (slots_of u) (nodes_in more news) t u place are refl
-    (ap (map f) are_news ∙ map-append f (take place refs) (others ++ drop (place + 1) refs) ∙ ap (λ ys. map f (take place refs) ++ ys) (map-append f others (drop (place + 1) refs))
-    ∙ ap (λ ys. ys ++ (map f others ++ map f (drop (place + 1) refs))) first ∙ ap (λ ys. take place xs ++ (ys ++ map f (drop (place + 1) refs))) put ∙ ap (λ ys. take place xs ++ (slots_of u ++ ys)) rest)
-    way leaf there number
+pub leased_is : (log more : List Entry) (seat : ℕ) (way : List Side) (lease : Lease) (paths : List (List SplitTaken)) (refs : List NodeRef) (place : ℕ) (best : Option ℕ) → more ≡ log ++ record { event = Leasing seat; reply = Given way lease } ∷ []
+    → way ≡ way_of (path_at paths place) → AreNodes (node_at log) (tree_after log) paths refs → IsPlaceOf kind.ToDo log refs place → best_at more best ≡ best_at log best
+    → IsTaken (record { log = log; tree = tree_after log; best = best_at log best }) seat lease (record { log = more; tree = tree_after more; best = best_at more best })
+leased_is log more seat way lease paths refs place best is_more is_way are at is_best =
+    let found = todo_slot (node_at log (ref_at refs place)) at.is_kind in
+    record {
+      way = way;
+      leaf = found.leaf;
+      is_todo = found.is_todo;
+      there = ap (at_place (tree_after log)) is_way ∙ leaf_on (node_at log) (tree_after log) paths refs place found.leaf are at.within found.is_slot;
+      log = is_more;
+      tree = tree_more log more (record { event = Leasing seat; reply = Given way lease }) is_more;
+      best = is_best;
+    }
 
-pub grafted_in_log : (log more : List Entry) (e : Entry) (refs news others : List NodeRef) (place count : ℕ) → more ≡ log ++ e ∷ [] → others ≡ held (length log) 0 count → news ≡ take place refs ++ (others ++ drop (place + 1) refs) → AllInLog (length log) refs → AllInLog (length more) news
-grafted_in_log log more e refs news others place count is_more are_others are_news within =
+-- the leaf that is leased under a number, on its way
+pub record IsLeasedOn (t : Tree) (way : List Side) (n : ℕ) (node : Slot) : Type 0 where
+  pub lease : Lease
+  pub is_under : lease.number ≡ n
+  pub is_node : node ≡ slot.Leaf (Leased lease)
+  pub there : at_place t way ≡ Some (AtLeaf (Leased lease))
+
+pub leased_on : (log : List Entry) (t : Tree) (paths : List (List SplitTaken)) (refs : List NodeRef) (place n : ℕ) → AreNodes (node_at log) t paths refs → IsPlaceOf (kind.LeasedUnder n) log refs place → IsLeasedOn t (way_of (path_at paths place)) n (node_at log (ref_at refs place))
+leased_on log t paths refs place n are at =
+    let found = under_slot (node_at log (ref_at refs place)) n at.is_kind in
+    record { lease = found.lease; is_under = found.is_number; is_node = found.is_slot; there = leaf_on (node_at log) t paths refs place (Leased found.lease) are at.within found.is_slot }
+
+-- a tree is put in its place
+put_tree : (log more : List Entry) (seat : ℕ) (lease : Lease) (u : Tree) (reply : Reply) (paths : List (List SplitTaken)) (refs : List NodeRef) (place : ℕ) → more ≡ log ++ record { event = Grafting seat lease u; reply = reply } ∷ []
+    → leased_under lease.number (tree_after log) ≤ 1 → AreNodes (node_at log) (tree_after log) paths refs → IsPlaceOf (kind.LeasedUnder lease.number) log refs place → tree_after more ≡ replaced (tree_after log) (way_of (path_at paths place)) u
+put_tree log more seat lease u reply paths refs place is_more one are at =
+    let found = leased_on log (tree_after log) paths refs place lease.number are at in
+    tree_more log more (record { event = Grafting seat lease u; reply = reply }) is_more ∙ put_is (tree_after log) (way_of (path_at paths place)) found.lease lease.number u found.there found.is_under one
+
+pub put_leaf : (log more : List Entry) (seat : ℕ) (lease : Lease) (u : Tree) (new : Leaf) (reply : Reply) (paths : List (List SplitTaken)) (refs : List NodeRef) (place count : ℕ) → more ≡ log ++ record { event = Grafting seat lease u; reply = reply } ∷ [] → count ≡ length log → u ≡ AtLeaf new
+    → leased_under lease.number (tree_after log) ≤ 1 → AllInLog (length log) refs → AreNodes (node_at log) (tree_after log) paths refs → IsPlaceOf (kind.LeasedUnder lease.number) log refs place → AreNodes (node_at more) (tree_after more) paths (set refs place (Held count 0))
+put_leaf log more seat lease u new reply paths refs place count is_more is_count is_leaf one within are at =
+    let e : Entry = record { event = Grafting seat lease u; reply = reply } in
+    let t = tree_after log in
+    let found = leased_on log t paths refs place lease.number are at in
+    let put = ap put_in (entry_at log more e count is_more is_count) ∙ ap slots_of is_leaf in
+    let read : node_at more (Held count 0) ≡ slot.Leaf new = ap (λ xs. slot_or_todo (slice_get xs 0)) put in
+    let is_tree = put_tree log more seat lease u reply paths refs place is_more one are at ∙ ap (replaced t (way_of (path_at paths place))) is_leaf in
+    subst (λ v. AreNodes (node_at more) v paths (set refs place (Held count 0))) (sym is_tree)
+    (relabelled (node_at more) t paths refs place (Held count 0) (Leased found.lease) new (later log more e t paths refs is_more within are) at.within (same_at log more e refs place is_more within at.within ∙ found.is_node) read)
+
+pub put_leaf_in_log : (log more : List Entry) (e : Entry) (refs : List NodeRef) (place count : ℕ) → more ≡ log ++ e ∷ [] → count ≡ length log → AllInLog (length log) refs → AllInLog (length more) (set refs place (Held count 0))
+put_leaf_in_log log more e refs place count is_more is_count within =
     let l = longer log more e is_more in
-    let all = all_more_in_log (length log) (length more) refs (omega arith) within in
-    let P : List NodeRef → Type 0 = λ rs. AllInLog (length more) rs in
-    let Q : List NodeRef → Type 0 = λ rs. AllInLog (length more) (take place refs ++ (rs ++ drop (place + 1) refs)) in
-    subst P (sym are_news) (subst Q (sym are_others) (both_in_log (length more) (take place refs) (held (length log) 0 count ++ drop (place + 1) refs) (take_in_log (length more) refs place all)
-    (both_in_log (length more) (held (length log) 0 count) (drop (place + 1) refs) (held_in_log (length more) (length log) 0 count (omega arith)) (drop_in_log (length more) refs (place + 1) all))))
+    set_in_log (length more) refs place (Held count 0) (all_more_in_log (length log) (length more) refs (omega arith) within) (omega arith)
 
-pub held_more : (done news whole : List NodeRef) (entry n count : ℕ) → n < count → news ≡ done ++ Held entry n ∷ [] → done ++ held entry n (count - n) ≡ whole → news ++ held entry (n + 1) (count - (n + 1)) ≡ whole
-held_more done news whole entry n count less more h =
-    let next : suc n ≡ n + 1 = omega arith in
-    let left : count - n ≡ suc (count - (n + 1)) = omega arith in
-    let rest = held entry (n + 1) (count - (n + 1)) in
-    ap (λ rs. rs ++ rest) more ∙ append_assoc done (Held entry n ∷ []) rest ∙ ap (λ m. done ++ Held entry n ∷ held entry m (count - (n + 1))) (sym next) ∙ ap (λ m. done ++ held entry n m) (sym left) ∙ h
+pub put_split : (log more : List Entry) (seat : ℕ) (lease : Lease) (u : Tree) (s : Split) (x y : Leaf) (reply : Reply) (paths others : List (List SplitTaken)) (refs news : List NodeRef) (place count : ℕ) → more ≡ log ++ record { event = Grafting seat lease u; reply = reply } ∷ [] → count ≡ length log
+    → u ≡ Divided s (AtLeaf x) (AtLeaf y) → leased_under lease.number (tree_after log) ≤ 1 → AllInLog (length log) refs → AreNodes (node_at log) (tree_after log) paths refs → IsPlaceOf (kind.LeasedUnder lease.number) log refs place
+    → news ≡ set refs place (Forked count (length refs)) ++ Held count 1 ∷ Held count 2 ∷ []
+    → others ≡ paths ++ (path_at paths place ++ record { split = s; side = Low } ∷ []) ∷ (path_at paths place ++ record { split = s; side = High } ∷ []) ∷ []
+    → AreNodes (node_at more) (tree_after more) others news
+put_split log more seat lease u s x y reply paths others refs news place count is_more is_count is_split one within are at are_news are_others =
+    let e : Entry = record { event = Grafting seat lease u; reply = reply } in
+    let t = tree_after log in
+    let found = leased_on log t paths refs place lease.number are at in
+    let put = ap put_in (entry_at log more e count is_more is_count) ∙ ap slots_of is_split in
+    let is_tree = put_tree log more seat lease u reply paths refs place is_more one are at ∙ ap (replaced t (way_of (path_at paths place))) is_split in
+    subst (λ v. AreNodes (node_at more) v others news) (sym is_tree)
+    (forked (node_at more) t paths others refs news place (Forked count (length refs)) (Held count 1) (Held count 2) (Leased found.lease) x y s (later log more e t paths refs is_more within are) at.within (same_at log more e refs place is_more within at.within ∙ found.is_node)
+    (ap (λ xs. slot_or_todo (slice_get xs 0)) put) refl (ap (λ xs. slot_or_todo (slice_get xs 1)) put) (ap (λ xs. slot_or_todo (slice_get xs 2)) put) are_news are_others)
 
-pub same_nodes_in : (log more : List Entry) (e : Entry) (refs : List NodeRef) → more ≡ log ++ e ∷ [] → AllInLog (length log) refs → nodes_in more refs ≡ nodes_in log refs
-same_nodes_in log more e refs h within = ap (λ es. nodes_in es refs) h ∙ same_nodes log (e ∷ []) refs within
-
-pub all_later : (log more : List Entry) (e : Entry) (refs : List NodeRef) → more ≡ log ++ e ∷ [] → AllInLog (length log) refs → AllInLog (length more) refs
-all_later log more e refs h within = let l = longer log more e h in all_more_in_log (length log) (length more) refs (omega arith) within
+pub put_split_in_log : (log more : List Entry) (e : Entry) (refs news : List NodeRef) (place count : ℕ) → more ≡ log ++ e ∷ [] → count ≡ length log → news ≡ set refs place (Forked count (length refs)) ++ Held count 1 ∷ Held count 2 ∷ [] → AllInLog (length log) refs → AllInLog (length more) news
+put_split_in_log log more e refs news place count is_more is_count are_news within =
+    let l = longer log more e is_more in
+    let less : count < length more = omega arith in
+    subst (λ rs. AllInLog (length more) rs) (sym are_news)
+    (both_in_log (length more) (set refs place (Forked count (length refs))) (Held count 1 ∷ Held count 2 ∷ []) (set_in_log (length more) refs place (Forked count (length refs)) (all_more_in_log (length log) (length more) refs (omega arith) within) less) (less, (less, tt)))
 
 -- ---- the best point
 
@@ -140,3 +188,9 @@ new_best log more e best new true x count is_more is_count offers is_new within 
 new_best log more e best new false x count is_more is_count offers is_new within =
     let P : Option ℕ → Type 0 = λ o. IfSome o (λ n. n < length more) in
     (ap (best_at more) is_new ∙ same_best log more e best is_more within, subst P (sym is_new) (best_in_log log more e best is_more within))
+
+abbrev pub ledger_of : List Entry → Tree → Option (List Rational) → Ledger
+ledger_of log tree best = record { log = log; tree = tree; best = best }
+
+pub same_ledger : (log more : List Entry) (t u : Tree) (a b : Option (List Rational)) → more ≡ log → u ≡ t → b ≡ a → ledger_of more u b ≡ ledger_of log t a
+same_ledger log more t u a b e f g = rw (e, f, g) refl

@@ -1,10 +1,14 @@
-mod Slots
+mod Results
+mod Shapes
+mod Standing
+mod Unders
+mod Preorders
+mod PathLemmas
+mod Sides
 mod KindLemmas
-mod Ways
 mod LogNodes
 mod Ledgers
 mod Leases
-mod OpenLeases
 mod Grafts
 mod Offers
 mod Reclaims

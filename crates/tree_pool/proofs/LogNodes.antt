@@ -1,15 +1,10 @@
 -- A longer log leaves the nodes as they are, and holds those of a tree that it puts in.
-use Rattle.std.proofs.Common.{◌≡◌, ℕ, zero, suc, ◌+◌, ◌<◌, List, [], ◌∷◌, ◌++◌, map, length, drop, refl, sym, ap, Some, slice_get, arith}
-use Rattle.search_tree.specs.declared.leaf.Lease.{Lease}
-use Rattle.search_tree.specs.declared.leaf.Slot.{Slot}
-use Rattle.search_tree.specs.declared.event.Event.TheVariants.{Grafting}
-use Rattle.search_tree.specs.declared.event.Reply.{Reply}
+use Rattle.std.proofs.Common.{◌≡◌, ◌∙◌, ℕ, zero, suc, ◌<◌, List, [], ◌∷◌, ◌++◌, length, refl, ap, Some, slice_get, arith}
 use Rattle.search_tree.specs.declared.event.Entry.{Entry}
 use Rattle.tree_pool.specs.declared.refs.NodeRef.{NodeRef}
-use Rattle.tree_pool.specs.declared.refs.NodeRef.TheVariants.{Again, Under, Held}
-use Rattle.search_tree.specs.Tree.{Tree}
-use Rattle.search_tree.specs.Slots.{slots_of}
-use Rattle.tree_pool.specs.LogNodes.{put_in, leased_in, slot_or_todo, node_at, IsInLog, AllInLog, held}
+use Rattle.tree_pool.specs.declared.refs.NodeRef.TheVariants.{Again, Under, Held, Forked}
+use Rattle.tree_pool.specs.LogNodes.{put_in, leased_in, slot_or_todo, node_at, IsInLog, AllInLog}
+use Rattle.tree_pool.specs.Standing.{ref_at}
 
 pub same_entry : (log more : List Entry) (n : ℕ) → n < length log → slice_get (log ++ more) n ≡ slice_get log n
 same_entry [] more n h = absurd (omega arith)
@@ -20,31 +15,19 @@ same_node : (log more : List Entry) (r : NodeRef) → IsInLog (length log) r →
 same_node log more Again h = refl
 same_node log more (Under entry) h = ap leased_in (same_entry log more entry h)
 same_node log more (Held entry n) h = ap (λ e. slot_or_todo (slice_get (put_in e) n)) (same_entry log more entry h)
+same_node log more (Forked entry place) h = ap (λ e. slot_or_todo (slice_get (put_in e) 0)) (same_entry log more entry h)
 
-pub same_nodes : (log more : List Entry) (refs : List NodeRef) → AllInLog (length log) refs → map (node_at (log ++ more)) refs ≡ map (node_at log) refs
-same_nodes log more [] h = refl
-same_nodes log more (r ∷ refs) h = rw (same_node log more r h.0, same_nodes log more refs h.1) refl
+in_log_at : (n : ℕ) (refs : List NodeRef) (p : ℕ) → AllInLog n refs → p < length refs → IsInLog n (ref_at refs p)
+in_log_at n [] p h less = absurd (omega arith)
+in_log_at n (r ∷ refs) zero h less = h.0
+in_log_at n (r ∷ refs) (suc p) h less = in_log_at n refs p h.1 (omega arith)
+
+pub same_at : (log more : List Entry) (e : Entry) (refs : List NodeRef) (p : ℕ) → more ≡ log ++ e ∷ [] → AllInLog (length log) refs → p < length refs → node_at more (ref_at refs p) ≡ node_at log (ref_at refs p)
+same_at log more e refs p is_more within less = ap (λ es. node_at es (ref_at refs p)) is_more ∙ same_node log (e ∷ []) (ref_at refs p) (in_log_at (length log) refs p within less)
 
 pub last_entry : (log : List Entry) (e : Entry) → slice_get (log ++ e ∷ []) (length log) ≡ Some e
 last_entry [] e = refl
 last_entry (d ∷ log) e = last_entry log e
 
-nodes_held : (log : List Entry) (entry : ℕ) (xs : List Slot) (n count : ℕ) → put_in (slice_get log entry) ≡ xs → n + count ≡ length xs → map (node_at log) (held entry n count) ≡ drop n xs
-nodes_held log entry xs n zero e h = sym (drop_all xs n (omega arith))
-  where
-    drop_all : (xs : List Slot) (n : ℕ) → n ≡ length xs → drop n xs ≡ []
-    drop_all [] zero h = refl
-    drop_all [] (suc n) h = absurd (omega arith)
-    drop_all (x ∷ xs) zero h = absurd (omega arith)
-    drop_all (x ∷ xs) (suc n) h = drop_all xs n (omega arith)
-nodes_held log entry xs n (suc count) e h =
-    rw (ap (λ ys. slot_or_todo (slice_get ys n)) e, nodes_held log entry xs (suc n) count e (omega arith)) (sym (drop_more xs n (omega arith)))
-  where
-    drop_more : (xs : List Slot) (n : ℕ) → n < length xs → drop n xs ≡ slot_or_todo (slice_get xs n) ∷ drop (suc n) xs
-    drop_more [] n h = absurd (omega arith)
-    drop_more (x ∷ xs) zero h = refl
-    drop_more (x ∷ xs) (suc n) h = drop_more xs n (omega arith)
-
--- the tree that the last entry puts in
-pub put_nodes : (log : List Entry) (seat : ℕ) (lease : Lease) (t : Tree) (reply : Reply) → map (node_at (log ++ record { event = Grafting seat lease t; reply = reply } ∷ [])) (held (length log) 0 (length (slots_of t))) ≡ slots_of t
-put_nodes log seat lease t reply = nodes_held _ (length log) (slots_of t) 0 (length (slots_of t)) (ap put_in (last_entry log (record { event = Grafting seat lease t; reply = reply }))) (omega arith)
+pub entry_at : (log more : List Entry) (e : Entry) (count : ℕ) → more ≡ log ++ e ∷ [] → count ≡ length log → slice_get more count ≡ Some e
+entry_at log more e count is_more is_count = ap (λ es. slice_get es count) is_more ∙ ap (slice_get (log ++ e ∷ [])) is_count ∙ last_entry log e

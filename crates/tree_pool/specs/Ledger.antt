@@ -1,16 +1,18 @@
--- A log with the tree and the best point that it leads to, and what is found among the tree's nodes in preorder.
-use Rattle.std.specs.Prelude.{ℕ, zero, suc, Bool, true, false, cond, ◌+◌, ◌≡◌, List, [], ◌∷◌, ◌++◌, map, slice_get, Option, Some, None, is_some}
+-- A log with the tree and the best point that it leads to, and what is found among the tree's nodes.
+use Rattle.std.specs.Prelude.{ℕ, Bool, true, false, cond, ◌<◌, ◌+◌, ◌≡◌, List, [], ◌∷◌, ◌++◌, length, map, slice_get, Option, Some, None, is_some}
 use Rattle.rational.specs.Rational.{Rational}
-use Rattle.certificate.specs.declared.split.Side.TheVariants.{Low, High}
-use Rattle.search_node.specs.declared.node.SplitTaken.{SplitTaken}
+use Rattle.certificate.specs.declared.split.Side.{Side}
 use Rattle.search_tree.specs.declared.event.Event.{Event}
 use Rattle.search_tree.specs.declared.event.Event.TheVariants.{Leasing, Idling, Grafting, Offering, Reclaiming}
+use Rattle.search_tree.specs.declared.event.Reply.TheVariants.{Given}
 use Rattle.search_tree.specs.declared.event.Entry.{Entry}
 use Rattle.verdicts.specs.Certificate.{TreeNode, Branch}
 use Rattle.search_tree.specs.declared.leaf.Lease.{Lease}
+use Rattle.search_tree.specs.declared.leaf.Leaf.{Leaf}
+use Rattle.search_tree.specs.declared.leaf.Leaf.TheVariants.{Leased}
 use Rattle.search_tree.specs.declared.leaf.Slot.{Slot}
 use Rattle.search_tree.specs.declared.leaf.Slot.TheVariants as slot
-use Rattle.search_tree.specs.Tree.{Tree}
+use Rattle.search_tree.specs.Tree.{Tree, AtLeaf, IsTodo, at_place, replaced}
 use Rattle.search_tree.specs.Kept.{closed_node}
 use Rattle.search_tree.specs.Finished.{one_or_none}
 use Rattle.tree_pool.specs.declared.refs.NodeRef.{NodeRef}
@@ -18,7 +20,8 @@ use Rattle.tree_pool.specs.declared.refs.NodeRef.TheVariants.{Again}
 use Rattle.tree_pool.specs.declared.kind.Kind.{Kind}
 use Rattle.tree_pool.specs.declared.kind.Kind.TheVariants as kind
 use Rattle.tree_pool.specs.LogNodes.{node_at}
-use Rattle.tree_pool.specs.Kinds.{kind_of, lease_in}
+use Rattle.tree_pool.specs.Kinds.{kind_of}
+use Rattle.tree_pool.specs.Standing.{ref_at}
 
 pub record Ledger : Type 0 where
   pub log : List Entry
@@ -42,31 +45,30 @@ abbrev pub best_at : List Entry → Option ℕ → Option (List Rational)
 best_at log None = None
 best_at log (Some n) = offered_in (slice_get log n)
 
+-- a leaf that was to be worked on is leased
+pub record IsTaken (l : Ledger) (seat : ℕ) (lease : Lease) (m : Ledger) : Type 0 where
+  pub way : List Side
+  pub leaf : Leaf
+  pub is_todo : IsTodo leaf
+  pub there : at_place l.tree way ≡ Some (AtLeaf leaf)
+  pub log : m.log ≡ l.log ++ record { event = Leasing seat; reply = Given way lease } ∷ []
+  pub tree : m.tree ≡ replaced l.tree way (AtLeaf (Leased lease))
+  pub best : m.best ≡ l.best
+
+-- ---- what stands at places
+
+pub record IsPlaceOf (k : Kind) (log : List Entry) (refs : List NodeRef) (place : ℕ) : Type 0 where
+  pub within : place < length refs
+  pub is_kind : kind_of (node_at log (ref_at refs place)) ≡ k
+
+abbrev pub HasNone : Kind → List Entry → List NodeRef → Type 0
+HasNone k log refs = (place : ℕ) → ¬ (IsPlaceOf k log refs place)
+
 -- ---- nodes in preorder
 
 -- what the nodes are
 abbrev pub kinds_in : List Entry → List NodeRef → List Kind
 kinds_in log refs = map (λ r. kind_of (node_at log r)) refs
-
-abbrev pub IsPlaceOf : Kind → List Kind → ℕ → Type 0
-IsPlaceOf k kinds place = slice_get kinds place ≡ Some k
-
-abbrev pub HasNone : Kind → List Kind → Type 0
-HasNone k kinds = (n : ℕ) → ¬ (slice_get kinds n ≡ Some k)
-
--- the splits on the way to the place that is filled after `skip` more trees, from the nodes before, the latest first
-abbrev pub taken_back : List Kind → ℕ → List SplitTaken
-taken_back [] skip = []
-taken_back (kind.ToDo ∷ before) skip = taken_back before (suc skip)
-taken_back (kind.LeasedUnder n ∷ before) skip = taken_back before (suc skip)
-taken_back (kind.Ended ∷ before) skip = taken_back before (suc skip)
-taken_back (kind.SplitBy s ∷ before) zero = taken_back before zero ++ record { split = s; side = Low } ∷ []
-taken_back (kind.SplitBy s ∷ before) (suc zero) = taken_back before zero ++ record { split = s; side = High } ∷ []
-taken_back (kind.SplitBy s ∷ before) (suc (suc skip)) = taken_back before (suc skip)
-
-abbrev pub one_taken : Option SplitTaken → List SplitTaken
-one_taken None = []
-one_taken (Some t) = t ∷ []
 
 -- f of the number of a leased leaf, 0 of others
 abbrev pub of_kind : (ℕ → ℕ) → Kind → ℕ
@@ -82,11 +84,6 @@ sum_of_kinds f (k ∷ kinds) = of_kind f k + sum_of_kinds f kinds
 -- the number of leased leaves
 abbrev pub lease_count : List Kind → ℕ
 lease_count kinds = sum_of_kinds (λ n. 1) kinds
-
--- the lease of the node that a list holds at a place, where it is a leaf that is leased
-abbrev pub lease_found : List Entry → Option NodeRef → Option Lease
-lease_found log None = None
-lease_found log (Some r) = lease_in (node_at log r)
 
 -- ---- nodes that are given back
 

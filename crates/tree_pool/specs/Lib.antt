@@ -1,5 +1,9 @@
 pub mod LogNodes
 pub mod Kinds
-pub mod Ledger
+pub mod Paths
 pub mod Places
+pub mod Standing
+pub mod Grown
+pub mod Shapes
+pub mod Ledger
 pub mod Answers

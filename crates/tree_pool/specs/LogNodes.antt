@@ -1,5 +1,5 @@
 -- The nodes of a board's tree, read from its log, which owns the trees that were put in.
-use Rattle.std.specs.Prelude.{ℕ, zero, suc, ◌<◌, List, [], ◌∷◌, map, Option, Some, None, slice_get}
+use Rattle.std.specs.Prelude.{ℕ, ◌<◌, List, [], ◌∷◌, map, Option, Some, None, slice_get}
 use Rattle.search_tree.specs.declared.leaf.Leaf.TheVariants.{Todo, Leased}
 use Rattle.search_tree.specs.declared.leaf.Slot.{Slot}
 use Rattle.search_tree.specs.declared.leaf.Slot.TheVariants as slot
@@ -10,7 +10,7 @@ use Rattle.search_tree.specs.declared.event.Reply.TheVariants.{Given, StillLease
 use Rattle.search_tree.specs.declared.event.Entry.{Entry}
 use Rattle.search_tree.specs.Slots.{slots_of}
 use Rattle.tree_pool.specs.declared.refs.NodeRef.{NodeRef}
-use Rattle.tree_pool.specs.declared.refs.NodeRef.TheVariants.{Again, Under, Held}
+use Rattle.tree_pool.specs.declared.refs.NodeRef.TheVariants.{Again, Under, Held, Forked}
 
 -- the nodes of the tree that an event puts in
 abbrev pub put_by : Event → List Slot
@@ -43,6 +43,7 @@ abbrev pub node_at : List Entry → NodeRef → Slot
 node_at log Again = slot.Leaf (Todo tt)
 node_at log (Under entry) = leased_in (slice_get log entry)
 node_at log (Held entry n) = slot_or_todo (slice_get (put_in (slice_get log entry)) n)
+node_at log (Forked entry place) = slot_or_todo (slice_get (put_in (slice_get log entry)) 0)
 
 -- the nodes in preorder
 abbrev pub nodes_in : List Entry → List NodeRef → List Slot
@@ -53,12 +54,8 @@ abbrev pub IsInLog : ℕ → NodeRef → Type 0
 IsInLog count Again = Unit {0}
 IsInLog count (Under entry) = entry < count
 IsInLog count (Held entry n) = entry < count
+IsInLog count (Forked entry place) = entry < count
 
 abbrev pub AllInLog : ℕ → List NodeRef → Type 0
 AllInLog count [] = Unit {0}
 AllInLog count (r ∷ refs) = IsInLog count r × AllInLog count refs
-
--- the nodes from the n-th on, `count` of them, of the tree that an entry put in
-abbrev pub held : ℕ → ℕ → ℕ → List NodeRef
-held entry n zero = []
-held entry n (suc count) = Held entry n ∷ held entry (suc n) count

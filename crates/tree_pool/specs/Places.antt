@@ -1,38 +1,13 @@
 -- Places of leaves in a tree.
-use Rattle.std.specs.Prelude.{ℕ, ◌≡◌, List, [], ◌∷◌, Some}
+use Rattle.std.specs.Prelude.{◌≡◌, List, [], ◌∷◌, Some}
 use Rattle.certificate.specs.declared.split.Side.{Side}
 use Rattle.certificate.specs.declared.split.Side.TheVariants.{Low, High}
 use Rattle.search_node.specs.declared.node.SplitTaken.{SplitTaken}
 use Rattle.search_tree.specs.declared.leaf.Lease.{Lease}
-use Rattle.search_tree.specs.declared.leaf.Leaf.{Leaf}
 use Rattle.search_tree.specs.declared.leaf.Leaf.TheVariants.{Leased}
-use Rattle.search_tree.specs.Tree.{Tree, Divided, AtLeaf, IsTodo, AllLeaves, at_place}
+use Rattle.search_tree.specs.Tree.{Tree, Divided, AtLeaf, AllLeaves, at_place}
 use Rattle.search_tree.specs.Kept.{closed_node}
 use Rattle.search_tree.specs.Finished.{IsThere}
-use Rattle.search_tree.specs.Slots.{place_of}
-
--- a leaf stands at this place of the preorder
-pub record IsLeafAt (t : Tree) (place : ℕ) : Type 0 where
-  pub way : List Side
-  pub leaf : Leaf
-  pub there : at_place t way ≡ Some (AtLeaf leaf)
-  pub number : place_of t way ≡ place
-
--- a leaf that is to be worked on stands at this place of the preorder
-pub record IsTodoAt (t : Tree) (place : ℕ) : Type 0 where
-  pub way : List Side
-  pub leaf : Leaf
-  pub is_todo : IsTodo leaf
-  pub there : at_place t way ≡ Some (AtLeaf leaf)
-  pub number : place_of t way ≡ place
-
--- a leaf that is leased under this number stands at this place of the preorder
-pub record IsLeasedAt (t : Tree) (under place : ℕ) : Type 0 where
-  pub way : List Side
-  pub lease : Lease
-  pub is_under : lease.number ≡ under
-  pub there : at_place t way ≡ Some (AtLeaf (Leased lease))
-  pub number : place_of t way ≡ place
 
 -- a leaf is leased with this lease
 pub record IsOpen (t : Tree) (lease : Lease) : Type 0 where

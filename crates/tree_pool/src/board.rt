@@ -13,7 +13,7 @@ ghost use Rattle.search_tree.specs.Steps.{MayGraft, IsGraft, IsOffer, IsReclaim,
 ghost use Rattle.cert_check.specs.Outcome.{Acceptance, outcome, trials};
 ghost use Rattle.search_tree.specs.Finished.{IsFinished, certificate_of};
 ghost use Rattle.tree_pool.specs.Answers.{IsAnswer};
-ghost use Rattle.tree_pool.specs.Places.{IsTodoAt, IsOpen};
+ghost use Rattle.tree_pool.specs.Places.{IsOpen};
 
 use crate::answer::LeaseAnswer;
 use crate::choice::Order;
@@ -114,8 +114,9 @@ impl Board {
         ensures ok { IfOk result (λ a. IsAnswer self.old seat a self.new) }
         ensures kept { OnErr result (self.new ≡ self.old) }
     {
-        match self.ledger.chosen(self.order()) {
-            None => self.idle(seat),
+        let order = self.order();
+        match self.ledger.chosen(order) {
+            None => self.idle(alloc, seat),
             Some(place) => self.lease_at(alloc, seat, place),
         }
     }
@@ -125,34 +126,31 @@ impl Board {
         Order {
             direction: self.problem.direction(),
             has_best: self.best_value.is_some(),
-            has_grant: next_grant(self.splits_made, self.splits_granted, self.split_limit) > 0,
         }
     }
 
     // Tells that no leaf is to be worked on.
-    fn idle(&mut self, seat: usize) -> Result<LeaseAnswer, AllocError>
+    fn idle(&mut self, alloc: Global, seat: usize) -> Result<LeaseAnswer, AllocError>
         requires { AllLeaves (λ sides leaf. ¬ (IsTodo leaf)) [] self.old.tree }
         ensures ok { IfOk result (λ a. IsAnswer self.old seat a self.new) }
         ensures kept { OnErr result (self.new ≡ self.old) }
     {
-        let count = self.ledger.leased();
+        let count = self.ledger.leased(alloc)?;
         self.ledger.idle(seat, count)?;
         Ok(LeaseAnswer::Idle(count))
     }
 
-    // Leases the leaf at this place of the preorder.
+    // Leases the leaf at this place.
     fn lease_at(
         &mut self,
         alloc: Global,
         seat: usize,
         place: usize,
     ) -> Result<LeaseAnswer, AllocError>
-        requires { IsTodoAt self.old.tree place }
         ensures ok { IfOk result (λ a. IsAnswer self.old seat a self.new) }
         ensures kept { OnErr result (self.new ≡ self.old) }
     {
         let hint = self.ledger.hint(alloc, place)?;
-        let told = self.ledger.way_to(alloc, place)?;
         let number = self.ledger.count();
         let grant = next_grant(self.splits_made, self.splits_granted, self.split_limit);
         let best = self.best_value;
@@ -161,7 +159,7 @@ impl Board {
             grant,
             best,
         };
-        self.ledger.lease(place, seat, told, lease.copy())?;
+        self.ledger.lease(alloc, place, seat, lease.copy())?;
         self.splits_granted = self.splits_granted.saturating_add(grant);
         Ok(LeaseAnswer::Leased(lease, hint))
     }
@@ -180,14 +178,11 @@ impl Board {
         ensures kept { OnErr result (self.new ≡ self.old) }
         ensures back { IfErr result (λ t. t ≡ tree) }
     {
-        let Some(place) = self.ledger.place_under(lease.number) else {
-            return Err(tree);
-        };
         let made = tree.splits();
         let grant = lease.grant;
         let best = self.best_value;
         let told = self.best_value;
-        self.ledger.graft(alloc, place, seat, lease, tree, told)?;
+        self.ledger.graft(seat, lease, tree, told)?;
         self.splits_made = sum(self.splits_made, made, self.split_limit);
         self.splits_granted = self.splits_granted.saturating_sub(grant);
         Ok(best)
@@ -232,20 +227,14 @@ impl Board {
         ensures open { IfSome result (IsOpen self.now.tree) }
         ensures none { result ≡ None → leased_under number self.now.tree ≡ 0 }
     {
-        match self.ledger.place_under(number) {
-            None => None,
-            Some(place) => self.ledger.lease_at(place),
-        }
+        self.ledger.open_lease(number)
     }
 
     /// The node of the leaf that is leased, with the splits on its way, the first of them first.
     pub fn node(&self, alloc: Global, lease: Lease) -> Result<Node, AllocError>
         ensures { IfOk result (λ node. (way : List SideOf) → at_place self.now.tree way ≡ Some (AtLeaf (Leased lease)) → sides_of node.splits ≡ sides_to self.now.tree way []) }
     {
-        let Some(place) = self.ledger.place_under(lease.number) else {
-            return Err(AllocError);
-        };
-        let taken = self.ledger.splits_to(alloc, place)?;
+        let taken = self.ledger.splits_under(alloc, lease.number)?;
         Ok(Node {
             root_basis: None,
             splits: SplitsTaken::from_vec(taken),

@@ -1,12 +1,12 @@
 // Which leaf is worked on next.
-ghost use Rattle.std.specs.Prelude.{◌≡◌, ◌⊎◌, true, false, Some, None, IfSome};
+ghost use Rattle.std.specs.Prelude.{◌≡◌, true, false, None};
 ghost use Rattle.tree_pool.specs.declared.kind.Kind.TheVariants.{ToDo};
-ghost use Rattle.tree_pool.specs.Ledger.{kinds_in, IsPlaceOf, HasNone};
+ghost use Rattle.tree_pool.specs.Ledger.{IsPlaceOf, HasNone};
 
-use crate::kind::{Kind, held, kind_in};
+use crate::kind::{Kind, held, kind_on};
+use crate::open::{Open, OpenLeaf};
 use crate::refs::NodeRef;
 use fraction::Frac;
-use instance::signed;
 use milp::Direction;
 use search_tree::{Entry, Hint, Leaf, Slot};
 
@@ -15,25 +15,64 @@ use search_tree::{Entry, Hint, Leaf, Slot};
 pub(crate) struct Order {
     pub(crate) direction: Direction,
     pub(crate) has_best: bool,
-    pub(crate) has_grant: bool,
 }
 
-// A leaf that is to be worked on, if there is one. Where splits are granted, before the first point is found it is the
-// newest one, and afterwards the newest of those whose node above has the best value. Where none are, leaves that were
-// treated come last.
-pub(crate) fn chosen(log: &[Entry], nodes: &[NodeRef], order: Order) -> Option<usize>
-    ensures todo { IfSome result (IsPlaceOf ToDo (kinds_in log.now nodes.now)) }
-    ensures none { result ≡ None → HasNone ToDo (kinds_in log.now nodes.now) }
+// The place of a leaf that is to be worked on, if there is one: before the first point is found the newest one, and afterwards
+// the newest of those whose node above has the best value.
+pub(crate) fn chosen(
+    log: &[Entry],
+    nodes: &[NodeRef],
+    open: &mut Open,
+    order: Order,
+) -> Option<usize>
+    ensures none { result ≡ None → HasNone ToDo log.now nodes.now }
 {
-    let mut best = None;
+    match preferred(log, nodes, open, order) {
+        Some(place) => Some(place),
+        None => any_todo(log, nodes),
+    }
+}
+
+// The preferred one of the leaves that are known to be open. Those that are no longer to be worked on are dropped.
+fn preferred(log: &[Entry], nodes: &[NodeRef], open: &mut Open, order: Order) -> Option<usize> {
+    let mut left = open.count();
+    while left > 0 {
+        left -= 1;
+        match open.first(order) {
+            None => return None,
+            Some(place) => {
+                if is_todo_at(log, nodes, place) {
+                    return Some(place);
+                }
+            }
+        }
+        open.drop_first();
+    }
+    None
+}
+
+fn any_todo(log: &[Entry], nodes: &[NodeRef]) -> Option<usize>
+    ensures none { result ≡ None → HasNone ToDo log.now nodes.now }
+{
     let mut at = 0;
     while at < nodes.len() {
-        if is_todo(kind_in(log, nodes, at)) {
-            best = Some(preferred(log, nodes, order, best, at));
+        if is_todo_at(log, nodes, at) {
+            return Some(at);
         }
         at += 1;
     }
-    best
+    None
+}
+
+// At this place stands a leaf that is to be worked on.
+pub(crate) fn is_todo_at(log: &[Entry], nodes: &[NodeRef], place: usize) -> bool
+    ensures yes { result ≡ true → IsPlaceOf ToDo log.now nodes.now place }
+    ensures no { result ≡ false → ¬ (IsPlaceOf ToDo log.now nodes.now place) }
+{
+    if place >= nodes.len() {
+        return false;
+    }
+    is_todo(kind_on(log, nodes, place))
 }
 
 fn is_todo(kind: Kind) -> bool
@@ -46,57 +85,34 @@ fn is_todo(kind: Kind) -> bool
     }
 }
 
-// The leaf at this place, or the best one so far.
-fn preferred(
-    log: &[Entry],
-    nodes: &[NodeRef],
-    order: Order,
-    best: Option<usize>,
-    at: usize,
-) -> usize
-    ensures { (result ≡ at) ⊎ (best ≡ Some result) }
-{
-    match best {
-        None => at,
-        Some(old) => {
-            if is_before(log, order, node_of(nodes, at), node_of(nodes, old)) {
-                at
-            } else {
-                old
-            }
-        }
+// The leaf at a place is known to be open, where it is to be worked on.
+pub(crate) fn add_open(open: &mut Open, log: &[Entry], nodes: &[NodeRef], place: usize) {
+    if !is_todo_at(log, nodes, place) {
+        return;
+    }
+    if let Some(node) = nodes.get(place) {
+        open.add(OpenLeaf {
+            place,
+            entry: entry_of(*node),
+            bound: bound_of(log, *node),
+        });
     }
 }
 
-fn node_of(nodes: &[NodeRef], at: usize) -> NodeRef {
-    match nodes.get(at) {
-        None => NodeRef::Again,
-        Some(node) => *node,
+// The leaves at the two last places, too.
+pub(crate) fn add_sides(open: &mut Open, log: &[Entry], nodes: &[NodeRef]) {
+    let count = nodes.len();
+    if count >= 2 {
+        add_open(open, log, nodes, count - 2);
+        add_open(open, log, nodes, count - 1);
     }
 }
 
-// The first leaf is to be worked on before the second.
-fn is_before(log: &[Entry], order: Order, first: NodeRef, second: NodeRef) -> bool {
-    if !order.has_grant {
-        let treated = is_treated(log, first);
-        if treated != is_treated(log, second) {
-            return !treated;
-        }
+// The leaves at these places, too.
+pub(crate) fn add_all(open: &mut Open, log: &[Entry], nodes: &[NodeRef], places: &[usize]) {
+    for place in places {
+        add_open(open, log, nodes, *place);
     }
-    if order.has_best {
-        let bounds = (bound_of(log, first), bound_of(log, second));
-        if let (Some(a), Some(b)) = bounds {
-            let a = signed(order.direction, a);
-            let b = signed(order.direction, b);
-            if a < b {
-                return true;
-            }
-            if b < a {
-                return false;
-            }
-        }
-    }
-    entry_of(second) <= entry_of(first)
 }
 
 // The entry that put the leaf in.
@@ -105,6 +121,7 @@ fn entry_of(node: NodeRef) -> usize {
         NodeRef::Again => 0,
         NodeRef::Under(entry) => entry,
         NodeRef::Held(entry, _) => entry,
+        NodeRef::Forked(entry, _) => entry,
     }
 }
 
@@ -124,15 +141,5 @@ fn bound_of(log: &[Entry], node: NodeRef) -> Option<Frac> {
     match hint_of(log, node) {
         None => None,
         Some(hint) => hint.bound(),
-    }
-}
-
-fn is_treated(log: &[Entry], node: NodeRef) -> bool {
-    match node {
-        NodeRef::Held(entry, n) => match held(log, entry, n) {
-            Some(Slot::Leaf(Leaf::Treated(_))) => true,
-            _ => false,
-        },
-        _ => false,
     }
 }

@@ -1,8 +1,8 @@
 // What the board looks for among the nodes of its tree.
-ghost use Rattle.std.specs.Prelude.{◌≡◌, ◌<◌, length, slice_get, option_map, Some};
+ghost use Rattle.std.specs.Prelude.{◌≡◌, ◌<◌, length, slice_get, option_map};
 ghost use Rattle.tree_pool.specs.LogNodes.{put_by, put_in, leased_by, node_at};
 ghost use Rattle.tree_pool.specs.Kinds.{leaf_kind, kind_of};
-ghost use Rattle.tree_pool.specs.Ledger.{kinds_in};
+ghost use Rattle.tree_pool.specs.Standing.{ref_at};
 
 use crate::refs::NodeRef;
 use certificate::Split;
@@ -22,11 +22,11 @@ pub enum Kind {
 }
 
 // What the node at a place of the board's tree is.
-pub(crate) fn kind_in(log: &[Entry], nodes: &[NodeRef], at: usize) -> Kind
-    requires { at < length nodes.now }
-    ensures { slice_get (kinds_in log.now nodes.now) at ≡ Some result }
+pub(crate) fn kind_on(log: &[Entry], nodes: &[NodeRef], place: usize) -> Kind
+    requires { place < length nodes.now }
+    ensures { result ≡ kind_of (node_at log.now (ref_at nodes.now place)) }
 {
-    kind_at(log, nodes[at])
+    kind_at(log, nodes[place])
 }
 
 pub(crate) fn kind_at(log: &[Entry], node: NodeRef) -> Kind
@@ -36,6 +36,7 @@ pub(crate) fn kind_at(log: &[Entry], node: NodeRef) -> Kind
         NodeRef::Again => Kind::ToDo,
         NodeRef::Under(entry) => leased_kind(log, entry),
         NodeRef::Held(entry, n) => held_kind(log, entry, n),
+        NodeRef::Forked(entry, _) => held_kind(log, entry, 0),
     }
 }
 

@@ -1,31 +1,22 @@
 // The leases of leaves.
-ghost use Rattle.std.specs.Prelude.{◌≡◌, slice_get};
+ghost use Rattle.std.specs.Prelude.{◌≡◌};
 ghost use Rattle.search_tree.specs.Tree.{lease_of};
 ghost use Rattle.tree_pool.specs.LogNodes.{leased_by, node_at};
 ghost use Rattle.tree_pool.specs.Kinds.{lease_in};
-ghost use Rattle.tree_pool.specs.Ledger.{lease_found};
 
 use crate::kind::held;
 use crate::refs::NodeRef;
 use search_tree::{Entry, Leaf, Lease, Reply, Slot};
 
-// The lease of the node at a place, where it is a leaf that is leased.
-pub(crate) fn lease_at(log: &[Entry], nodes: &[NodeRef], place: usize) -> Option<Lease>
-    ensures { result ≡ lease_found log.now (slice_get nodes.now place) }
-{
-    match nodes.get(place) {
-        None => None,
-        Some(node) => node_lease(log, *node),
-    }
-}
-
-fn node_lease(log: &[Entry], node: NodeRef) -> Option<Lease>
+// The lease of a node, where it is a leaf that is leased.
+pub(crate) fn node_lease(log: &[Entry], node: NodeRef) -> Option<Lease>
     ensures { result ≡ lease_in (node_at log.now node) }
 {
     match node {
         NodeRef::Again => None,
         NodeRef::Under(entry) => told_lease(log, entry),
         NodeRef::Held(entry, n) => held_lease(log, entry, n),
+        NodeRef::Forked(entry, _) => held_lease(log, entry, 0),
     }
 }
 

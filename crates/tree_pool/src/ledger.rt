@@ -1,24 +1,34 @@
 // The log of a board, and the tree and best point that it leads to.
-ghost use Rattle.std.specs.Prelude.{◌≡◌, ◌++◌, [], ◌∷◌, ◌<◌, length, cond, Some, None, Option, option_map, true, false, OnOk, OnErr, IfOk, IfErr, IfSome, List, slice_get};
+ghost use Rattle.std.specs.Prelude.{◌≡◌, ◌++◌, [], ◌∷◌, ◌<◌, ◌≤◌, ◌+◌, length, set, cond, Some, None, option_map, true, false, OnOk, OnErr, IfOk, IfErr, IfSome, List, slice_get};
+ghost use Rattle.std.specs.Vec.{vec_len, vec_capacity};
 ghost use Rattle.certificate.specs.declared.split.Side.{Side as SideOf};
-ghost use Rattle.search_tree.specs.declared.leaf.Leaf.{Leaf as LeafOf};
+ghost use Rattle.search_tree.specs.declared.leaf.Lease.{Lease as LeaseOf};
 ghost use Rattle.search_tree.specs.declared.leaf.Leaf.TheVariants.{Todo, Leased};
-ghost use Rattle.search_tree.specs.declared.event.Event.TheVariants.{Leasing, Idling, Grafting, Offering, Reclaiming};
-ghost use Rattle.search_tree.specs.declared.event.Reply.TheVariants.{Given, StillLeased, Best, Done};
-ghost use Rattle.search_tree.specs.Tree.{AtLeaf, IsTodo, at_place, replaced, leased, leased_under, lease_of, reclaimed, AllLeaves};
-ghost use Rattle.search_tree.specs.Slots.{place_of};
+ghost use Rattle.search_tree.specs.declared.event.Event.TheVariants.{Idling, Grafting, Offering, Reclaiming};
+ghost use Rattle.search_tree.specs.declared.event.Reply.TheVariants.{StillLeased, Best, Done};
+ghost use Rattle.search_tree.specs.Tree.{AtLeaf, IsTodo, at_place, leased, leased_under, reclaimed, AllLeaves};
+ghost use Rattle.search_tree.specs.Slots.{slots_of};
 ghost use Rattle.search_tree.specs.Finished.{nodes_of};
-ghost use Rattle.tree_pool.specs.Places.{IsLeafAt, IsTodoAt, IsLeasedAt, AreClosed, taken_to};
-ghost use Rattle.tree_pool.specs.LogNodes.{held};
-ghost use Rattle.tree_pool.specs.Ledger.{offered_by, offered_in};
+ghost use Rattle.tree_pool.specs.declared.refs.NodeRef.TheVariants.{Held, Forked};
+ghost use Rattle.tree_pool.specs.declared.shape.Shape.TheVariants.{Leaf, Split as OneSplit};
+ghost use Rattle.tree_pool.specs.Shapes.{IsShape};
+ghost use Rattle.tree_pool.specs.Places.{AreClosed, IsOpen, taken_to};
+ghost use Rattle.tree_pool.specs.LogNodes.{nodes_in};
+ghost use Rattle.tree_pool.specs.Paths.{path_at};
+ghost use Rattle.tree_pool.specs.Standing.{way_of};
+ghost use Rattle.tree_pool.specs.Grown.{put_under};
+ghost use Rattle.tree_pool.specs.Ledger.{IsTaken, offered_by, offered_in};
 
-use crate::choice::{Order, chosen, hint_of};
+use crate::choice::{Order, add_all, add_open, add_sides, chosen, hint_of, is_todo_at};
 use crate::closed::{are_closed, closed_tree};
-use crate::lease::lease_at;
-use crate::put::put_in;
+use crate::lease::node_lease;
+use crate::open::Open;
+use crate::paths::Paths;
 use crate::refs::NodeRef;
-use crate::scan::{given_back, leased_count, place_under, sides_of, splits_to};
-use certificate::Tree;
+use crate::scan::{forget, given_back, leased_count, place_under, remember, sides_of};
+use crate::shape::{Shape, shape_of};
+use crate::walk::in_preorder;
+use certificate::{Split, Tree};
 use fraction::Frac;
 use instance::Point;
 use search_node::SplitTaken;
@@ -26,29 +36,35 @@ use search_tree::{Entry, Event, Hint, Lease, Reply, Subtree, Way};
 use std::alloc::{AllocError, Global};
 use std::marker::Model;
 
-/// A log with the tree and the best point that it leads to. The log owns the subtrees and points; the tree's nodes, in
-/// preorder, are places in it.
+/// A log with the tree and the best point that it leads to. The log owns the subtrees and points. Each node of the tree has a
+/// place of its own, which it keeps: `nodes` says where in the log it stands, and `paths` which splits lead to it. `open` and
+/// `leased` tell where to look first for a leaf.
 #[derive(Drop)]
 pub(crate) struct Ledger {
     log: Vec<Entry>,
+    paths: Paths,
     nodes: Vec<NodeRef>,
+    open: Open,
+    leased: Vec<usize>,
     best: Option<usize>,
 }
 
 impl Model for Ledger {
     ghost use Rattle.std.specs.Prelude.{length, IfSome, ◌<◌};
     ghost use Rattle.std.specs.Coded.{codes};
-    ghost use Rattle.search_tree.specs.Slots.{tree_of, tree_code, AreOneTree};
-    ghost use Rattle.tree_pool.specs.LogNodes.{nodes_in, AllInLog};
+    ghost use Rattle.search_tree.specs.Slots.{tree_code};
+    ghost use Rattle.tree_pool.specs.LogNodes.{node_at, AllInLog};
+    ghost use Rattle.tree_pool.specs.Grown.{tree_after};
+    ghost use Rattle.tree_pool.specs.Standing.{AreNodes};
     ghost use Rattle.tree_pool.specs.Ledger.{Ledger as LedgerOf, best_at};
 
     ghost Value = { LedgerOf };
 
     ghost coded = { Prim.hlevel (codes, tree_code) };
 
-    ghost view = { λ l. record { log = l.log.items; tree = tree_of (nodes_in l.log.items l.nodes.items); best = best_at l.log.items l.best } };
+    ghost view = { λ l. record { log = l.log.items; tree = tree_after l.log.items; best = best_at l.log.items l.best } };
 
-    ghost invariant = { λ l. AreOneTree (nodes_in l.log.items l.nodes.items) × AllInLog (length l.log.items) l.nodes.items × IfSome l.best (λ n. n < length l.log.items) };
+    ghost invariant = { λ l. AreNodes (node_at l.log.items) (tree_after l.log.items) l.paths l.nodes.items × AllInLog (length l.log.items) l.nodes.items × IfSome l.best (λ n. n < length l.log.items) };
 }
 
 impl Ledger {
@@ -60,7 +76,10 @@ impl Ledger {
         nodes.push_reserved(NodeRef::Again);
         Ok(Ledger {
             log: Vec::new(alloc),
+            paths: Paths::new(alloc),
             nodes,
+            open: Open::new(alloc),
+            leased: Vec::new(alloc),
             best: None,
         })
     }
@@ -72,34 +91,39 @@ impl Ledger {
         self.log.len()
     }
 
-    /// The number of leased leaves.
-    pub(crate) fn leased(&self) -> usize
-        ensures { result ≡ leased self.now.tree }
+    // The nodes in preorder.
+    fn in_preorder(&self, alloc: Global) -> Result<Vec<NodeRef>, AllocError>
+        ensures { IfOk result (λ all. nodes_in self.now.log all.items ≡ slots_of self.now.tree) }
     {
-        leased_count(&self.log, &self.nodes)
+        in_preorder(alloc, &self.log, &self.nodes)
+    }
+
+    /// The number of leased leaves.
+    pub(crate) fn leased(&self, alloc: Global) -> Result<usize, AllocError>
+        ensures { IfOk result (λ count. count ≡ leased self.now.tree) }
+    {
+        let nodes = self.in_preorder(alloc)?;
+        Ok(leased_count(&self.log, &nodes))
     }
 
     /// The place of a leaf that is to be worked on, if there is one.
-    pub(crate) fn chosen(&self, order: Order) -> Option<usize>
-        ensures todo { IfSome result (IsTodoAt self.now.tree) }
-        ensures none { result ≡ None → AllLeaves (λ sides leaf. ¬ (IsTodo leaf)) [] self.now.tree }
+    pub(crate) fn chosen(&mut self, order: Order) -> Option<usize>
+        ensures same { self.new ≡ self.old }
+        ensures none { result ≡ None → AllLeaves (λ sides leaf. ¬ (IsTodo leaf)) [] self.old.tree }
     {
-        chosen(&self.log, &self.nodes, order)
+        chosen(&self.log, &self.nodes, &mut self.open, order)
     }
 
-    /// The place of a leaf that is leased under this number, if there is one.
-    pub(crate) fn place_under(&self, number: usize) -> Option<usize>
-        ensures under { IfSome result (IsLeasedAt self.now.tree number) }
+    /// The open lease of this number, if there is one.
+    pub(crate) fn open_lease(&self, number: usize) -> Option<Lease>
+        ensures number { IfSome result (λ lease. lease.number ≡ number) }
+        ensures open { IfSome result (IsOpen self.now.tree) }
         ensures none { result ≡ None → leased_under number self.now.tree ≡ 0 }
     {
-        place_under(&self.log, &self.nodes, number)
-    }
-
-    /// The lease of the leaf at a place of the preorder, where it is leased.
-    pub(crate) fn lease_at(&self, place: usize) -> Option<Lease>
-        ensures { (way : List SideOf) (leaf : LeafOf) → at_place self.now.tree way ≡ Some (AtLeaf leaf) → place_of self.now.tree way ≡ place → result ≡ lease_of leaf }
-    {
-        lease_at(&self.log, &self.nodes, place)
+        match place_under(&self.log, &self.nodes, &self.leased, number) {
+            None => None,
+            Some(place) => node_lease(&self.log, self.nodes[place]),
+        }
     }
 
     /// A copy of the hint of the leaf at a place, or an empty one.
@@ -114,42 +138,38 @@ impl Ledger {
         }
     }
 
-    /// The splits on the way to the leaf at a place of the preorder, the first of them first.
-    pub(crate) fn splits_to(
+    /// The splits on the way to the leaf that is leased under this number, the first of them first.
+    pub(crate) fn splits_under(
         &self,
         alloc: Global,
-        place: usize,
+        number: usize,
     ) -> Result<Vec<SplitTaken>, AllocError>
-        requires { IsLeafAt self.now.tree place }
-        ensures { IfOk result (λ taken. (way : List SideOf) (leaf : LeafOf) → at_place self.now.tree way ≡ Some (AtLeaf leaf) → place_of self.now.tree way ≡ place → taken.items ≡ taken_to self.now.tree way) }
+        requires { leased_under number self.now.tree ≤ 1 }
+        ensures { IfOk result (λ taken. (way : List SideOf) (lease : LeaseOf) → at_place self.now.tree way ≡ Some (AtLeaf (Leased lease)) → lease.number ≡ number → taken.items ≡ taken_to self.now.tree way) }
     {
-        splits_to(alloc, &self.log, &self.nodes, place)
+        let Some(place) = place_under(&self.log, &self.nodes, &self.leased, number) else {
+            return Err(AllocError);
+        };
+        self.paths.splits_to(alloc, place)
     }
+}
 
-    /// The way to the leaf at a place of the preorder.
-    pub(crate) fn way_to(&self, alloc: Global, place: usize) -> Result<Way, AllocError>
-        requires { IsLeafAt self.now.tree place }
-        ensures { IfOk result (λ w. (way : List SideOf) (leaf : LeafOf) → at_place self.now.tree way ≡ Some (AtLeaf leaf) → place_of self.now.tree way ≡ place → w ≡ way) }
-    {
-        let taken = self.splits_to(alloc, place)?;
-        let sides = sides_of(alloc, &taken)?;
-        Ok(Way::from_vec(sides))
-    }
-
+impl Ledger {
     /// One more entry, by which the leaf at a place is leased. After an error nothing has changed.
     pub(crate) fn lease(
         &mut self,
+        alloc: Global,
         place: usize,
         seat: usize,
-        told: Way,
         lease: Lease,
     ) -> Result<(), AllocError>
-        requires place { IsLeafAt self.old.tree place }
-        ensures log { OnOk result (self.new.log ≡ self.old.log ++ record { event = Leasing seat; reply = Given told lease } ∷ []) }
-        ensures tree { OnOk result ((way : List SideOf) (leaf : LeafOf) → at_place self.old.tree way ≡ Some (AtLeaf leaf) → place_of self.old.tree way ≡ place → self.new.tree ≡ replaced self.old.tree way (AtLeaf (Leased lease))) }
-        ensures best { OnOk result (self.new.best ≡ self.old.best) }
+        ensures ok { OnOk result (IsTaken self.old seat lease self.new) }
         ensures kept { OnErr result (self.new ≡ self.old) }
     {
+        if !is_todo_at(&self.log, &self.nodes, place) {
+            return Err(AllocError);
+        }
+        let told = way_to(alloc, &self.paths, place)?;
         self.log.reserve(1)?;
         let entry = self.log.len();
         self.nodes[place] = NodeRef::Under(entry);
@@ -157,6 +177,7 @@ impl Ledger {
             event: Event::Leasing(seat),
             reply: Reply::Given(told, lease),
         });
+        remember(&mut self.leased, place);
         Ok(())
     }
 
@@ -173,38 +194,99 @@ impl Ledger {
         Ok(())
     }
 
-    /// One more entry, by which a tree is put in the place of a leaf. After an error nothing has changed, and the tree
-    /// comes back.
+    /// One more entry, by which a tree is put in the place of the leaf that is leased. After an error nothing has changed, and
+    /// the tree comes back. No lease grants more than one split, so a larger tree never comes.
     pub(crate) fn graft(
         &mut self,
-        alloc: Global,
-        place: usize,
         seat: usize,
         lease: Lease,
         tree: Subtree,
         best: Option<Frac>,
     ) -> Result<(), Subtree>
-        requires place { IsLeafAt self.old.tree place }
+        requires one { leased_under lease.number self.old.tree ≤ 1 }
         ensures log { OnOk result (self.new.log ≡ self.old.log ++ record { event = Grafting seat lease tree; reply = Best best } ∷ []) }
-        ensures tree { OnOk result ((way : List SideOf) (leaf : LeafOf) → at_place self.old.tree way ≡ Some (AtLeaf leaf) → place_of self.old.tree way ≡ place → self.new.tree ≡ replaced self.old.tree way tree) }
+        ensures tree { OnOk result (self.new.tree ≡ put_under lease.number tree self.old.tree) }
         ensures best { OnOk result (self.new.best ≡ self.old.best) }
         ensures kept { OnErr result (self.new ≡ self.old) }
         ensures back { IfErr result (λ t. t ≡ tree) }
     {
-        let entry = self.log.len();
-        let Ok(mut nodes) = held_nodes(alloc, entry, tree.count()) else {
+        match shape_of(&tree) {
+            Shape::Leaf => self.put_leaf(seat, lease, tree, best),
+            Shape::Split(split) => self.put_split(seat, lease, tree, split, best),
+            Shape::Larger => Err(tree),
+        }
+    }
+
+    // The same for a tree of one leaf.
+    fn put_leaf(
+        &mut self,
+        seat: usize,
+        lease: Lease,
+        tree: Subtree,
+        best: Option<Frac>,
+    ) -> Result<(), Subtree>
+        requires one { leased_under lease.number self.old.tree ≤ 1 }
+        requires leaf { IsShape tree Leaf }
+        ensures log { OnOk result (self.new.log ≡ self.old.log ++ record { event = Grafting seat lease tree; reply = Best best } ∷ []) }
+        ensures tree { OnOk result (self.new.tree ≡ put_under lease.number tree self.old.tree) }
+        ensures best { OnOk result (self.new.best ≡ self.old.best) }
+        ensures kept { OnErr result (self.new ≡ self.old) }
+        ensures back { IfErr result (λ t. t ≡ tree) }
+    {
+        let Some(place) = place_under(&self.log, &self.nodes, &self.leased, lease.number) else {
             return Err(tree);
         };
         if self.log.reserve(1).is_err() {
             return Err(tree);
         }
-        if put_in(&mut self.nodes, place, &mut nodes).is_err() {
-            return Err(tree);
-        }
+        let entry = self.log.len();
+        self.nodes[place] = NodeRef::Held(entry, 0);
         self.log.push_reserved(Entry {
             event: Event::Grafting(seat, lease, tree),
             reply: Reply::Best(best),
         });
+        forget(&mut self.leased, place);
+        add_open(&mut self.open, &self.log, &self.nodes, place);
+        Ok(())
+    }
+
+    // The same for a tree of one split.
+    fn put_split(
+        &mut self,
+        seat: usize,
+        lease: Lease,
+        tree: Subtree,
+        split: Split,
+        best: Option<Frac>,
+    ) -> Result<(), Subtree>
+        requires one { leased_under lease.number self.old.tree ≤ 1 }
+        requires split { IsShape tree (OneSplit split) }
+        ensures log { OnOk result (self.new.log ≡ self.old.log ++ record { event = Grafting seat lease tree; reply = Best best } ∷ []) }
+        ensures tree { OnOk result (self.new.tree ≡ put_under lease.number tree self.old.tree) }
+        ensures best { OnOk result (self.new.best ≡ self.old.best) }
+        ensures kept { OnErr result (self.new ≡ self.old) }
+        ensures back { IfErr result (λ t. t ≡ tree) }
+    {
+        let Some(place) = place_under(&self.log, &self.nodes, &self.leased, lease.number) else {
+            return Err(tree);
+        };
+        if self.log.reserve(1).is_err() {
+            return Err(tree);
+        }
+        if self.nodes.reserve(2).is_err() {
+            return Err(tree);
+        }
+        if self.paths.fork(place, split).is_err() {
+            return Err(tree);
+        }
+        let entry = self.log.len();
+        expand(&mut self.nodes, place, entry);
+        self.log.push_reserved(Entry {
+            event: Event::Grafting(seat, lease, tree),
+            reply: Reply::Best(best),
+        });
+        forget(&mut self.leased, place);
+        add_sides(&mut self.open, &self.log, &self.nodes);
         Ok(())
     }
 
@@ -252,6 +334,8 @@ impl Ledger {
             event: Event::Reclaiming,
             reply: Reply::Done,
         });
+        add_all(&mut self.open, &self.log, &self.nodes, &self.leased);
+        self.leased.clear();
         Ok(())
     }
 
@@ -287,7 +371,8 @@ impl Ledger {
     pub(crate) fn closed_tree(&self, alloc: Global) -> Result<Tree, AllocError>
         ensures { IfOk result (λ t. t ≡ nodes_of self.now.tree) }
     {
-        closed_tree(alloc, &self.log, &self.nodes)
+        let nodes = self.in_preorder(alloc)?;
+        closed_tree(alloc, &self.log, &nodes)
     }
 }
 
@@ -317,15 +402,24 @@ fn newer(better: bool, entry: usize, best: Option<usize>) -> Option<usize>
     if better { Some(entry) } else { best }
 }
 
-// The nodes of the tree that an entry puts in.
-fn held_nodes(alloc: Global, entry: usize, count: usize) -> Result<Vec<NodeRef>, AllocError>
-    ensures { IfOk result (λ nodes. nodes.items ≡ held entry 0 count) }
+// The way to a place.
+fn way_to(alloc: Global, paths: &Paths, place: usize) -> Result<Way, AllocError>
+    requires { place < length paths.now }
+    ensures { IfOk result (λ way. way ≡ way_of (path_at paths.now place)) }
 {
-    let mut nodes = Vec::new(alloc);
-    let mut n = 0;
-    while n < count {
-        nodes.push(NodeRef::Held(entry, n))?;
-        n += 1;
-    }
-    Ok(nodes)
+    let taken = paths.splits_to(alloc, place)?;
+    let sides = sides_of(alloc, &taken)?;
+    Ok(Way::from_vec(sides))
+}
+
+// The split that an entry puts in at a place has its sides behind all other nodes.
+fn expand(nodes: &mut Vec<NodeRef>, place: usize, entry: usize)
+    requires place { place < length nodes.old.items }
+    requires room { vec_len nodes.old + 2 ≤ vec_capacity nodes.old }
+    ensures { nodes.new.items ≡ set nodes.old.items place (Forked entry (length nodes.old.items)) ++ Held entry 1 ∷ Held entry 2 ∷ [] }
+{
+    let low = nodes.len();
+    nodes[place] = NodeRef::Forked(entry, low);
+    nodes.push_reserved(NodeRef::Held(entry, 1));
+    nodes.push_reserved(NodeRef::Held(entry, 2));
 }

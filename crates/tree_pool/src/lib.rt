@@ -9,10 +9,13 @@ mod closed;
 mod kind;
 mod lease;
 mod ledger;
-mod put;
+mod open;
+mod paths;
 mod refs;
 mod scan;
+mod shape;
 mod verdict;
+mod walk;
 
 pub use answer::LeaseAnswer;
 pub use board::Board;

@@ -1,100 +1,14 @@
-// Searches among the nodes of the board's tree, which stand in preorder.
-ghost use Rattle.std.specs.Prelude.{◌≡◌, ◌≤◌, ◌<◌, ◌+◌, ◌++◌, ◌∷◌, true, false, length, map, reverse, take, List, None, IfOk, IfSome};
-ghost use Rattle.tree_pool.specs.declared.kind.Kind.TheVariants.{LeasedUnder, SplitBy};
-ghost use Rattle.tree_pool.specs.declared.kind.Kind.{Kind as KindOf};
-ghost use Rattle.tree_pool.specs.Ledger.{taken_back, one_taken, given_back, kinds_in, of_kind, lease_count, IsPlaceOf, HasNone};
+// Searches among the nodes of the board's tree.
+ghost use Rattle.std.specs.Prelude.{◌≡◌, ◌≤◌, true, false, map, None, IfOk, IfSome};
+ghost use Rattle.tree_pool.specs.declared.kind.Kind.TheVariants.{LeasedUnder};
+ghost use Rattle.tree_pool.specs.Ledger.{given_back, kinds_in, of_kind, lease_count, IsPlaceOf, HasNone};
 
-use crate::kind::{Kind, kind_at, kind_in};
+use crate::kind::{Kind, kind_at, kind_on};
 use crate::refs::NodeRef;
-use certificate::{Side, Split};
+use certificate::Side;
 use search_node::SplitTaken;
 use search_tree::Entry;
 use std::alloc::{AllocError, Global};
-
-// The splits on the way to a place, the first of them first.
-pub(crate) fn splits_to(
-    alloc: Global,
-    log: &[Entry],
-    nodes: &[NodeRef],
-    place: usize,
-) -> Result<Vec<SplitTaken>, AllocError>
-    requires { place ≤ length nodes.now }
-    ensures { IfOk result (λ taken. taken.items ≡ taken_back (reverse (take place (kinds_in log.now nodes.now))) 0) }
-{
-    let mut taken = Vec::new(alloc);
-    let mut skip: usize = 0;
-    let mut at = place;
-    while at > 0 {
-        at -= 1;
-        let step = step_back(kind_in(log, nodes, at), skip);
-        skip = step.skip;
-        if let Some(split) = step.taken {
-            taken.push(split)?;
-        }
-    }
-    taken.reverse();
-    Ok(taken)
-}
-
-// What a node before a place says of the way to it: a split on the way, and how many more trees are to be skipped.
-#[derive(Clone, Copy)]
-struct Step {
-    taken: Option<SplitTaken>,
-    skip: usize,
-}
-
-fn step_back(kind: Kind, skip: usize) -> Step
-    requires { skip < usize.MAX }
-    ensures way { (before : List KindOf) → taken_back (kind ∷ before) skip ≡ taken_back before result.skip ++ one_taken result.taken }
-    ensures skips { result.skip ≤ skip + 1 }
-{
-    match kind {
-        Kind::SplitBy(split) => step_over(split, skip),
-        Kind::ToDo => past(skip),
-        Kind::LeasedUnder(_) => past(skip),
-        Kind::Ended => past(skip),
-    }
-}
-
-// A leaf is one more tree to be skipped.
-fn past(skip: usize) -> Step
-    requires { skip < usize.MAX }
-    ensures { result ≡ record { taken = None; skip = skip + 1 } }
-{
-    Step {
-        taken: None,
-        skip: skip + 1,
-    }
-}
-
-// At a split with no tree skipped the way is on its low side, with one on its high side; with more the split is passed by.
-fn step_over(split: Split, skip: usize) -> Step
-    ensures way { (before : List KindOf) → taken_back (SplitBy split ∷ before) skip ≡ taken_back before result.skip ++ one_taken result.taken }
-    ensures skips { result.skip ≤ skip + 1 }
-{
-    if skip == 0 {
-        return Step {
-            taken: Some(SplitTaken {
-                split,
-                side: Side::Low,
-            }),
-            skip: 0,
-        };
-    }
-    if skip == 1 {
-        return Step {
-            taken: Some(SplitTaken {
-                split,
-                side: Side::High,
-            }),
-            skip: 0,
-        };
-    }
-    Step {
-        taken: None,
-        skip: skip - 1,
-    }
-}
 
 // The sides of splits.
 pub(crate) fn sides_of(alloc: Global, taken: &[SplitTaken]) -> Result<Vec<Side>, AllocError>
@@ -108,18 +22,60 @@ pub(crate) fn sides_of(alloc: Global, taken: &[SplitTaken]) -> Result<Vec<Side>,
 }
 
 // The place of a leaf that is leased under this number, if there is one.
-pub(crate) fn place_under(log: &[Entry], nodes: &[NodeRef], number: usize) -> Option<usize>
-    ensures under { IfSome result (IsPlaceOf (LeasedUnder number) (kinds_in log.now nodes.now)) }
-    ensures none { result ≡ None → HasNone (LeasedUnder number) (kinds_in log.now nodes.now) }
+pub(crate) fn place_under(
+    log: &[Entry],
+    nodes: &[NodeRef],
+    leased: &[usize],
+    number: usize,
+) -> Option<usize>
+    ensures under { IfSome result (IsPlaceOf (LeasedUnder number) log.now nodes.now) }
+    ensures none { result ≡ None → HasNone (LeasedUnder number) log.now nodes.now }
+{
+    match known_under(log, nodes, leased, number) {
+        Some(place) => Some(place),
+        None => any_under(log, nodes, number),
+    }
+}
+
+// The same among the places of leaves that are known to be leased, the latest first.
+fn known_under(log: &[Entry], nodes: &[NodeRef], leased: &[usize], number: usize) -> Option<usize>
+    ensures under { IfSome result (IsPlaceOf (LeasedUnder number) log.now nodes.now) }
+{
+    let mut at = leased.len();
+    while at > 0 {
+        at -= 1;
+        let place = leased[at];
+        if is_under_at(log, nodes, place, number) {
+            return Some(place);
+        }
+    }
+    None
+}
+
+// The same among all places.
+fn any_under(log: &[Entry], nodes: &[NodeRef], number: usize) -> Option<usize>
+    ensures under { IfSome result (IsPlaceOf (LeasedUnder number) log.now nodes.now) }
+    ensures none { result ≡ None → HasNone (LeasedUnder number) log.now nodes.now }
 {
     let mut at = 0;
     while at < nodes.len() {
-        if is_under(kind_in(log, nodes, at), number) {
+        if is_under_at(log, nodes, at, number) {
             return Some(at);
         }
         at += 1;
     }
     None
+}
+
+// At this place stands a leaf that is leased under this number.
+fn is_under_at(log: &[Entry], nodes: &[NodeRef], place: usize, number: usize) -> bool
+    ensures yes { result ≡ true → IsPlaceOf (LeasedUnder number) log.now nodes.now place }
+    ensures no { result ≡ false → ¬ (IsPlaceOf (LeasedUnder number) log.now nodes.now place) }
+{
+    if place >= nodes.len() {
+        return false;
+    }
+    is_under(kind_on(log, nodes, place), number)
 }
 
 fn is_under(kind: Kind, number: usize) -> bool
@@ -132,15 +88,30 @@ fn is_under(kind: Kind, number: usize) -> bool
     }
 }
 
+// The place of a leaf is known to be leased, where memory is there.
+pub(crate) fn remember(leased: &mut Vec<usize>, place: usize) {
+    let _is_kept = leased.push(place).is_ok();
+}
+
+// The place of a leaf is no longer known to be leased.
+pub(crate) fn forget(leased: &mut Vec<usize>, place: usize) {
+    let mut at = leased.len();
+    while at > 0 {
+        at -= 1;
+        if leased[at] == place {
+            leased.swap_remove(at);
+            return;
+        }
+    }
+}
+
 // The number of leased leaves.
 pub(crate) fn leased_count(log: &[Entry], nodes: &[NodeRef]) -> usize
     ensures { result ≡ lease_count (kinds_in log.now nodes.now) }
 {
     let mut count: usize = 0;
-    let mut at = 0;
-    while at < nodes.len() {
-        count += lease_of(kind_in(log, nodes, at));
-        at += 1;
+    for node in nodes {
+        count += lease_of(kind_at(log, *node));
     }
     count
 }

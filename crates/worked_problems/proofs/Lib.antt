@@ -13,3 +13,5 @@ mod PartedX
 mod PartedSplits
 mod PartedSides
 mod PartedSearch
+mod LeastWhole
+mod LeastWholeSearch

@@ -1,4 +1,4 @@
--- Four small problems.
+-- Five small problems.
 use Rattle.std.specs.Prelude.{pos, negsuc, Bool, true, false, List, [], ◌∷◌, Option, Some, None, codes}
 use Rattle.rational.specs.Rational.{Rational, zero_ℚ, one_ℚ, whole}
 use Rattle.milp.specs.Form.{Entry}
@@ -44,3 +44,7 @@ at_zero = record { column = 0; at = pos 0 }
 -- min 0, x >= 0 and whole
 abbrev pub any_whole : Problem
 any_whole = over_x true [] []
+
+-- min x, 2 <= x <= 5 and whole
+abbrev pub least_whole : Problem
+least_whole = record (over_x true [] (times_x one_ℚ)) { columns = record { name = codes "x"; lower = Some (whole (pos 2)); upper = Some (whole (pos 5)); integer = true } ∷ [] }

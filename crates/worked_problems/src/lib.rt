@@ -1,14 +1,14 @@
 //! Worked problems, each with the law that its search is not hindered: no cause of Overflow or Undecided is there.
 #![tactic(auto)]
 
-ghost use Rattle.std.specs.Prelude.{List, [], ◌∷◌};
-ghost use Rattle.rational.specs.Rational.{Rational, zero_ℚ, one_ℚ};
+ghost use Rattle.std.specs.Prelude.{List, [], ◌∷◌, pos};
+ghost use Rattle.rational.specs.Rational.{Rational, zero_ℚ, one_ℚ, whole};
 ghost use Rattle.milp.specs.Points.{Feasible, IsOptimal, IsUnbounded};
 ghost use Rattle.basis.specs.Bland.{IsRun};
 ghost use Rattle.basis.specs.Node.{system_of};
 ghost use Rattle.basis.specs.declared.Place.TheVariants.{Basic, AtLower, AtUpper};
 ghost use Rattle.search_tree.specs.Nodes.{IsHonestSplit};
-ghost use Rattle.worked_problems.specs.Problems.{endless, pivoted, parted, at_zero, any_whole};
+ghost use Rattle.worked_problems.specs.Problems.{endless, pivoted, parted, at_zero, any_whole, least_whole};
 ghost use Rattle.worked_problems.specs.Unhindered.{AreUnhindered};
 
 use basis::{dictionary_is_unique, ends_are_final, runs_are_one};
@@ -51,3 +51,10 @@ pub fn pivoted_is_unhindered()
     runs_are_one();
     ends_are_final();
 }
+
+/// Of `min x, 2 <= x <= 5 whole` the point 2 is optimal, and its search is not hindered: the optimal point of its relaxation
+/// is whole, so no split is honest.
+pub fn least_whole_is_unhindered()
+    ensures optimal { IsOptimal least_whole (whole (pos 2) ∷ []) }
+    ensures unhindered { AreUnhindered least_whole 0 }
+{}

@@ -1,3 +1,4 @@
+use Rattle.std.proofs.Common.{refl}
 use Rattle.glpsol_cli.specs.Pieces.{Outside}
 use Rattle.glpsol_cli.specs.Stages.{pieces_of}
 use Rattle.glpsol_cli.proofs.Carried.{ended_line, unended_line}
@@ -13,4 +14,4 @@ pub returns-in-Err-clause-written : goal.returns-in-Err-clause-written
 returns-in-Err-clause-written g c =
     let old : Outside = record { taken = g.O.Sink.taken c.args.out.now; told = g.S.Store.told c.args.files.now } in
     let middle : Outside = record { taken = g.O.Sink.taken c.write_pieces.new.out; told = g.S.Store.told c.write_pieces.new.files } in
-    unended_line c.args.certificate c.in-Err.fault (pieces_of c.args.behind.pieces.items) old middle (g.O.Sink.taken c.tell.new.out) c.unwritten_answer.result c.tell.result c.unwritten_answer.ensures c.tell.ensures.same c.in-Err.ensures.ends c.tell.ensures.prefix
+    unended_line c.args.certificate c.in-Err.fault (pieces_of c.args.behind.pieces.items) old middle (g.O.Sink.taken c.tell_unwritten.new.out) c.tell_unwritten.result c.tell_unwritten.result c.tell_unwritten.ensures.answer refl c.in-Err.ensures.ends c.tell_unwritten.ensures.line

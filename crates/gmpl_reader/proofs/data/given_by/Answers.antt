@@ -1,8 +1,13 @@
-use Rattle.std.proofs.Common.{◌∙◌, ap, subst, Ok, Err}
+use Rattle.std.proofs.Common.{◌∙◌, List, ap, sym, subst, Ok, Err}
+use Rattle.gmpl_resolved.specs.declared.statement.Numbered.{Numbered}
+use Rattle.gmpl_rows.specs.Premises.{AreDifferent}
 use Rattle.gmpl_reader.specs.Names.{names_of}
 use Rattle.gmpl_load.specs.Texts.{all_tables, IsFault}
 use Rattle.gmpl_reader.proofs.Given.{is_given, same_objects}
 use Rattle.gmpl_reader.proofs.data.given_by.Goals as goal
+
+pub names_of-requires : goal.names_of-requires
+names_of-requires c = subst (λ (xs : List Numbered). AreDifferent (names_of xs)) (sym c.as_slice-statements.ensures) c.requires
 
 pub returns-in-Ok-clause-tables : goal.returns-in-Ok-clause-tables
 returns-in-Ok-clause-tables c =

@@ -1,25 +1,21 @@
-use Rattle.std.proofs.Common.{◌≡◌, ◌∙◌, ◌+◌, ◌-◌, List, sym, ap, subst, Option, option_map}
+use Rattle.std.proofs.Common.{◌≡◌, ◌∙◌, ◌+◌, ◌-◌, List, refl, sym, ap, subst, Option, option_map}
 use Rattle.rational.specs.Rational.{Rational}
 use Rattle.milp.specs.Points.{objective_value}
 use Rattle.certificate.specs.declared.split.Side.{Side as SideOf}
-use Rattle.search_tree.specs.declared.leaf.Leaf.TheVariants.{Leased}
 use Rattle.search_tree.specs.declared.event.Entry.{Entry}
 use Rattle.search_tree.specs.Tree.{made, granted, replaced}
 use Rattle.search_tree.specs.Board.{Board}
 use Rattle.search_tree.specs.Steps.{MayGraft, IsGraft, IsReplay}
 use Rattle.search_tree.proofs.Laws.{replay_kept}
 use Rattle.tree_pool.proofs.Grafts.{graft_is, graft_replays, made_grafted, granted_grafted, made_fits}
-use Rattle.tree_pool.proofs.KindLemmas.{same_place}
+use Rattle.tree_pool.proofs.Unders.{put_is}
 use Rattle.tree_pool.proofs.board.Board.graft.Goals as goal
 
 pub graft-requires : goal.graft-requires
 graft-requires c =
     let inside = c.self.inside in
     let b : Board = record { problem = inside.problem; cuts = inside.cuts; split_limit = inside.split_limit; pivot_limit = inside.pivot_limit; tree = inside.ledger.tree; best = inside.ledger.best; log = inside.ledger.log } in
-    let P : Board → Type 0 = λ d. (way : List SideOf) × MayGraft d way c.args.lease c.args.tree in
-    let may = subst P (sym c.self.view_is) c.requires in
-    let number = same_place inside.ledger.tree c.in-Some.place may.0 c.args.lease ((replay_kept b c.self.invariant.3).one_lease c.args.lease.number) c.in-Some.ensures.under may.1.is_leased in
-    record { place = record { way = may.0; leaf = Leased c.args.lease; there = may.1.is_leased; number = number } }
+    record { one = (replay_kept b c.self.invariant.3).one_lease c.args.lease.number }
 
 pub invariant_of-self-2 : goal.invariant_of-self-2
 invariant_of-self-2 c =
@@ -27,9 +23,9 @@ invariant_of-self-2 c =
     let b : Board = record { problem = inside.problem; cuts = inside.cuts; split_limit = inside.split_limit; pivot_limit = inside.pivot_limit; tree = inside.ledger.tree; best = inside.ledger.best; log = inside.ledger.log } in
     let P : Board → Type 0 = λ d. (way : List SideOf) × MayGraft d way c.args.lease c.args.tree in
     let may = subst P (sym c.self.view_is) c.requires in
-    let number = same_place inside.ledger.tree c.in-Some.place may.0 c.args.lease ((replay_kept b c.self.invariant.3).one_lease c.args.lease.number) c.in-Some.ensures.under may.1.is_leased in
+    let one = (replay_kept b c.self.invariant.3).one_lease c.args.lease.number in
     let new = c.graft.new.self in
-    let e : new.tree ≡ replaced inside.ledger.tree may.0 c.args.tree = c.in_ok-graft.ensures.tree may.0 (Leased c.args.lease) may.1.is_leased number in
+    let e : new.tree ≡ replaced inside.ledger.tree may.0 c.args.tree = c.in_ok-graft.ensures.tree ∙ put_is inside.ledger.tree may.0 c.args.lease c.args.lease.number c.args.tree may.1.is_leased refl one in
     let replays = graft_replays b may.0 c.args.seat c.args.lease c.args.tree new.tree inside.best_value may.1 c.self.invariant.3 c.self.invariant.2 e in
     let Q : List Entry → Type 0 = λ entries. IsReplay (record { problem = inside.problem; cuts = inside.cuts; split_limit = inside.split_limit; pivot_limit = inside.pivot_limit; tree = new.tree; best = inside.ledger.best; log = entries }) in
     let best : new.best ≡ inside.ledger.best = c.in_ok-graft.ensures.best in
@@ -46,9 +42,9 @@ returns-clause-ok c =
     let b : Board = record { problem = inside.problem; cuts = inside.cuts; split_limit = inside.split_limit; pivot_limit = inside.pivot_limit; tree = inside.ledger.tree; best = inside.ledger.best; log = inside.ledger.log } in
     let P : Board → Type 0 = λ d. (way : List SideOf) × MayGraft d way c.args.lease c.args.tree in
     let may = subst P (sym c.self.view_is) c.requires in
-    let number = same_place inside.ledger.tree c.in-Some.place may.0 c.args.lease ((replay_kept b c.self.invariant.3).one_lease c.args.lease.number) c.in-Some.ensures.under may.1.is_leased in
+    let one = (replay_kept b c.self.invariant.3).one_lease c.args.lease.number in
     let new = c.graft.new.self in
-    let e : new.tree ≡ replaced inside.ledger.tree may.0 c.args.tree = c.in_ok-graft.ensures.tree may.0 (Leased c.args.lease) may.1.is_leased number in
+    let e : new.tree ≡ replaced inside.ledger.tree may.0 c.args.tree = c.in_ok-graft.ensures.tree ∙ put_is inside.ledger.tree may.0 c.args.lease c.args.lease.number c.args.tree may.1.is_leased refl one in
     let is = graft_is b may.0 c.args.seat c.args.lease c.args.tree new.tree inside.best_value may.1 c.self.invariant.2 e in
     let Q : List Entry → Type 0 = λ entries. IsGraft b c.args.seat c.args.lease c.args.tree inside.best_value (record { problem = inside.problem; cuts = inside.cuts; split_limit = inside.split_limit; pivot_limit = inside.pivot_limit; tree = new.tree; best = inside.ledger.best; log = entries }) in
     let R : Option (List Rational) → Type 0 = λ o. IsGraft b c.args.seat c.args.lease c.args.tree inside.best_value (record { problem = inside.problem; cuts = inside.cuts; split_limit = inside.split_limit; pivot_limit = inside.pivot_limit; tree = new.tree; best = o; log = new.log }) in

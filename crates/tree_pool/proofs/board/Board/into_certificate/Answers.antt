@@ -3,7 +3,7 @@ use Rattle.verdicts.specs.Certificate.{Certificate}
 use Rattle.cert_check.specs.Outcome.{Acceptance, outcome, trials}
 use Rattle.search_tree.specs.Finished.{certificate_of}
 use Rattle.search_tree.proofs.Laws.{finished_accepted}
-use Rattle.tree_pool.proofs.Slots.{if_ok}
+use Rattle.tree_pool.proofs.Results.{if_ok}
 use Rattle.tree_pool.proofs.board.Board.into_certificate.Goals as goal
 
 pub returns-clause-accepted : goal.returns-clause-accepted

@@ -1,27 +1,15 @@
-use Rattle.std.proofs.Common.{◌≡◌, ◌∙◌, map, ap}
-use Rattle.search_tree.specs.Slots.{slots_of}
-use Rattle.tree_pool.specs.LogNodes.{nodes_in}
-use Rattle.tree_pool.specs.Kinds.{kind_of}
-use Rattle.tree_pool.specs.Ledger.{kinds_in}
-use Rattle.tree_pool.specs.declared.kind.Kind.TheVariants as kind
-use Rattle.tree_pool.specs.Ledger.{IsPlaceOf}
-use Rattle.tree_pool.specs.Places.{IsTodoAt}
-use Rattle.tree_pool.proofs.Slots.{if_some}
-use Rattle.tree_pool.proofs.KindLemmas.{kinds_are, none_todo, todo_at}
+use Rattle.std.proofs.Common.{[], subst}
+use Rattle.search_tree.specs.Tree.{IsTodo, AllLeaves}
+use Rattle.tree_pool.specs.declared.kind.Kind.TheVariants.{ToDo}
+use Rattle.tree_pool.specs.Grown.{tree_after}
+use Rattle.tree_pool.specs.Ledger.{Ledger}
+use Rattle.tree_pool.proofs.KindLemmas.{none_in, none_todo}
 use Rattle.tree_pool.proofs.ledger.Ledger.chosen.Goals as goal
-
-pub returns-clause-todo : goal.returns-clause-todo
-returns-clause-todo c =
-    let kinds = kinds_in c.deref.result.now c.deref-2.result.now in
-    let nodes : nodes_in c.deref.result.now c.deref-2.result.now ≡ slots_of c.args.self.now.tree =
-    ap (λ log. nodes_in log c.deref-2.result.now) c.deref.ensures.value ∙ ap (nodes_in c.self.inside.log.items) c.deref-2.ensures.value ∙ c.self.invariant.0 ∙ ap (λ l. slots_of l.tree) c.self.view_is in
-    let are : kinds ≡ map kind_of (slots_of c.args.self.now.tree) = kinds_are c.deref.result.now c.deref-2.result.now c.args.self.now.tree nodes in
-    if_some c.chosen.result (IsPlaceOf kind.ToDo kinds) (IsTodoAt c.args.self.now.tree) (λ place h. todo_at kinds c.args.self.now.tree place are h) c.chosen.ensures.todo
 
 pub returns-clause-none : goal.returns-clause-none
 returns-clause-none c = λ e.
-    let kinds = kinds_in c.deref.result.now c.deref-2.result.now in
-    let nodes : nodes_in c.deref.result.now c.deref-2.result.now ≡ slots_of c.args.self.now.tree =
-    ap (λ log. nodes_in log c.deref-2.result.now) c.deref.ensures.value ∙ ap (nodes_in c.self.inside.log.items) c.deref-2.ensures.value ∙ c.self.invariant.0 ∙ ap (λ l. slots_of l.tree) c.self.view_is in
-    let are : kinds ≡ map kind_of (slots_of c.args.self.now.tree) = kinds_are c.deref.result.now c.deref-2.result.now c.args.self.now.tree nodes in
-    none_todo kinds c.args.self.now.tree are (c.chosen.ensures.none e)
+    let log = c.self.inside.log.items in
+    let refs = c.self.inside.nodes.items in
+    let none = none_in ToDo log c.deref.result.now refs c.deref-2.result.now c.deref.ensures.value c.deref-2.ensures.value (c.chosen.ensures.none e) in
+    let P : Ledger → Type 0 = λ l. AllLeaves (λ sides leaf. ¬ (IsTodo leaf)) [] l.tree in
+    subst P c.self.view_is (none_todo log (tree_after log) c.self.inside.paths refs c.self.invariant.0 none)

@@ -1,0 +1,88 @@
+-- Where a problem's search is not hindered, nothing stands in the way of the verdict of a text that declares it.
+use Rattle.std.proofs.Common.{◌≡◌, ◌∙◌, ℕ, ◌<◌, ◌≤◌, List, [], ◌∷◌, length, Some, None, Ok, refl, sym, ap, subst, arith}
+use Rattle.std.specs.Prelude.{codes}
+use Rattle.rational.specs.Rational.{Rational}
+use Rattle.milp.specs.Problem.{Problem}
+use Rattle.milp.specs.Points.{IsOptimal}
+use Rattle.fraction.specs.declared.frac.NoFit.{NoFit}
+use Rattle.search_tree.specs.Board.{Board}
+use Rattle.search_tree.specs.Kept.{IsKept}
+use Rattle.search_tree.specs.Steps.{IsReplay}
+use Rattle.search_tree.specs.Tree.{made}
+use Rattle.branch_search.specs.Faults.{IsStuckAt, IsRunTooLong, IsOutOfSplits}
+use Rattle.branch_search.specs.WholeFaults.{IsWanted, searched}
+use Rattle.branch_search.specs.declared.whole_fault.Wanted.{Wanted}
+use Rattle.worked_problems.specs.Unhindered.{IsUnhindered, AreUnhindered}
+use Rattle.mps_reader.specs.FreeMps.{declared}
+use Rattle.outside.specs.Told.{Has}
+use Rattle.command_line.proofs.Laws.{plain_settings, plain_words}
+use Rattle.command_line.specs.declared.settings.Settings.{Settings}
+use Rattle.command_line.specs.declared.settings.Task.TheVariants.{CheckCertificate}
+use Rattle.glpsol_cli.specs.Asked.{ToldNames}
+use Rattle.glpsol_cli.specs.Meaning.{Meaning, end_of, IsAsked, meaning_of}
+use Rattle.glpsol_cli.specs.Cause.{OfSearch, IsOverflow, IsUndecided}
+use Rattle.glpsol_cli.specs.Complete.{IsComplete}
+use Rattle.glpsol_cli.specs.WorkedExample.{example_words}
+use Rattle.glpsol_cli.proofs.Completes.{declared_same}
+use Rattle.glpsol_cli.specs.declared.answer.Limit.{Limit}
+use Rattle.glpsol_cli.specs.declared.answer.Limit.TheVariants.{Pivots, Splits}
+use Rattle.glpsol_cli.specs.declared.answer.OverflowSite.{OverflowSite}
+use Rattle.glpsol_cli.specs.declared.answer.OverflowSite.TheVariants.{AtNode, InPart}
+
+module _ (text : List ℕ) (p : Problem) (count : ℕ) (declares : declared text ≡ Ok p) (free : AreUnhindered p count) (few : count < 10000) (replays : (b : Board) → IsReplay b → IsKept b) where
+  asked : IsAsked plain_settings (text ∷ []) p
+  asked = ap (λ r. Some (end_of plain_settings r)) declares
+
+  -- what holds of a problem that is searched holds of what is searched of this one
+  of_this : (wanted : Wanted) (P : Problem → Settings → Type 0) → OfSearch wanted P plain_settings (text ∷ []) → IsWanted p wanted × P (searched p wanted) plain_settings
+  of_this wanted P h = subst (λ q. IsWanted q wanted × P (searched q wanted) plain_settings) (declared_same h.problem p (sym h.asked ∙ asked)) (h.is_wanted, h.holds)
+
+  fits : (at : OverflowSite) (e : NoFit) → ¬ (IsOverflow at e plain_settings (text ∷ []))
+  fits (AtNode wanted node) e h =
+      let stuck = of_this wanted (λ p settings. IsStuckAt p [] settings.split_limit (record { node = node; fault = e })) h in
+      let search = free wanted stuck.0 in
+      search.fits 10000 (record { node = node; fault = e }) stuck.1
+  fits (InPart part) e h = solves_only h.name h.checks
+    where
+      solves_only : (name : List ℕ) → plain_settings.task ≡ CheckCertificate name → ⊥
+      solves_only name e = cc
+
+  never_all_made : (q : Problem) → IsUnhindered q count → (board : Board) → ¬ (IsOutOfSplits q [] 10000 100000 board)
+  never_all_made q search board h =
+      let least : made board.tree ≤ count = search.few_splits board (replays board h.replay) h.problem h.cuts in
+      let all : made board.tree ≡ 10000 = h.all_made in
+      absurd (omega (arith, few, least, all))
+
+  ends : (limit : Limit) → ¬ (IsUndecided limit plain_settings (text ∷ []))
+  ends (Pivots wanted bases) h =
+      let long = of_this wanted (λ p settings. IsRunTooLong p [] settings.split_limit settings.pivot_limit bases) h in
+      let search = free wanted long.0 in
+      search.ends 10000 100000 bases long.1
+  ends (Splits wanted board) h =
+      let out = of_this wanted (λ p settings. IsOutOfSplits p [] settings.split_limit settings.pivot_limit board) h in
+      never_all_made (searched p wanted) (free wanted out.0) board out.1
+
+  -- nothing stands behind `solve`
+  behind : (meaning : Meaning) → meaning_of plain_settings (text ∷ []) ≡ Some meaning → (x : List Rational) → IsOptimal p x → (meaning.behind x).fault ≡ None
+  behind meaning means x optimal = subst (λ (m : Meaning). (m.behind x).fault ≡ None) (some_same means) refl
+    where
+      some_same : {a b : Meaning} → Some a ≡ Some b → a ≡ b
+      some_same e = cc
+
+  pub is_complete : length text ≤ 16777216 → (told : ToldNames) (files_rose out_rose : Type 0) → Has (told (codes "model")) text → (files_rose → ⊥) → (out_rose → ⊥) → IsComplete example_words told files_rose out_rose
+  is_complete short told files_rose out_rose has files_held out_held = record {
+    settings = plain_settings;
+    texts = text ∷ [];
+    tables = [];
+    problem = p;
+    asks = plain_words;
+    solves = tt;
+    has = (has, short, tt);
+    tables_told = tt;
+    asked = asked;
+    fits = fits;
+    ends = ends;
+    behind = behind;
+    files_held = files_held;
+    out_held = out_held;
+  }
