@@ -12,6 +12,7 @@ ghost use Rattle.branch_search.specs.Faults.{IsFault};
 use crate::fault::SearchFault;
 use crate::settling::{Round, settle};
 use crate::{Treatment, treat};
+use candidate::Proposer;
 use search_node::Node;
 use search_tree::{Hint, Lease, ways_of_boards};
 use simplex::root_is_over_columns;
@@ -23,6 +24,7 @@ pub(crate) fn round(
     alloc: Global,
     board: &mut Board,
     pivot_limit: u32,
+    proposer: &mut Proposer,
 ) -> Result<Round, SearchFault>
     requires cuts { board.old.cuts ≡ [] }
     requires pivots { board.old.pivot_limit ≡ pivot_limit }
@@ -31,7 +33,9 @@ pub(crate) fn round(
 {
     match board.lease(alloc, 0)? {
         LeaseAnswer::Idle(_) => Ok(Round::Idle),
-        LeaseAnswer::Leased(lease, hint) => work(alloc, board, pivot_limit, lease, hint),
+        LeaseAnswer::Leased(lease, hint) => {
+            work(alloc, board, pivot_limit, lease, hint, proposer)
+        }
     }
 }
 
@@ -42,6 +46,7 @@ fn work(
     pivot_limit: u32,
     lease: Lease,
     hint: Hint,
+    proposer: &mut Proposer,
 ) -> Result<Round, SearchFault>
     requires open { IsOpen board.old.tree lease }
     requires best { lease.best ≡ value_of board.old }
@@ -51,7 +56,7 @@ fn work(
     ensures fault { IfErr result (IsFault board.old.problem board.old.cuts board.old.split_limit board.old.pivot_limit) }
 {
     let node = leased_node(alloc, board, &lease)?;
-    let treatment = treatment_of(alloc, board, &node, pivot_limit, &hint)?;
+    let treatment = treatment_of(alloc, board, &node, pivot_limit, &hint, proposer)?;
     settle(alloc, board, lease, node, treatment)
 }
 
@@ -73,6 +78,7 @@ fn treatment_of(
     node: &Node,
     pivot_limit: u32,
     hint: &Hint,
+    proposer: &mut Proposer,
 ) -> Result<Treatment, AllocError>
     requires honest { IsHonestWay board.now.problem board.now.cuts board.now.split_limit (sides_of node.now.splits) }
     requires cuts { board.now.cuts ≡ [] }
@@ -83,5 +89,14 @@ fn treatment_of(
     let cuts = board.cuts();
     let best = board.best_value();
     root_is_over_columns(problem);
-    treat(alloc, problem, cuts, node, &best, pivot_limit, hint)
+    treat(
+        alloc,
+        problem,
+        cuts,
+        node,
+        &best,
+        pivot_limit,
+        hint,
+        proposer,
+    )
 }

@@ -11,6 +11,7 @@ ghost use Rattle.branch_search.specs.Plain.{NoneInteger, IsPlainCertificate};
 use crate::fault::SearchFault;
 use crate::rounds::round;
 use crate::settling::Round;
+use candidate::Proposer;
 use certificate::{Certificate, DerivedRows};
 use instance::Instance;
 use search_tree::{finished_boards, kept_boards};
@@ -43,12 +44,18 @@ pub fn search(
         split_limit,
         pivot_limit,
     )?;
-    run(alloc, &mut board, pivot_limit)?;
+    let mut proposer = Proposer::new(alloc, pivot_limit);
+    run(alloc, &mut board, pivot_limit, &mut proposer)?;
     ended(alloc, board)
 }
 
 // Round after round, until no leaf is to be worked on.
-fn run(alloc: Global, board: &mut Board, pivot_limit: u32) -> Result<(), SearchFault>
+fn run(
+    alloc: Global,
+    board: &mut Board,
+    pivot_limit: u32,
+    proposer: &mut Proposer,
+) -> Result<(), SearchFault>
     requires cuts { board.old.cuts ≡ [] }
     requires pivots { board.old.pivot_limit ≡ pivot_limit }
     requires going { IsGoing board.old }
@@ -58,13 +65,18 @@ fn run(alloc: Global, board: &mut Board, pivot_limit: u32) -> Result<(), SearchF
 {
     let mut more = true;
     while more {
-        more = goes_on(alloc, board, pivot_limit)?;
+        more = goes_on(alloc, board, pivot_limit, proposer)?;
     }
     Ok(())
 }
 
 // One more round; whether it found a leaf to work on.
-fn goes_on(alloc: Global, board: &mut Board, pivot_limit: u32) -> Result<bool, SearchFault>
+fn goes_on(
+    alloc: Global,
+    board: &mut Board,
+    pivot_limit: u32,
+    proposer: &mut Proposer,
+) -> Result<bool, SearchFault>
     requires cuts { board.old.cuts ≡ [] }
     requires pivots { board.old.pivot_limit ≡ pivot_limit }
     requires going { IsGoing board.old }
@@ -74,7 +86,7 @@ fn goes_on(alloc: Global, board: &mut Board, pivot_limit: u32) -> Result<bool, S
 {
     board.keeps_its_log();
     kept_boards();
-    match round(alloc, board, pivot_limit)? {
+    match round(alloc, board, pivot_limit, proposer)? {
         Round::Worked => Ok(true),
         Round::Left => Ok(true),
         Round::Idle => Ok(false),

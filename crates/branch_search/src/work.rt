@@ -11,7 +11,7 @@ ghost use Rattle.branch_search.specs.Treatment.{IsTreatment};
 
 use crate::testing::{Verdict, test_optimum};
 use crate::treatment::Treatment;
-use candidate::{Candidate, ProposedOptimum, ProposedRay, propose};
+use candidate::{Candidate, ProposedOptimum, ProposedRay, Proposer};
 use cert_check::is_improving_ray;
 use certificate::{DerivedRows, Weights};
 use fraction::{Frac, NoFit};
@@ -34,19 +34,13 @@ pub fn treat(
     best: &Option<Frac>,
     pivot_limit: u32,
     hint: &Hint,
+    proposer: &mut Proposer,
 ) -> Result<Treatment, AllocError>
     requires columns { IsOverColumns problem.now cuts.now (sides_of node.now.splits) }
     ensures { IfOk result (IsTreatment problem.now cuts.now pivot_limit (sides_of node.now.splits) best.now) }
 {
     let cutoff = cutoff_of(problem, best);
-    let candidate = propose(
-        alloc,
-        problem,
-        &node.splits,
-        hint.basis(),
-        pivot_limit,
-        cutoff,
-    )?;
+    let candidate = proposer.propose(alloc, problem, &node.splits, hint.basis(), cutoff)?;
     treat_with(alloc, problem, cuts, node, best, pivot_limit, candidate)
 }
 

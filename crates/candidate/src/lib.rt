@@ -8,9 +8,11 @@
 mod branching;
 mod dual;
 mod ending;
+mod gains;
 mod primal;
 mod proposal;
 mod reading;
 mod search;
+mod spread;
 
-pub use proposal::{Candidate, ProposedOptimum, ProposedRay, propose};
+pub use proposal::{Candidate, ProposedOptimum, ProposedRay, Proposer};

@@ -1,14 +1,16 @@
 // What is proposed.
 use crate::ending::End;
+use crate::gains::{Departure, Gains};
 use crate::reading::{bound, contradiction, endless_ray, optimum};
-use crate::search::run;
+use crate::search::{Aim, Found, objective, run};
 use certificate::Weights;
 use fraction::Frac;
 use instance::{Instance, Point};
 use search_node::{Basis, SplitsTaken};
 use sparse_factors::Stop;
 use std::alloc::{AllocError, Global};
-use tableau::{State, model_of, start_of};
+use std::mem;
+use tableau::{Model, State, model_of, start_of};
 
 /// A point, weights that may show that none is better, and the basis that both were read from. Where integer columns are not
 /// whole, `column` is the one of them that may be split, and `told` may have weights of what rests at the point that make it alone.
@@ -42,48 +44,108 @@ pub enum Candidate {
     Unbounded(ProposedRay),
 }
 
-/// Looks for a verdict on the linear program that the problem is below these splits, its columns taken as continuous. It
-/// starts at the basis `start`, or at that of the rows, and takes at most `steps` steps, or a million where that is 0. It looks for a
-/// least value, of the objective's form or of the form with its sign turned, and ends where it knows that none is below the
-/// cutoff. It may give up at any time.
-pub fn propose(
-    alloc: Global,
-    problem: &Instance,
-    splits: &SplitsTaken,
-    start: Option<&Basis>,
+/// What proposes for the nodes of one problem. What is the same at each of them is made once, and what splits brought is kept.
+#[derive(Drop)]
+pub struct Proposer {
     steps: u32,
-    cutoff: Option<Frac>,
-) -> Result<Option<Candidate>, AllocError> {
-    match searched(alloc, problem, splits, start, steps, cutoff) {
-        Ok(candidate) => Ok(Some(candidate)),
-        Err(Stop::NoMemory) => Err(AllocError),
-        Err(_) => Ok(None),
+    model: Option<Model>,
+    gains: Gains,
+}
+
+impl Proposer {
+    /// One that takes at most `steps` steps at a node, or a million where that is 0: this search can go in a circle, so it gives up in
+    /// the end where it has no limit, too.
+    pub fn new(alloc: Global, steps: u32) -> Proposer {
+        Proposer {
+            steps: if steps == 0 { MOST_STEPS } else { steps },
+            model: None,
+            gains: Gains::new(alloc),
+        }
+    }
+
+    /// Looks for a verdict on the linear program that the problem is below these splits, its columns taken as continuous. It starts
+    /// at the basis `start`, or at that of the rows. It looks for a least value, of the objective's form or of the form with its sign
+    /// turned, and ends where it knows that none is below the cutoff. It may give up at any time.
+    pub fn propose(
+        &mut self,
+        alloc: Global,
+        problem: &Instance,
+        splits: &SplitsTaken,
+        start: Option<&Basis>,
+        cutoff: Option<Frac>,
+    ) -> Result<Option<Candidate>, AllocError> {
+        match self.searched(alloc, problem, splits, start, &cutoff) {
+            Ok(candidate) => Ok(Some(candidate)),
+            Err(Stop::NoMemory) => Err(AllocError),
+            Err(_) => Ok(None),
+        }
+    }
+
+    fn searched(
+        &mut self,
+        alloc: Global,
+        problem: &Instance,
+        splits: &SplitsTaken,
+        start: Option<&Basis>,
+        cutoff: &Option<Frac>,
+    ) -> Result<Candidate, Stop> {
+        let mut model = self.taken_model(alloc, problem)?;
+        model.set_bounds(problem, splits)?;
+        if !model.has_bounds_in_order() {
+            return Err(Stop::NoFit);
+        }
+        let aim = Aim {
+            splits,
+            cutoff,
+            is_cold: start.is_none(),
+        };
+        let start = start_of(alloc, &model, start)?;
+        let mut state = State::at_basis(alloc, model, start, self.steps)?;
+        let found = self.found(alloc, problem, &mut state, aim);
+        self.model = Some(state.into_model());
+        found
+    }
+
+    // The linear program, which is put back behind the search, or made anew where it wasn't.
+    fn taken_model(&mut self, alloc: Global, problem: &Instance) -> Result<Model, Stop> {
+        match mem::replace(&mut self.model, None) {
+            Some(model) => Ok(model),
+            None => {
+                self.gains.begin(alloc, problem.columns().len())?;
+                model_of(alloc, problem)
+            }
+        }
+    }
+
+    fn found(
+        &mut self,
+        alloc: Global,
+        problem: &Instance,
+        state: &mut State,
+        aim: Aim<'_>,
+    ) -> Result<Candidate, Stop> {
+        let Found { end, departure } = run(state, alloc, aim)?;
+        match end {
+            End::Bounded => {
+                self.note(state, departure);
+                bound(alloc, state)
+            }
+            End::Optimal => {
+                self.note(state, departure);
+                optimum(alloc, problem.columns(), state, &self.gains, aim.cutoff)
+            }
+            End::Infeasible(blocked) => contradiction(alloc, state, &blocked),
+            End::Unbounded(endless) => endless_ray(alloc, state, &endless),
+        }
+    }
+
+    // What the split above brought.
+    fn note(&mut self, state: &State, departure: Option<Departure>) {
+        match (departure, objective(state)) {
+            (Some(departure), Ok(value)) => self.gains.note(&departure, value),
+            _ => {}
+        }
     }
 }
 
-// This search can go in a circle, so it gives up in the end where it has no limit, too.
-fn most_steps(steps: u32) -> u32 {
-    if steps == 0 { 1_000_000 } else { steps }
-}
-
-fn searched(
-    alloc: Global,
-    problem: &Instance,
-    splits: &SplitsTaken,
-    start: Option<&Basis>,
-    steps: u32,
-    cutoff: Option<Frac>,
-) -> Result<Candidate, Stop> {
-    let model = model_of(alloc, problem, splits)?;
-    if !model.has_bounds_in_order() {
-        return Err(Stop::NoFit);
-    }
-    let start = start_of(alloc, &model, start)?;
-    let mut state = State::at_basis(alloc, model, start, most_steps(steps))?;
-    match run(&mut state, alloc, &cutoff)? {
-        End::Bounded => bound(alloc, &state),
-        End::Optimal => optimum(alloc, problem.columns(), &mut state),
-        End::Infeasible(blocked) => contradiction(alloc, &state, &blocked),
-        End::Unbounded(endless) => endless_ray(alloc, &state, &endless),
-    }
-}
+const MOST_STEPS: u32 = 1_000_000;

@@ -4,6 +4,7 @@ ghost use Rattle.certificate.specs.Written.{count_max, next_rank};
 
 use crate::branching::advised;
 use crate::ending::{Blocked, Endless};
+use crate::gains::Gains;
 use crate::proposal::{Candidate, ProposedOptimum, ProposedRay};
 use certificate::{Item, Items, Weights};
 use fraction::Frac;
@@ -29,12 +30,14 @@ pub(crate) fn optimum(
     alloc: Global,
     columns: &[Column],
     state: &mut State,
+    gains: &Gains,
+    cutoff: &Option<Frac>,
 ) -> Result<Candidate, Stop> {
     let weights = cost_weights(alloc, state)?;
     let point = point(alloc, state)?;
     let places = places_of(alloc, &state.model, &state.places, &state.at_upper)?;
     let basis = Basis::from_vec(places);
-    let column = advised(alloc, columns, state)?;
+    let column = advised(alloc, columns, state, gains, cutoff)?;
     Ok(Candidate::Optimal(ProposedOptimum {
         point,
         weights,

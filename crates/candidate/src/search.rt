@@ -1,8 +1,11 @@
 // The search from a basis to an end.
 use crate::dual::dual_step;
 use crate::ending::{End, Step};
+use crate::gains::{Departure, departure_of};
 use crate::primal::primal_step;
+use crate::spread::spread_costs;
 use fraction::Frac;
+use search_node::SplitsTaken;
 use sparse_factors::{Stop, add, copied, difference, filled, fused, number_at, put};
 use std::alloc::Global;
 use tableau::{State, TieRule};
@@ -10,22 +13,60 @@ use tableau::{State, TieRule};
 // How often a search whose numbers did not fit is taken up again.
 const TRIES: u32 = 6;
 
+/// What a search is to find: the least value, if it is below the cutoff, below these splits. It is cold where it doesn't begin at the
+/// basis of a node above.
+#[derive(Clone, Copy)]
+pub(crate) struct Aim<'a> {
+    pub splits: &'a SplitsTaken,
+    pub cutoff: &'a Option<Frac>,
+    pub is_cold: bool,
+}
+
+/// What it comes to, and where it began.
+#[derive(Drop)]
+pub(crate) struct Found {
+    pub end: End,
+    pub departure: Option<Departure>,
+}
+
 /// From this basis to an end. Where a number does not fit, the basis is factored anew and ties are broken by the next
 /// rule, a few times.
-pub(crate) fn run(state: &mut State, alloc: Global, cutoff: &Option<Frac>) -> Result<End, Stop> {
+pub(crate) fn run(state: &mut State, alloc: Global, aim: Aim<'_>) -> Result<Found, Stop> {
+    match run_once(state, alloc, aim) {
+        Err(Stop::NoFit) => {}
+        outcome => return outcome,
+    }
+    let later = Aim {
+        is_cold: false,
+        ..aim
+    };
     for _ in 0..TRIES {
-        match run_once(state, alloc, cutoff) {
-            Err(Stop::NoFit) => {}
-            outcome => return outcome,
-        }
         state.ties = next_rule(state.ties);
         state.steps_between = (state.steps_between / 2).max(4);
         state.try_to_refactor(alloc)?;
+        match run_once(state, alloc, later) {
+            Err(Stop::NoFit) => {}
+            outcome => return outcome,
+        }
     }
-    run_once(state, alloc, cutoff)
+    Err(Stop::NoFit)
 }
 
-fn run_once(state: &mut State, alloc: Global, cutoff: &Option<Frac>) -> Result<End, Stop> {
+fn run_once(state: &mut State, alloc: Global, aim: Aim<'_>) -> Result<Found, Stop> {
+    begin(state, alloc)?;
+    let departure = departure_of(state, aim.splits);
+    if aim.is_cold && !state.is_feasible() {
+        spread_costs(state)?;
+    }
+    let end = match dual_phase(state, alloc, aim.cutoff)? {
+        Some(end) => end,
+        None => finish(state, alloc)?,
+    };
+    Ok(Found { end, departure })
+}
+
+// Values and prices at the basis. Prices that are wrong are made right.
+fn begin(state: &mut State, alloc: Global) -> Result<(), Stop> {
     state.stalls = 0;
     state.costs = copied(alloc, &state.model.costs)?;
     state.costs_are_shifted = false;
@@ -40,10 +81,7 @@ fn run_once(state: &mut State, alloc: Global, cutoff: &Option<Frac>) -> Result<E
             shift_costs(state, &wrong)?;
         }
     }
-    match dual_phase(state, alloc, cutoff)? {
-        Some(end) => Ok(end),
-        None => finish(state, alloc),
-    }
+    Ok(())
 }
 
 // With the true costs to the best point.
@@ -132,7 +170,8 @@ fn is_at_least(state: &State, least: &Frac) -> bool {
     }
 }
 
-fn objective(state: &State) -> Result<Frac, Stop> {
+/// The objective's value at the basis, for the true costs.
+pub(crate) fn objective(state: &State) -> Result<Frac, Stop> {
     let mut value = Frac::zero();
     for v in 0..state.model.matrix.columns {
         value = fused(state.model.cost_of(v), state.value_of(v), value)?;

@@ -2,7 +2,7 @@
 // what the search proposes.
 use crate::texts::{bytes_of, cut, in_marks, numbers_of, point_of};
 use branch_search::{Treatment, VerdictFault, solve, treat_with};
-use candidate::{Candidate, ProposedOptimum, ProposedRay, propose};
+use candidate::{Candidate, ProposedOptimum, ProposedRay, Proposer};
 use certificate::{Certificate, DerivedRows, Item, Items, Weights, text};
 use fraction::Frac;
 use instance::{Column, Instance};
@@ -64,7 +64,13 @@ fn proposed_and_found(alloc: Global, problem: &Instance) -> Result<String, Alloc
 
 // What the search proposes.
 fn proposed(alloc: Global, problem: &Instance) -> Result<&'static str, AllocError> {
-    let candidate = propose(alloc, problem, &SplitsTaken::new(alloc), None, 100, None)?;
+    let candidate = Proposer::new(alloc, 100).propose(
+        alloc,
+        problem,
+        &SplitsTaken::new(alloc),
+        None,
+        None,
+    )?;
     let word = match &candidate {
         Some(Candidate::Optimal(_)) => "optimal",
         Some(Candidate::Bounded(_)) => "bounded",

@@ -1,7 +1,7 @@
 // Integer programs, and problems of all kinds, with their verdicts; and optimal points of relaxations.
 use crate::texts::{cut, numbers_of};
 use branch_search::{SearchFault, VerdictFault, Wanted, search, solve};
-use candidate::{Candidate, ProposedOptimum, propose};
+use candidate::{Candidate, ProposedOptimum, Proposer};
 use certificate::{Certificate, DerivedRows, Verdict};
 use instance::Instance;
 use search_node::SplitsTaken;
@@ -96,7 +96,13 @@ pub(crate) fn verdict_word(certificate: &Certificate) -> &'static str {
 
 /// The point that is proposed for a problem's relaxation, where it is shown to be an optimal one.
 pub(crate) fn shown_optimum(alloc: Global, problem: &Instance) -> Result<String, AllocError> {
-    let candidate = propose(alloc, problem, &SplitsTaken::new(alloc), None, 100, None)?;
+    let candidate = Proposer::new(alloc, 100).propose(
+        alloc,
+        problem,
+        &SplitsTaken::new(alloc),
+        None,
+        None,
+    )?;
     let words = match &candidate {
         Some(Candidate::Optimal(found)) => optimum_words(alloc, problem, found),
         _ => "no point".to_string(alloc),

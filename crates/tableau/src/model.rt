@@ -1,4 +1,5 @@
 // The linear program as the search sees it: each row is a variable too, A x + s = 0, and all variables have bounds.
+use crate::scaling::units_of;
 use certificate::{Side, Split};
 use fraction::Frac;
 use instance::{Column, Direction, Entry as FormEntry, Instance, Row};
@@ -37,12 +38,13 @@ impl Bounds {
 }
 
 /// A linear program that asks for a least value. The variables are the columns and then, for each row, minus its value,
-/// which has a cost of 0.
+/// which has a cost of 0. Units are logarithms in which sizes of variables are compared fairly.
 #[derive(Drop)]
 pub struct Model {
     pub matrix: Matrix,
     pub bounds: Vec<Bounds>,
     pub costs: Vec<Frac>,
+    pub units: Vec<i32>,
 }
 
 impl Model {
@@ -62,6 +64,25 @@ impl Model {
         number_at(&self.costs, v)
     }
 
+    /// Sets the bounds of the columns to those that the problem has below the splits.
+    pub fn set_bounds(&mut self, problem: &Instance, splits: &SplitsTaken) -> Result<(), Stop> {
+        let columns = problem.columns();
+        for place in 0..columns.len() {
+            put(&mut self.bounds, place, own_bounds(&columns[place]));
+        }
+        narrow(&mut self.bounds, splits)
+    }
+
+    /// No cost is other than 0.
+    pub fn has_no_costs(&self) -> bool {
+        for cost in &self.costs {
+            if !cost.is_zero() {
+                return false;
+            }
+        }
+        true
+    }
+
     /// No lower bound is above the upper one.
     pub fn has_bounds_in_order(&self) -> bool {
         for bounds in &self.bounds {
@@ -78,14 +99,10 @@ const FREE: Bounds = Bounds {
     upper: None,
 };
 
-/// The linear program that the problem is below the splits, its columns taken as continuous.
-pub fn model_of(alloc: Global, problem: &Instance, splits: &SplitsTaken) -> Result<Model, Stop> {
-    let columns = problem.columns().len();
-    let rows = problem.rows().len();
-    let by_row = forms(alloc, problem.rows())?;
-    let by_column = by_row.turned(alloc, &[], columns)?;
+/// The linear program that the problem is, its columns taken as continuous.
+pub fn model_of(alloc: Global, problem: &Instance) -> Result<Model, Stop> {
+    let matrix = matrix_of(alloc, problem)?;
     let mut bounds = column_bounds(alloc, problem.columns())?;
-    narrow(&mut bounds, splits)?;
     add_row_bounds(&mut bounds, problem.rows())?;
     let mut costs = zeros(alloc, bounds.len())?;
     set_costs(
@@ -93,16 +110,25 @@ pub fn model_of(alloc: Global, problem: &Instance, splits: &SplitsTaken) -> Resu
         problem.objective().as_slice(),
         problem.direction(),
     );
-    let matrix = Matrix {
-        rows,
-        columns,
-        by_column,
-        by_row,
-    };
+    let units = units_of(alloc, &matrix)?;
     Ok(Model {
         matrix,
         bounds,
         costs,
+        units,
+    })
+}
+
+fn matrix_of(alloc: Global, problem: &Instance) -> Result<Matrix, Stop> {
+    let columns = problem.columns().len();
+    let rows = problem.rows().len();
+    let by_row = forms(alloc, problem.rows())?;
+    let by_column = by_row.turned(alloc, &[], columns)?;
+    Ok(Matrix {
+        rows,
+        columns,
+        by_column,
+        by_row,
     })
 }
 
@@ -130,13 +156,16 @@ fn add_form(lists: &mut Lists, form: &[FormEntry]) -> Result<(), Stop> {
 fn column_bounds(alloc: Global, columns: &[Column]) -> Result<Vec<Bounds>, Stop> {
     let mut bounds = Vec::new(alloc);
     for column in columns {
-        let one = Bounds {
-            lower: column.lower(),
-            upper: column.upper(),
-        };
-        add(&mut bounds, one)?;
+        add(&mut bounds, own_bounds(column))?;
     }
     Ok(bounds)
+}
+
+fn own_bounds(column: &Column) -> Bounds {
+    Bounds {
+        lower: column.lower(),
+        upper: column.upper(),
+    }
 }
 
 // The bounds of minus each row's value.

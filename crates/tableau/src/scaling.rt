@@ -1,18 +1,17 @@
 // The units of the variables, as logarithms: so that sizes are compared fairly. They only guide.
-use crate::model::Model;
-use sparse_factors::{Lists, Stop, add, at, copied, filled, log};
+use sparse_factors::{Lists, Matrix, Stop, add, at, copied, filled, log};
 use std::alloc::Global;
 
 // How often rows and columns are scaled in turn.
 const ROUNDS: u32 = 3;
 
 /// The units of all variables, by a few rounds of geometric means of the largest and smallest entries.
-pub(crate) fn units_of(alloc: Global, model: &Model) -> Result<Vec<i32>, Stop> {
-    let mut rows = filled(alloc, model.matrix.rows, 0)?;
-    let mut columns = filled(alloc, model.matrix.columns, 0)?;
+pub(crate) fn units_of(alloc: Global, matrix: &Matrix) -> Result<Vec<i32>, Stop> {
+    let mut rows = filled(alloc, matrix.rows, 0)?;
+    let mut columns = filled(alloc, matrix.columns, 0)?;
     for _ in 0..ROUNDS {
-        scale(&mut rows, &model.matrix.by_row, &columns);
-        scale(&mut columns, &model.matrix.by_column, &rows);
+        scale(&mut rows, &matrix.by_row, &columns);
+        scale(&mut columns, &matrix.by_column, &rows);
     }
     let mut units = copied(alloc, &columns)?;
     add_negatives(&mut units, &rows)?;

@@ -1,6 +1,5 @@
 // The state of a search: a basis with its factors, the values and prices of all variables, and what guides the choices.
 use crate::model::{Bounds, Model};
-use crate::scaling::units_of;
 use crate::start::Start;
 use fraction::Frac;
 use sparse_factors::{
@@ -43,7 +42,6 @@ pub struct State {
     // how far the variable of a slot is beyond a bound, as a logarithm
     pub gaps: Vec<Option<i32>>,
     pub weights: Vec<i32>,
-    pub units: Vec<i32>,
     // the numbers of a slot's row times a scale, by variable, and the variables that may have one
     pub scale: Frac,
     pub entries: Vec<Frac>,
@@ -72,7 +70,6 @@ impl State {
             prices: zeros(alloc, size)?,
             gaps: filled(alloc, model.matrix.rows, None)?,
             weights: filled(alloc, model.matrix.rows, 0)?,
-            units: units_of(alloc, &model)?,
             scale: Frac::one(),
             entries: zeros(alloc, size)?,
             touched: Vec::new(alloc),
@@ -87,6 +84,11 @@ impl State {
         state.mark_fixed();
         state.settle();
         Ok(state)
+    }
+
+    /// Gives the linear program back.
+    pub fn into_model(self) -> Model {
+        self.model
     }
 
     fn mark_fixed(&mut self) {
@@ -115,7 +117,7 @@ impl State {
 
     #[inline]
     pub fn unit_of(&self, v: usize) -> i32 {
-        at(&self.units, v, 0)
+        at(&self.model.units, v, 0)
     }
 
     #[inline]
