@@ -55,10 +55,10 @@ pub(crate) fn run(state: &mut State, alloc: Global, aim: Aim<'_>) -> Result<Foun
 fn run_once(state: &mut State, alloc: Global, aim: Aim<'_>) -> Result<Found, Stop> {
     begin(state, alloc)?;
     let departure = departure_of(state, aim.splits);
-    if aim.is_cold && !state.is_feasible() {
+    if aim.is_cold && !state.is_feasible() && !state.model.has_no_costs() {
         spread_costs(state)?;
     }
-    let end = match dual_phase(state, alloc, aim.cutoff)? {
+    let end = match dual_phase(state, alloc, aim)? {
         Some(end) => end,
         None => finish(state, alloc)?,
     };
@@ -134,14 +134,13 @@ fn shift_costs(state: &mut State, wrong: &[usize]) -> Result<(), Stop> {
     Ok(())
 }
 
-fn dual_phase(
-    state: &mut State,
-    alloc: Global,
-    cutoff: &Option<Frac>,
-) -> Result<Option<End>, Stop> {
+fn dual_phase(state: &mut State, alloc: Global, aim: Aim<'_>) -> Result<Option<End>, Stop> {
     for _ in 0..u64::from(state.steps_left) + 1 {
-        if is_cut_off(state, cutoff) {
+        if is_cut_off(state, aim.cutoff) {
             return Ok(Some(End::Bounded));
+        }
+        if aim.is_cold && stands_still(state) {
+            spread_costs(state)?;
         }
         match dual_step(state, alloc)? {
             Step::Taken => {}
@@ -151,6 +150,11 @@ fn dual_phase(
         }
     }
     Err(Stop::Steps)
+}
+
+// Many steps in a row have length 0, beside the rows, and small costs may help.
+fn stands_still(state: &State) -> bool {
+    !state.costs_are_shifted && state.stalls > state.model.matrix.rows / 8
 }
 
 // The prices bound the value, which is not below the cutoff. They do so while a bound is broken and the costs are the true ones.
