@@ -24,7 +24,7 @@ pub struct Settings {
     pub relaxed: bool,
     /// The most splits of a search, up to 1,000,000.
     pub split_limit: u32,
-    /// The most steps of the simplex method at a node, from 1 to 1,000,000.
+    /// The most steps of the simplex method at a node, up to 1,000,000; 0 is no limit.
     pub pivot_limit: u32,
     /// What is to be done with the model.
     pub task: Task,

@@ -45,10 +45,6 @@ value_fits : (integer : Bool) → IsOk (value_answer (any_x integer) origin)
 unfolding ◌+ℚ◌ over gcd gcd_within
 value_fits integer = refl
 
-claim_fits : (integer : Bool) (v : Rational) → IsOk (of.value_answer (any_x integer) (Some origin) (Some v))
-unfolding ◌+ℚ◌ over gcd gcd_within
-claim_fits integer v = refl
-
 bound_fits : (integer : Bool) (goal : Option Rational) → IsOk (node_answer (node_setting (any_x integer) [] []) goal (Bound no_weights))
 unfolding ◌+ℚ◌ ◌*ℚ◌ over gcd gcd_within
 bound_fits integer None = refl

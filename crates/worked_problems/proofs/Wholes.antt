@@ -17,8 +17,5 @@ at_most m n h = record { cross = parts m n h }
     parts : (m n : ℤ) → m ≤ℤ n → (m *ℤ pos 1) ≤ℤ (n *ℤ pos 1)
     parts m n h = omega (arith, ints)
 
-pub never_less : (m n : ℤ) → n ≤ℤ m → ¬ (whole m <ℚ whole n)
-never_less m n h k = Q.lt-not-le _ _ k (at_most n m h)
-
 pub irreflexive : (a : Rational) → ¬ (a <ℚ a)
 irreflexive a h = Q.lt-not-le a a h (Q.le_refl a)
