@@ -8,6 +8,7 @@ ghost use Rattle.branch_search.specs.Treatment.{IsTreatment, IsToSplit};
 ghost use Rattle.search_rows.specs.Trees.{MayStand, LeadTo, IsLeafOf};
 
 use branch_search::{Fractional, Treatment, treat};
+use candidate::Proposer;
 use certificate::{DerivedRows, Split};
 use fraction::Frac;
 use search_node::Node;
@@ -60,8 +61,10 @@ fn treatment_of(
     if are_none(cuts) {
         root_is_over_columns(problem);
         let hint = no_hint();
-        let treatment = treat(alloc, problem, cuts, node, best, 100, &hint);
+        let mut proposer = Proposer::new(alloc, 100);
+        let treatment = treat(alloc, problem, cuts, node, best, 100, &hint, &mut proposer);
         std::mem::drop(hint);
+        std::mem::drop(proposer);
         return Ok(Some(treatment?));
     }
     Ok(None)
