@@ -17,7 +17,6 @@ use Rattle.basis.specs.Relaxation.{IsUnboundedBasis}
 use Rattle.basis.specs.Operations.{IsNodeOperation}
 use Rattle.basis.specs.declared.Place.{Place}
 use Rattle.cert_check.specs.Parts.{point_answer, node_answer}
-use Rattle.cert_check.specs.Parts as of
 use Rattle.search_tree.specs.Nodes.{IsHonestSplit}
 use Rattle.search_tree.specs.Work.{IsWorkFault, node_setting}
 use Rattle.worked_problems.specs.Problems.{over_x}
