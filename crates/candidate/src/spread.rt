@@ -13,7 +13,7 @@ pub(crate) fn spread_costs(state: &mut State) -> Result<(), Stop> {
     state.costs_are_shifted = true;
     for v in 0..state.prices.len() {
         if may_move(state, v) {
-            let small = product(base, whole(64 + spread(v))?)?;
+            let small = product(base, whole(spread(v).saturating_add(64))?)?;
             let small = if state.rests_above(v) {
                 small.neg()
             } else {
