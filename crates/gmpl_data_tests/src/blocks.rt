@@ -3,7 +3,7 @@ use crate::rows::{Subject, check};
 use gmpl_blocks::{DataFault, DataFaultKind};
 use gmpl_data::{DataTables, Given};
 use gmpl_lexer::read_data_tokens;
-use gmpl_load::{DataObject, DataSort, LoadError, load};
+use gmpl_load::{DataObject, DataSort, DataSource, LoadError, load};
 use gmpl_member_names::symbol_text;
 use gmpl_members::Value;
 use gmpl_token::Tokens;
@@ -132,6 +132,18 @@ z=1 p.2=3 => data; param z := 1; end; | data; param p := 2 3; end;
 !Unended 2 1 => param z := 1; end
 !BadForm 2 1 => param z := 1; end z;
 !BadForm 2 1 => param z := 1; data;
+";
+
+// The section of a model begins behind its `data;`.
+const SECTIONS: &str = "\
+z=1 => param z := 1;
+z=1 => param z := 1; end; data;
+- =>
+- => end;
+!BadForm 1 1 => data; param z := 1;
+!BadForm 1 2 => $data;
+!BadForm 1 1 => data
+!BadForm 2 1 => param z := 1; data; param p := 2 3;
 ";
 
 // First faults.
@@ -395,14 +407,22 @@ fn fault_text(alloc: Global, fault: DataFault) -> Result<String, AllocError> {
     format!(in alloc; "!{} {} {}", kind_text(fault.kind), fault.block, fault.line)
 }
 
-fn loaded(alloc: Global, texts: &[Tokens<'_>]) -> Result<DataTables, LoadError> {
+fn loaded(
+    alloc: Global,
+    source: DataSource,
+    texts: &[Tokens<'_>],
+) -> Result<DataTables, LoadError> {
     let names = names(alloc)?;
     let objects = objects(alloc)?;
-    load(alloc, &names, &objects, texts)
+    load(alloc, &names, &objects, source, texts)
 }
 
-fn answer_text(alloc: Global, texts: &[Tokens<'_>]) -> Result<String, AllocError> {
-    match loaded(alloc, texts) {
+fn answer_text(
+    alloc: Global,
+    source: DataSource,
+    texts: &[Tokens<'_>],
+) -> Result<String, AllocError> {
+    match loaded(alloc, source, texts) {
         Ok(tables) => tables_text(alloc, &tables),
         Err(LoadError::Fault(fault)) => fault_text(alloc, fault),
         Err(LoadError::NoMemory) => Err(AllocError),
@@ -421,33 +441,57 @@ fn tokens_of<'a>(
 }
 
 /// What the one or two texts of a row give, or their first fault.
-pub(crate) fn given_word(alloc: Global, asked: &str) -> Result<String, AllocError> {
+pub(crate) fn given_word(
+    alloc: Global,
+    source: DataSource,
+    asked: &str,
+) -> Result<String, AllocError> {
     let (first, second) = asked.split_once(" | ").unwrap_or((asked, ""));
     let texts = tokens_of(alloc, first, second)?;
-    answer_text(alloc, &texts)
+    answer_text(alloc, source, &texts)
 }
 
 #[test]
 fn parameters(rt: HostRuntime) -> Result<(), Fail> {
-    check(&rt, rt.alloc(), &Subject::Blocks, PARAMETERS)
+    check(
+        &rt,
+        rt.alloc(),
+        &Subject::Blocks(DataSource::Files),
+        PARAMETERS,
+    )
 }
 
 #[test]
 fn sets(rt: HostRuntime) -> Result<(), Fail> {
-    check(&rt, rt.alloc(), &Subject::Blocks, SETS)
+    check(&rt, rt.alloc(), &Subject::Blocks(DataSource::Files), SETS)
 }
 
 #[test]
 fn several_parameters(rt: HostRuntime) -> Result<(), Fail> {
-    check(&rt, rt.alloc(), &Subject::Blocks, TABBING)
+    check(
+        &rt,
+        rt.alloc(),
+        &Subject::Blocks(DataSource::Files),
+        TABBING,
+    )
 }
 
 #[test]
 fn ends_of_texts(rt: HostRuntime) -> Result<(), Fail> {
-    check(&rt, rt.alloc(), &Subject::Blocks, ENDS)
+    check(&rt, rt.alloc(), &Subject::Blocks(DataSource::Files), ENDS)
+}
+
+#[test]
+fn sections(rt: HostRuntime) -> Result<(), Fail> {
+    check(
+        &rt,
+        rt.alloc(),
+        &Subject::Blocks(DataSource::Section),
+        SECTIONS,
+    )
 }
 
 #[test]
 fn first_faults(rt: HostRuntime) -> Result<(), Fail> {
-    check(&rt, rt.alloc(), &Subject::Blocks, FAULTS)
+    check(&rt, rt.alloc(), &Subject::Blocks(DataSource::Files), FAULTS)
 }

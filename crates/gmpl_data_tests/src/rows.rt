@@ -1,6 +1,7 @@
 // The tables, row by row. One loop goes over all of them, so that a test is one call, which is proved ten times as fast as a loop.
 use crate::blocks::given_word;
 use crate::tokens::{places_word, tokens_word};
+use gmpl_load::DataSource;
 use std::alloc::{AllocError, Global};
 use std::process::Abort;
 use std::test::Fail;
@@ -8,14 +9,14 @@ use std::test::Fail;
 /// What a table's rows ask for.
 #[derive(Drop)]
 pub(crate) enum Subject {
-    Blocks,
+    Blocks(DataSource),
     Places,
     Tokens,
 }
 
 fn found(alloc: Global, subject: &Subject, asked: &str) -> Result<String, AllocError> {
     match subject {
-        Subject::Blocks => given_word(alloc, asked),
+        Subject::Blocks(source) => given_word(alloc, *source, asked),
         Subject::Places => places_word(alloc, asked),
         Subject::Tokens => tokens_word(alloc, asked),
     }

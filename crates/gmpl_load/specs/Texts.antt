@@ -12,6 +12,8 @@ use Rattle.gmpl_blocks.specs.Input.{Input, kind, next, sees, line}
 use Rattle.gmpl_blocks.specs.Rules.{Rule, Outcome, ◌>>=◌, pure, refuse, expect}
 use Rattle.gmpl_blocks.specs.Symbols.{word, is_word, begins_symbol}
 use Rattle.gmpl_load.specs.declared.objects.DataObject.{DataObject}
+use Rattle.gmpl_load.specs.declared.texts.DataSource.{DataSource}
+use Rattle.gmpl_load.specs.declared.texts.DataSource.TheVariants.{Files, Section}
 use Rattle.gmpl_load.specs.declared.texts.Loaded.{Loaded}
 use Rattle.gmpl_load.specs.declared.texts.LoadError.{LoadError}
 use Rattle.gmpl_load.specs.declared.texts.LoadError.TheVariants.{Fault, NoMemory}
@@ -92,42 +94,47 @@ blocks names objects fault loaded i = blocks_from names objects fault (length i.
 
 -- ---- texts
 
--- a text may begin with "data" ";"
-unfoldable pub beginning : Rule (Unit {0})
-beginning = do
+-- a file may begin with "data" ";"
+unfoldable pub file_head : Rule (Unit {0})
+file_head = do
   is_there ← word (codes "data")
   if is_there then expect k.Semicolon else pure tt
 
-abbrev pub behind_beginning : List (List ℕ) → List DataObject → Option LexFault → Loaded → ℕ → Outcome (Unit {0}) → Result Loaded DataFault
-behind_beginning names objects fault loaded line (Ok p) = blocks names objects fault loaded p.1
-behind_beginning names objects fault loaded line (Err kind) = Err (located loaded.blocks line kind)
+-- what stands before the first block; a section begins behind the "data" ";" of its model
+unfoldable pub head : DataSource → Rule (Unit {0})
+head Files = file_head
+head Section = pure tt
+
+abbrev pub behind_head : List (List ℕ) → List DataObject → Option LexFault → Loaded → ℕ → Outcome (Unit {0}) → Result Loaded DataFault
+behind_head names objects fault loaded line (Ok p) = blocks names objects fault loaded p.1
+behind_head names objects fault loaded line (Err kind) = Err (located loaded.blocks line kind)
 
 abbrev pub input_of : TokenList → Input
 input_of tokens = record { rest = tokens.items; end = end_kind tokens.fault }
 
 -- what a text gives behind those before it
-unfoldable pub text : List (List ℕ) → List DataObject → Loaded → TokenList → Result Loaded DataFault
-text names objects loaded tokens = behind_beginning names objects tokens.fault loaded (line 0 (input_of tokens)) (beginning (input_of tokens))
+unfoldable pub text : List (List ℕ) → List DataObject → DataSource → Loaded → TokenList → Result Loaded DataFault
+text names objects source loaded tokens = behind_head names objects tokens.fault loaded (line 0 (input_of tokens)) (head source (input_of tokens))
 
 abbrev pub then_texts : (Loaded → Result Loaded DataFault) → Result Loaded DataFault → Result Loaded DataFault
 then_texts go (Ok loaded) = go loaded
 then_texts go (Err fault) = Err fault
 
-abbrev pub texts : List (List ℕ) → List DataObject → List TokenList → Loaded → Result Loaded DataFault
-texts names objects [] loaded = Ok loaded
-texts names objects (tokens ∷ more) loaded = then_texts (texts names objects more) (text names objects loaded tokens)
+abbrev pub texts : List (List ℕ) → List DataObject → DataSource → List TokenList → Loaded → Result Loaded DataFault
+texts names objects source [] loaded = Ok loaded
+texts names objects source (tokens ∷ more) loaded = then_texts (texts names objects source more) (text names objects source loaded tokens)
 
--- what all texts give to the objects, which have their names and are told by `objects`
-unfoldable pub all_data : List (List ℕ) → List DataObject → List TokenList → Result Loaded DataFault
-all_data names objects all = texts names objects all (record { tables = nothing_for (length objects); blocks = 0 })
+-- what all texts of a source give to the objects, which have their names and are told by `objects`
+unfoldable pub all_data : List (List ℕ) → List DataObject → DataSource → List TokenList → Result Loaded DataFault
+all_data names objects source all = texts names objects source all (record { tables = nothing_for (length objects); blocks = 0 })
 
 abbrev pub tables_of : Result Loaded DataFault → Result Tables DataFault
 tables_of (Ok loaded) = Ok loaded.tables
 tables_of (Err fault) = Err fault
 
 -- what is given to each object, by its place
-abbrev pub all_tables : List (List ℕ) → List DataObject → List TokenList → Result Tables DataFault
-all_tables names objects all = tables_of (all_data names objects all)
+abbrev pub all_tables : List (List ℕ) → List DataObject → DataSource → List TokenList → Result Tables DataFault
+all_tables names objects source all = tables_of (all_data names objects source all)
 
 -- ---- what code ensures
 

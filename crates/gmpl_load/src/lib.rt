@@ -8,4 +8,4 @@ mod tables;
 mod texts;
 
 pub use objects::{DataObject, DataSort};
-pub use texts::{LoadError, load};
+pub use texts::{DataSource, LoadError, load};

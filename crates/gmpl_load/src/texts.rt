@@ -39,6 +39,15 @@ impl From<AllocError> for LoadError {
     }
 }
 
+/// Where texts of data come from.
+#[derive(Clone, Copy, Debug, PartialEq, Eq)]
+pub enum DataSource {
+    /// Files, each of which may begin with `data` and a semicolon.
+    Files,
+    /// The section of a model, which begins behind these two.
+    Section,
+}
+
 // ---- a block
 
 // A colon, or a default behind which comes no more than its symbol, begins a block of several parameters.
@@ -205,15 +214,26 @@ fn blocks(
 
 // ---- texts
 
-// A text may begin with `data` and a semicolon.
-#[tactic(auto, unfolding(crate::specs::Texts::beginning))]
-fn beginning(tokens: &mut Cursor<'_, '_>) -> Result<(), DataError>
-    ensures { Reads (spec.beginning tokens.old) result tokens.new }
+// A file may begin with `data` and a semicolon.
+#[tactic(auto, unfolding(crate::specs::Texts::file_head))]
+fn file_head(tokens: &mut Cursor<'_, '_>) -> Result<(), DataError>
+    ensures { Reads (spec.file_head tokens.old) result tokens.new }
 {
     if word("data", tokens) {
         tokens.expect(TokenKind::Semicolon)
     } else {
         Ok(())
+    }
+}
+
+// What stands before the first block of a text.
+#[tactic(auto, unfolding(crate::specs::Texts::head))]
+fn head(source: DataSource, tokens: &mut Cursor<'_, '_>) -> Result<(), DataError>
+    ensures { Reads (spec.head source tokens.old) result tokens.new }
+{
+    match source {
+        DataSource::Files => file_head(tokens),
+        DataSource::Section => Ok(()),
     }
 }
 
@@ -223,15 +243,16 @@ fn text(
     alloc: Global,
     names: &Names<'_>,
     objects: &[DataObject],
+    source: DataSource,
     loaded: Loaded,
     found: &Tokens<'_>,
 ) -> Result<Loaded, LoadError>
-    ensures { Loads (spec.text names.now objects.now loaded found.now) result }
+    ensures { Loads (spec.text names.now objects.now source loaded found.now) result }
 {
     let fault = found.fault();
     let mut tokens = Cursor::new(found.as_slice(), end_kind(fault));
     let line = tokens.line(0);
-    match beginning(&mut tokens) {
+    match head(source, &mut tokens) {
         Ok(()) => blocks(alloc, names, objects, fault, loaded, &mut tokens),
         Err(DataError::Fault(kind)) => Err(located(loaded.blocks, line, kind)),
         Err(DataError::NoMemory) => Err(LoadError::NoMemory),
@@ -243,30 +264,32 @@ fn all_data(
     alloc: Global,
     names: &Names<'_>,
     objects: &[DataObject],
+    source: DataSource,
     texts: &[Tokens<'_>],
 ) -> Result<Loaded, LoadError>
-    ensures { Loads (spec.all_data names.now objects.now texts.now) result }
+    ensures { Loads (spec.all_data names.now objects.now source texts.now) result }
 {
     let tables = Tables::new(alloc, objects.len())?;
     let mut loaded = Loaded { tables, blocks: 0 };
     for found in texts {
-        loaded = text(alloc, names, objects, loaded, found)?;
+        loaded = text(alloc, names, objects, source, loaded, found)?;
     }
     Ok(loaded)
 }
 
-/// What data give to the objects of a model, which have these names, in the order of the texts. `objects` tells of each name's
-/// object what data need to know. Blocks are counted from 1 over all texts.
+/// What data give to the objects of a model, which have these names, in the order of the texts, which come from this source.
+/// `objects` tells of each name's object what data need to know. Blocks are counted from 1 over all texts.
 /// Errors: `Fault` with the first bad block, its line in its text and what is wrong; `NoMemory`.
 pub fn load(
     alloc: Global,
     names: &Names<'_>,
     objects: &[DataObject],
+    source: DataSource,
     texts: &[Tokens<'_>],
 ) -> Result<DataTables, LoadError>
-    ensures tables { IfOk result (λ given. spec.all_tables names.now objects.now texts.now ≡ Ok given.objects) }
-    ensures fault { IfErr result (IsFault (spec.all_tables names.now objects.now texts.now)) }
+    ensures tables { IfOk result (λ given. spec.all_tables names.now objects.now source texts.now ≡ Ok given.objects) }
+    ensures fault { IfErr result (IsFault (spec.all_tables names.now objects.now source texts.now)) }
 {
-    let loaded = all_data(alloc, names, objects, texts)?;
+    let loaded = all_data(alloc, names, objects, source, texts)?;
     Ok(loaded.tables.into_data())
 }

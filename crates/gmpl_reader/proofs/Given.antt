@@ -13,15 +13,16 @@ use Rattle.gmpl_parse.specs.declared.model.Model.{Model as Parsed}
 use Rattle.gmpl_reader.specs.Names.{names_of, object_name}
 use Rattle.gmpl_blocks.specs.declared.fault.DataFault.{DataFault}
 use Rattle.gmpl_load.specs.declared.objects.DataObject.{DataObject}
+use Rattle.gmpl_load.specs.declared.texts.DataSource.{DataSource}
 use Rattle.gmpl_load.specs.Tables.{Tables}
 use Rattle.gmpl_load.specs.Texts.{all_tables}
 use Rattle.gmpl_reader.specs.Data.{data_objects, given_by}
 
-pub is_given : (model : Parsed) (names : List (List ℕ)) (objects : List DataObject) (texts : List Tokens) (r : Result Tables DataFault)
+pub is_given : (model : Parsed) (names : List (List ℕ)) (objects : List DataObject) (source : DataSource) (texts : List Tokens) (r : Result Tables DataFault)
     → names ≡ names_of model.statements → objects ≡ data_objects model.statements model.objects
-    → all_tables names objects texts ≡ r → given_by model texts ≡ r
+    → all_tables names objects source texts ≡ r → given_by model source texts ≡ r
 unfolding given_by
-is_given model names objects texts r e f h = rw (sym e, sym f) h
+is_given model names objects source texts r e f h = rw (sym e, sym f) h
 
 pub same_objects : (ss ts : List Numbered) (os us : List Object) → ss ≡ ts → os ≡ us → data_objects ss os ≡ data_objects ts us
 same_objects ss ts os us e f = rw (sym e, sym f) refl_objects

@@ -19,6 +19,8 @@ use Rattle.gmpl_blocks.specs.declared.fault.DataFault.{DataFault}
 use Rattle.gmpl_load.specs.declared.objects.DataObject.{DataObject}
 use Rattle.gmpl_load.specs.declared.objects.DataSort.{DataSort}
 use Rattle.gmpl_load.specs.declared.objects.DataSort.TheVariants as given_as
+use Rattle.gmpl_load.specs.declared.texts.DataSource.{DataSource}
+use Rattle.gmpl_load.specs.declared.texts.DataSource.TheVariants.{Files, Section}
 use Rattle.gmpl_load.specs.Tables.{Tables}
 use Rattle.gmpl_load.specs.Texts.{all_tables}
 use Rattle.gmpl_reader.specs.declared.fault.MathProgFault.{MathProgFault}
@@ -70,15 +72,19 @@ abbrev pub texts_of_data : List ℕ → Option ℕ → List (List ℕ) → List 
 texts_of_data text section [] = section_tokens text section
 texts_of_data text section (file ∷ files) = map file_tokens (file ∷ files)
 
+abbrev pub source_of_data : List (List ℕ) → DataSource
+source_of_data [] = Section
+source_of_data (file ∷ files) = Files
+
 -- ---- what is given
 
--- what these texts give to the objects of a model
-unfoldable pub given_by : Parsed → List Tokens → Result Tables DataFault
-given_by model texts = all_tables (names_of model.statements) (data_objects model.statements model.objects) texts
+-- what these texts of a source give to the objects of a model
+unfoldable pub given_by : Parsed → DataSource → List Tokens → Result Tables DataFault
+given_by model source texts = all_tables (names_of model.statements) (data_objects model.statements model.objects) source texts
 
 -- what the data give to the objects of a model: its text, and the files of data
 abbrev pub given : List ℕ → List (List ℕ) → Parsed → Result Tables DataFault
-given text data_files model = given_by model (texts_of_data text model.data_at data_files)
+given text data_files model = given_by model (source_of_data data_files) (texts_of_data text model.data_at data_files)
 
 -- the call's fault is the definition's; want of memory is free
 abbrev pub IsNoData : Result Tables DataFault → ReadError MathProgFault → Type 0

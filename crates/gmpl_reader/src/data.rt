@@ -10,7 +10,7 @@ use crate::fault::MathProgFault;
 use gmpl_data::DataTables;
 use gmpl_kinds::{Object, Sort, or_one};
 use gmpl_lexer::read_data_tokens;
-use gmpl_load::{DataObject, DataSort, LoadError, load};
+use gmpl_load::{DataObject, DataSort, DataSource, LoadError, load};
 use gmpl_parse::Model;
 use gmpl_resolved::{Attribute, Declaration, Numbered, Statement};
 use gmpl_token::Tokens;
@@ -167,22 +167,32 @@ fn texts_of_data<'a>(
     }
 }
 
+fn source_of_data(data_texts: &[Vec<u8>]) -> DataSource
+    ensures { result ≡ spec.source_of_data (map (λ file. file.items) data_texts.now) }
+{
+    match data_texts {
+        [] => DataSource::Section,
+        [_, ..] => DataSource::Files,
+    }
+}
+
 // ---- what is given
 
-// What these texts give to the objects of a model.
+// What these texts of a source give to the objects of a model.
 fn given_by(
     alloc: Global,
     model: &Model,
+    source: DataSource,
     texts: &[Tokens<'_>],
 ) -> Result<DataTables, ReadError<MathProgFault>>
     requires { AreDifferent (names_of model.now.statements) }
-    ensures tables { IfOk result (λ given. spec.given_by model.now texts.now ≡ Ok given.objects) }
-    ensures fault { IfErr result (IsNoData (spec.given_by model.now texts.now)) }
+    ensures tables { IfOk result (λ given. spec.given_by model.now source texts.now ≡ Ok given.objects) }
+    ensures fault { IfErr result (IsNoData (spec.given_by model.now source texts.now)) }
 {
     let statements = model.statements.as_slice();
     let names = names_of(alloc, statements)?;
     let objects = data_objects(alloc, statements, model.objects.as_slice())?;
-    match load(alloc, &names, &objects, texts) {
+    match load(alloc, &names, &objects, source, texts) {
         Ok(given) => Ok(given),
         Err(LoadError::Fault(fault)) => Err(ReadError::Fault(MathProgFault::Data(fault))),
         Err(LoadError::NoMemory) => Err(ReadError::NoMemory),
@@ -202,5 +212,5 @@ pub(crate) fn given(
     ensures fault { IfErr result (IsNoData (spec.given text.now (map (λ file. file.items) data_texts.now) model.now)) }
 {
     let texts = texts_of_data(alloc, text, model.data_at, data_texts)?;
-    given_by(alloc, model, &texts)
+    given_by(alloc, model, source_of_data(data_texts), &texts)
 }
