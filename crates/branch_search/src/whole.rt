@@ -44,13 +44,27 @@ pub fn search(
         split_limit,
         pivot_limit,
     )?;
-    let mut proposer = Proposer::new(alloc, pivot_limit);
-    run(alloc, &mut board, pivot_limit, &mut proposer)?;
+    run(alloc, &mut board, pivot_limit)?;
     ended(alloc, board)
 }
 
 // Round after round, until no leaf is to be worked on.
-fn run(
+fn run(alloc: Global, board: &mut Board, pivot_limit: u32) -> Result<(), SearchFault>
+    requires cuts { board.old.cuts ≡ [] }
+    requires pivots { board.old.pivot_limit ≡ pivot_limit }
+    requires going { IsGoing board.old }
+    ensures same { IfOk result (λ done. AreSame board.old board.new) }
+    ensures at_end { IfOk result (λ done. IsAtEnd board.new) }
+    ensures fault { IfErr result (IsFault board.old.problem board.old.cuts board.old.split_limit board.old.pivot_limit) }
+{
+    let mut proposer = Proposer::new(alloc, pivot_limit);
+    let done = run_with(alloc, board, pivot_limit, &mut proposer);
+    std::mem::drop(proposer);
+    done
+}
+
+// The same, with what proposes at the nodes.
+fn run_with(
     alloc: Global,
     board: &mut Board,
     pivot_limit: u32,
