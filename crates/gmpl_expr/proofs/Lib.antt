@@ -1,4 +1,6 @@
 pub mod Demands
+pub mod InModels
 pub mod Membership
+pub mod OneByOne
 pub mod Ranges
 pub mod Rolled

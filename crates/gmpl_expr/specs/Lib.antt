@@ -1,4 +1,5 @@
 pub mod At
 pub mod Membership
+pub mod OneByOne
 pub mod Shared
 pub mod Stops

@@ -1,6 +1,6 @@
 // The evaluation of expressions, by their kinds.
 //
-// Expressions, indexing expressions and members evaluate one another: this module and `values`, `indexing`, `members`,
+// Expressions, indexing expressions and members evaluate one another: this module and `values`, `iterations`, `indexing`, `members`,
 // `restrictions` and `variables` are one cycle of calls. What needs no evaluation stands in other modules.
 //
 // `height` is how many members may still stand in the chain of demands, and `room` how many expressions may still stand within
@@ -12,11 +12,12 @@ ghost use Rattle.gmpl_meaning.specs.Expressions as spec;
 ghost use Rattle.gmpl_meaning.specs.Members.{member};
 ghost use Rattle.gmpl_meaning.specs.Right.{AreRight};
 
+use crate::iterations::iterated;
 use crate::members::demanded;
 use crate::parts::{bound_to, nothing};
 use crate::places::copied;
 use crate::set_kinds::is_set;
-use crate::values::{braces, called, compared, holds, iterated, negation, power, range, symbols};
+use crate::values::{braces, called, compared, holds, negation, power, range, symbols};
 use gmpl_data::LoadedModel;
 use gmpl_meaning::Kept;
 use gmpl_operations::{Value, applied, decides, signed, taken};

@@ -135,7 +135,7 @@ fn filtered(
 }
 
 #[cycle(evaluation)]
-fn entry_value(
+pub(crate) fn entry_value(
     alloc: Global,
     model: &LoadedModel,
     kept: &mut Kept,

@@ -7,6 +7,7 @@ mod context;
 mod entered;
 mod evaluate;
 mod indexing;
+mod iterations;
 mod kept_sets;
 mod listing;
 mod members;

@@ -1,6 +1,8 @@
 // Steps of the evaluation that evaluate nothing themselves.
 ghost use Rattle.std.specs.Prelude.{◌≡◌, slice_get, IfOk};
-ghost use Rattle.gmpl_value.specs.Outcome.{Gives, GivesAs, Outcome, then_do};
+ghost use Rattle.gmpl_value.specs.Outcome.{Follows, Gives, GivesAs, Outcome, then_do};
+ghost use Rattle.gmpl_operations.specs.Iterations as operations;
+ghost use Rattle.gmpl_expr.specs.OneByOne as one_by_one;
 ghost use Rattle.gmpl_operations.specs.Relations.{negated};
 ghost use Rattle.gmpl_operations.specs.Values.{as_truth, set_in};
 ghost use Rattle.gmpl_meaning.specs.Expressions as spec;
@@ -13,7 +15,7 @@ use fraction::Frac;
 use gmpl_functions::card;
 use gmpl_meaning::{Asked, Kept};
 use gmpl_members::Value as Given;
-use gmpl_operations::{Value, ended, is_decided};
+use gmpl_operations::{Value, ended, joined};
 use gmpl_syntax::Iteration;
 use gmpl_value::{EvalFault, SetValue, Tuple, range};
 use std::alloc::{AllocError, Global};
@@ -110,21 +112,32 @@ pub(crate) fn nothing(alloc: Global, is_set: bool) -> Value
     }
 }
 
-/// What an iteration comes to behind its last element.
-pub(crate) fn closed(
+/// The value so far with one more.
+pub(crate) fn join(
+    alloc: Global,
+    iteration: Iteration,
+    total: &mut Option<Value>,
+    value: Value,
+) -> Result<(), EvalFault>
+    ensures { Follows result total.new (operations.joined iteration total.old value) }
+{
+    let so_far = total.take();
+    *total = joined(alloc, iteration, so_far, value)?;
+    Ok(())
+}
+
+/// What an iteration comes to.
+pub(crate) fn finished(
     alloc: Global,
     iteration: Iteration,
     total: Option<Value>,
-    fault: Option<EvalFault>,
+    done: Result<(), EvalFault>,
 ) -> Result<Value, EvalFault>
-    ensures { Gives result (spec.closed iteration total fault) }
+    ensures { (answer : one_by_one.SoFar) → Follows done total answer → Gives result (then_do (operations.ended iteration) answer) }
 {
-    if is_decided(iteration, &total) {
-        return ended(alloc, iteration, total);
-    }
-    match fault {
-        None => ended(alloc, iteration, total),
-        Some(fault) => Err(fault),
+    match done {
+        Ok(()) => ended(alloc, iteration, total),
+        Err(fault) => Err(fault),
     }
 }
 

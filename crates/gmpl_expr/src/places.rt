@@ -3,6 +3,7 @@ ghost use Rattle.std.specs.Prelude.{◌≡◌, OnOk, IfOk, take, drop, Ok};
 ghost use Rattle.gmpl_value.specs.Outcome.{Gives};
 ghost use Rattle.gmpl_expr.specs.Stops as stops;
 ghost use Rattle.gmpl_expr.specs.Shared.{entered};
+ghost use Rattle.gmpl_expr.specs.OneByOne as one_by_one;
 ghost use Rattle.gmpl_meaning.specs.Walks as walks;
 ghost use Rattle.gmpl_meaning.specs.Domains as domains;
 ghost use Rattle.gmpl_operations.specs.Patterns.{matched};
@@ -86,6 +87,21 @@ pub(crate) fn add_matches(
         add_match(alloc, found, element, tuple, new)?;
     }
     Ok(())
+}
+
+/// The indices in scope where a tuple matches an entry's pattern.
+pub(crate) fn inner_of(
+    alloc: Global,
+    bindings: &Tuple,
+    pattern: &Option<Items<Option<Symbol>>>,
+    tuple: &Tuple,
+) -> Result<Option<Tuple>, AllocError>
+    ensures { IfOk result (λ made. made ≡ one_by_one.inner bindings.now (matched pattern.now tuple.now)) }
+{
+    match matched(alloc, pattern, tuple)? {
+        None => Ok(None),
+        Some(new) => Ok(Some(bindings.joined(alloc, &new)?)),
+    }
 }
 
 // ---- subscripts

@@ -1,4 +1,4 @@
-// Lists of values, functions, comparisons, braces and iterations.
+// Lists of values, functions, comparisons and braces.
 ghost use Rattle.std.specs.Prelude.{◌≡◌, []};
 ghost use Rattle.gmpl_value.specs.Outcome.{Gives};
 ghost use Rattle.gmpl_expr.specs.At as at;
@@ -11,18 +11,16 @@ ghost use Rattle.gmpl_syntax.specs.declared.expression.Relation.TheVariants as r
 use crate::evaluate::eval;
 use crate::indexing::walked;
 use crate::listing::{add, set_over};
-use crate::parts::{closed, negated_value, ranged, size_of, truth_value};
+use crate::parts::{negated_value, ranged, size_of, truth_value};
 use crate::set_kinds::is_indexing;
 use crate::sets::shared_set;
 use fraction::Frac;
 use gmpl_data::LoadedModel;
 use gmpl_functions::{length, power as power_of};
-use gmpl_meaning::{Kept, Walk};
-use gmpl_operations::{
-    Value, called_with_numbers, ended, is_decided, joined, left_side, related, sliced,
-};
+use gmpl_meaning::Kept;
+use gmpl_operations::{Value, called_with_numbers, left_side, related, sliced};
 use gmpl_resolved::{Entry, Expr, Indexing};
-use gmpl_syntax::{Function, Iteration, Relation};
+use gmpl_syntax::{Function, Relation};
 use gmpl_value::{EvalFault, SetValue, Tuple};
 use sqlite_items::{Boxed, Items};
 use std::alloc::Global;
@@ -379,7 +377,7 @@ pub(crate) fn negation(
     Ok(Value::Truth(!truth))
 }
 
-// ---- braces and iterations
+// ---- braces
 
 #[cycle(evaluation)]
 pub(crate) fn braces(
@@ -431,54 +429,4 @@ fn listed(
         add(&mut found, value.into_tuple(alloc)?)?;
     }
     Ok(Value::Elements(found))
-}
-
-#[cycle(evaluation)]
-pub(crate) fn iterated(
-    alloc: Global,
-    model: &LoadedModel,
-    kept: &mut Kept,
-    height: u32,
-    room: u32,
-    iteration: Iteration,
-    indexing: &Indexing,
-    body: &Expr,
-    bindings: &Tuple,
-) -> Result<Value, EvalFault>
-    requires right { AreRight model.now kept.old }
-    ensures right { AreRight model.now kept.new }
-    ensures value { Gives result (spec.iterated iteration (at.expr model.now height body.now) bindings.now (walks.walked (at.indexing model.now height indexing.now) bindings.now)) }
-{
-    let walk = walked(alloc, model, kept, height, room, indexing, bindings)?;
-    gone_over(
-        alloc, model, kept, height, room, iteration, &walk, body, bindings,
-    )
-}
-
-#[cycle(evaluation)]
-fn gone_over(
-    alloc: Global,
-    model: &LoadedModel,
-    kept: &mut Kept,
-    height: u32,
-    room: u32,
-    iteration: Iteration,
-    walk: &Walk,
-    body: &Expr,
-    bindings: &Tuple,
-) -> Result<Value, EvalFault>
-    requires right { AreRight model.now kept.old }
-    ensures right { AreRight model.now kept.new }
-    ensures value { Gives result (spec.iterated iteration (at.expr model.now height body.now) bindings.now walk.now) }
-{
-    let mut total = None;
-    for element in walk.elements.as_slice() {
-        if is_decided(iteration, &total) {
-            return ended(alloc, iteration, total);
-        }
-        let inner = bindings.joined(alloc, &element.indices)?;
-        let value = eval(alloc, model, kept, height, room, body, &inner)?;
-        total = joined(alloc, iteration, total, value)?;
-    }
-    closed(alloc, iteration, total, walk.fault)
 }

@@ -102,6 +102,11 @@ n 38 => sum{i in I, j in i..3: i <> j} d[i,j] - 10
 n 1 => sum{i in 3..1 by -1: i = 1} i
 n 9 => sum{i in 1..5 by 2} i
 n !DivZero => sum{i in 1..5 by 0} i
+n 2 => sum{i in 1..3, j in i..3, k in 1..3: i + j = k} 1
+n 18 => prod{i in 1..2, j in 1..3: i < j} j
+n !DivZero => sum{i in 1..2, j in 1..1/(2-i)} i
+n !NotANumber => sum{i in 1..2, j in 1..1/(2-i)} 'a'
+n !NotANumber => sum{i in 1..2: 1/(2-i) > 0} 'a'
 n 13 => d[1,3]
 n !OutOfDomain => d[2,2]
 n !OutOfDomain => d[4,5]
@@ -239,6 +244,9 @@ b 1 => exists{i in I} i > 2
 b 0 => exists{i in I} i > 3
 b !DivZero => exists{i in I} 1 / (i - 2) > 0
 b 0 => forall{i in 1..2, j in 1..1/(2-i)} i > 1
+b 1 => exists{i in 1..2, j in 1..1/(2-i)} i = j
+b 1 => exists{i in 1..10000, j in 1..1000} 1
+b 0 => forall{i in 1..10000, j in 1..1000} i + j < 2
 b 1 => forall{i in {}} 1/0
 b 0 => exists{i in {}} 1/0
 b 1 => forall{i in I: i > 2} i = 3

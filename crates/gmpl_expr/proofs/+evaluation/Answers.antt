@@ -1,8 +1,10 @@
--- A member that is evaluated anew, and the parts of ranges and comparisons.
+-- A member that is evaluated anew, the parts of ranges and comparisons, and iterations.
 use Rattle.std.proofs.Common.{◌<◌, arith, subst, sym}
 use Rattle.gmpl_value.specs.Outcome.{Gives}
 use Rattle.gmpl_expr.proofs.Demands.{member_none, member_some}
 use Rattle.gmpl_expr.specs.At as at
+use Rattle.gmpl_expr.specs.Shared.{entered}
+use Rattle.gmpl_expr.proofs.InModels.{first_entry, iterated_at}
 use Rattle.gmpl_expr.proofs.Membership.{compared_in, compared_not_in}
 use Rattle.gmpl_expr.proofs.Ranges.{by_one, by_step, range_in_place}
 use Rattle.gmpl_expr.proofs.Rolled.{compared_at, range_at}
@@ -60,3 +62,16 @@ values::within_set-returns-clause-value t c =
 pub values::outside_set-returns-clause-value : goal.values::outside_set-returns-clause-value
 values::outside_set-returns-clause-value t c =
     subst (Gives c.negated_value.result) (sym (compared_not_in (at.expr c.args.model.now c.args.height c.args.left.now) (at.expr c.args.model.now c.args.height c.args.right.now) c.args.bindings.now)) (c.negated_value.ensures _ c.is_element-found.ensures.value)
+
+-- ---- iterations
+
+pub iterations::over_entries-returns-in_ok-value-in-len1-up-clause-value : goal.iterations::over_entries-returns-in_ok-value-in-len1-up-clause-value
+iterations::over_entries-returns-in_ok-value-in-len1-up-clause-value t c =
+    first_entry c.args.model.now c.args.height c.args.each.now.iteration (at.optional c.args.model.now c.args.height c.args.each.now.condition.now) (at.expr c.args.model.now c.args.height c.args.each.now.body.now)
+    c.args.entries.now c.entry-item.result (entered c.in_ok-value-in-len1-up.value) c.args.bindings.now c.args.total.now c.over_tuples.new.total c.over_tuples.result
+    c.in-len1-up.len_at_least c.entry-item.is c.in_ok-value-in-len1-up.ensures.value c.over_tuples.ensures.value
+
+pub iterations::iterated-returns-clause-value : goal.iterations::iterated-returns-clause-value
+iterations::iterated-returns-clause-value t c =
+    iterated_at c.args.model.now c.args.height c.args.iteration c.args.indexing.now (at.expr c.args.model.now c.args.height c.args.body.now) c.args.bindings.now c.as_slice-entries.result.now c.finished.result
+    c.as_slice-entries.ensures (c.finished.ensures _ c.over_entries-done.ensures.value)

@@ -1,6 +1,7 @@
 -- How far the evaluation may go on, and what loops keep: what is done, then the rest.
 use Rattle.std.proofs.Common.{◌≡◌, ◌+◌, ◌*◌, [], drop}
 use Rattle.gmpl_expr.specs.At as at
+use Rattle.gmpl_expr.specs.OneByOne as one_by_one
 use Rattle.gmpl_meaning.specs.Expressions as spec
 use Rattle.gmpl_meaning.specs.Walks as walks
 use Rattle.gmpl_meaning.specs.Domains as domains
@@ -87,9 +88,6 @@ decreases-indexing::extended l = 32 * l.room + 5
 abbrev pub decreases-indexing::filtered : goal.decreases-indexing::filtered
 decreases-indexing::filtered l = 32 * l.room + 2
 
-abbrev pub decreases-values::gone_over : goal.decreases-values::gone_over
-decreases-values::gone_over l = 32 * l.room + 1
-
 abbrev pub decreases-evaluate::group : goal.decreases-evaluate::group
 decreases-evaluate::group l = 32 * l.room + 2
 
@@ -101,9 +99,6 @@ decreases-restrictions::inclusion_holds l = 32 * l.room + 4
 
 abbrev pub decreases-restrictions::inclusions_hold : goal.decreases-restrictions::inclusions_hold
 decreases-restrictions::inclusions_hold l = 32 * l.room + 5
-
-abbrev pub decreases-values::iterated : goal.decreases-values::iterated
-decreases-values::iterated l = 32 * l.room + 8
 
 abbrev pub decreases-evaluate::linked : goal.decreases-evaluate::linked
 decreases-evaluate::linked l = 32 * l.room + 1
@@ -198,6 +193,27 @@ decreases-indexing::within_entry l = 32 * l.room + 5
 abbrev pub decreases-indexing::within_indexing : goal.decreases-indexing::within_indexing
 decreases-indexing::within_indexing l = 32 * l.room + 7
 
+abbrev pub decreases-iterations::iterated : goal.decreases-iterations::iterated
+decreases-iterations::iterated l = 32 * l.room + 7
+
+abbrev pub decreases-iterations::over_entries : goal.decreases-iterations::over_entries
+decreases-iterations::over_entries l = 32 * l.room + 6
+
+abbrev pub decreases-iterations::over_tuples : goal.decreases-iterations::over_tuples
+decreases-iterations::over_tuples l = 32 * l.room + 5
+
+abbrev pub decreases-iterations::at_inner : goal.decreases-iterations::at_inner
+decreases-iterations::at_inner l = 32 * l.room + 4
+
+abbrev pub decreases-iterations::deeper : goal.decreases-iterations::deeper
+decreases-iterations::deeper l = 32 * l.room + 3
+
+abbrev pub decreases-iterations::at_element : goal.decreases-iterations::at_element
+decreases-iterations::at_element l = 32 * l.room + 2
+
+abbrev pub decreases-iterations::with_body : goal.decreases-iterations::with_body
+decreases-iterations::with_body l = 32 * l.room + 1
+
 abbrev pub invariant-values::symbols-loop-one : goal.invariant-values::symbols-loop-one
 invariant-values::symbols-loop-one l =
     (spec.symbols [] (at.exprs l.model l.height l.all) l.bindings ≡ spec.symbols l.found (at.exprs l.model l.height (drop l.one-index l.all)) l.bindings) × AreRight l.model l.kept
@@ -209,10 +225,6 @@ invariant-values::numbers-loop-one l =
 abbrev pub invariant-values::listed-loop-entry : goal.invariant-values::listed-loop-entry
 invariant-values::listed-loop-entry l =
     (spec.listed [] (at.entries l.model l.height l.entries) l.bindings ≡ spec.listed l.found (at.entries l.model l.height (drop l.entry-index l.entries)) l.bindings) × AreRight l.model l.kept
-
-abbrev pub invariant-values::gone_over-loop-element : goal.invariant-values::gone_over-loop-element
-invariant-values::gone_over-loop-element l =
-    (spec.iterated l.iteration (at.expr l.model l.height l.body) l.bindings l.walk ≡ spec.gone_over l.iteration (at.expr l.model l.height l.body) l.bindings l.total (drop l.element-index l.walk.elements) l.walk.fault) × AreRight l.model l.kept
 
 abbrev pub invariant-indexing::over_entries-loop-entry : goal.invariant-indexing::over_entries-loop-entry
 invariant-indexing::over_entries-loop-entry l =
@@ -249,3 +261,9 @@ invariant-restrictions::memberships_hold-loop-attribute l =
 abbrev pub invariant-restrictions::inclusions_hold-loop-attribute : goal.invariant-restrictions::inclusions_hold-loop-attribute
 invariant-restrictions::inclusions_hold-loop-attribute l =
     (restrictions.inclusions_hold l.model.statements (member l.model l.height) l.bindings l.attributes l.set ≡ restrictions.inclusions_hold l.model.statements (member l.model l.height) l.bindings (drop l.attribute-index l.attributes) l.set) × AreRight l.model l.kept
+
+abbrev pub invariant-iterations::over_tuples-loop-tuple : goal.invariant-iterations::over_tuples-loop-tuple
+invariant-iterations::over_tuples-loop-tuple l =
+    let go = one_by_one.over_entries l.each.iteration (at.optional l.model l.height l.each.condition.now) (at.expr l.model l.height l.each.body.now) (at.entries l.model l.height l.entries) in
+    let over = one_by_one.over_tuples l.each.iteration (at.optional l.model l.height l.each.condition.now) (at.expr l.model l.height l.each.body.now) go l.bindings l.value.pattern in
+    (over l.value.set.value l.initial.total ≡ over (drop l.tuple-index l.value.set.value) l.total) × AreRight l.model l.kept
