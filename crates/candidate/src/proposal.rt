@@ -97,7 +97,7 @@ impl Proposer {
         let aim = Aim {
             splits,
             cutoff,
-            is_cold: start.is_none(),
+            may_spread: start.is_none() && model.has_no_costs(),
         };
         let start = start_of(alloc, &model, start)?;
         let mut state = State::at_basis(alloc, model, start, self.steps)?;

@@ -13,13 +13,13 @@ use tableau::{State, TieRule};
 // How often a search whose numbers did not fit is taken up again.
 const TRIES: u32 = 6;
 
-/// What a search is to find: the least value, if it is below the cutoff, below these splits. It is cold where it doesn't begin at the
-/// basis of a node above.
+/// What a search is to find: the least value, if it is below the cutoff, below these splits. Where it stands still it may go on with
+/// small costs.
 #[derive(Clone, Copy)]
 pub(crate) struct Aim<'a> {
     pub splits: &'a SplitsTaken,
     pub cutoff: &'a Option<Frac>,
-    pub is_cold: bool,
+    pub may_spread: bool,
 }
 
 /// What it comes to, and where it began.
@@ -37,7 +37,7 @@ pub(crate) fn run(state: &mut State, alloc: Global, aim: Aim<'_>) -> Result<Foun
         outcome => return outcome,
     }
     let later = Aim {
-        is_cold: false,
+        may_spread: false,
         ..aim
     };
     for _ in 0..TRIES {
@@ -55,9 +55,6 @@ pub(crate) fn run(state: &mut State, alloc: Global, aim: Aim<'_>) -> Result<Foun
 fn run_once(state: &mut State, alloc: Global, aim: Aim<'_>) -> Result<Found, Stop> {
     begin(state, alloc)?;
     let departure = departure_of(state, aim.splits);
-    if aim.is_cold && !state.is_feasible() && !state.model.has_no_costs() {
-        spread_costs(state)?;
-    }
     let end = match dual_phase(state, alloc, aim)? {
         Some(end) => end,
         None => finish(state, alloc)?,
@@ -139,7 +136,7 @@ fn dual_phase(state: &mut State, alloc: Global, aim: Aim<'_>) -> Result<Option<E
         if is_cut_off(state, aim.cutoff) {
             return Ok(Some(End::Bounded));
         }
-        if aim.is_cold && stands_still(state) {
+        if aim.may_spread && stands_still(state) {
             spread_costs(state)?;
         }
         match dual_step(state, alloc)? {

@@ -54,7 +54,7 @@ pub(crate) fn iterated(
     };
     let mut total = None;
     let entries = indexing.entries.as_slice();
-    let done = over_entries(
+    let done = deeper(
         alloc, model, kept, height, room, &each, entries, bindings, &mut total,
     );
     finished(alloc, iteration, total, done)
@@ -143,7 +143,7 @@ fn at_inner(
     }
 }
 
-// Entries within one another take room.
+// The entries that are left, each of which takes one of the room.
 #[cycle(evaluation)]
 fn deeper(
     alloc: Global,
