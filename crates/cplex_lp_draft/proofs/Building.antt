@@ -17,7 +17,7 @@ entries-same (r ∷ rs) = ap (λ n. length r.entries + n) (entries-same rs)
 abbrev pub AreLeft : Problem → List Row → Problem → Type 0
 AreLeft b rows whole = IsLeft b rows whole × All (HasForm (length b.columns)) rows
 
-pub all-left : (b : Problem) (rows left : List Row) → left ≡ rows → b.rows ≡ [] → AreNew (map (λ (r : Row). r.name) rows) → length rows ≤ 100_000 → All (HasForm (length b.columns)) rows → entry_count rows ≤ 2_000_000 → AreLeft b left (record b { rows = rows })
+pub all-left : (b : Problem) (rows left : List Row) → left ≡ rows → b.rows ≡ [] → AreNew (map (λ (r : Row). r.name) rows) → length rows ≤ 1_000_000 → All (HasForm (length b.columns)) rows → entry_count rows ≤ 20_000_000 → AreLeft b left (record b { rows = rows })
 all-left b rows left same none new few forms entries =
     let one : IsLeft b rows (record b { rows = rows }) = left-at-first b rows none new few (omega (arith, entries-same rows, entries)) in
     rw same (one, forms)

@@ -156,7 +156,7 @@ impl<'a> Draft<'a> {
     /// How many rows have begun.
     pub fn row_count(&self) -> usize
         ensures len { result ≡ length self.now.rows }
-        ensures few { result ≤ 100_000 }
+        ensures few { result ≤ 1_000_000 }
     {
         self.rows.len()
     }
@@ -164,7 +164,7 @@ impl<'a> Draft<'a> {
     /// How many entries the rows have that are read to their end.
     pub fn entry_count(&self) -> usize
         ensures value { result ≡ entry_count self.now.rows }
-        ensures few { result ≤ 2_000_000 }
+        ensures few { result ≤ 20_000_000 }
     {
         self.rows.entry_count()
     }
@@ -180,8 +180,8 @@ impl<'a> Draft<'a> {
     pub(crate) fn into_rows(self) -> Vec<DeclaredRow>
         ensures value { result.items ≡ self.entry.rows }
         ensures new { AreNew (map (λ (r : Row). r.name) self.entry.rows) }
-        ensures few { length self.entry.rows ≤ 100_000 }
-        ensures entries { entry_count self.entry.rows ≤ 2_000_000 }
+        ensures few { length self.entry.rows ≤ 1_000_000 }
+        ensures entries { entry_count self.entry.rows ≤ 20_000_000 }
         ensures forms { All (HasForm (length self.entry.columns)) self.entry.rows }
     {
         self.rows.into_rows()
@@ -190,7 +190,7 @@ impl<'a> Draft<'a> {
     /// The row of a new name begins at a line.
     pub fn push_row(&mut self, alloc: Global, line: usize, name: String) -> Result<(), AllocError>
         requires new { is_row (string_bytes name) self.old.rows ≡ false }
-        requires room { length self.old.rows < 100_000 }
+        requires room { length self.old.rows < 1_000_000 }
         ensures { OnOk result (self.new ≡ record self.old { rows = self.old.rows ++ blank_row (string_bytes name) ∷ []; open_row = new_row line }) }
     {
         self.rows.push(alloc, name)?;
@@ -252,7 +252,7 @@ impl<'a> Draft<'a> {
     /// The last row is read to its end, and has these entries.
     pub fn close_row(&mut self, entries: Vec<Entry>)
         requires entries { entries.items ≡ entries_of self.old.open_row.form }
-        requires room { entry_count self.old.rows + length entries.items ≤ 2_000_000 }
+        requires room { entry_count self.old.rows + length entries.items ≤ 20_000_000 }
         ensures { self.new ≡ record self.old { rows = with_changed (length self.old.rows - 1) (filled self.old.open_row) self.old.rows; expecting = expecting.RowStart } }
     {
         self.rows
@@ -272,7 +272,7 @@ impl<'a> Draft<'a> {
     pub(crate) fn columns(&self) -> &[DeclaredColumn<'a>]
         ensures value { result.now ≡ self.now.columns }
         ensures new { AreNew (map (λ (c : Column). c.name) self.now.columns) }
-        ensures few { length self.now.columns ≤ 100_000 }
+        ensures few { length self.now.columns ≤ 1_000_000 }
     {
         self.columns.as_slice()
     }
@@ -291,7 +291,7 @@ impl<'a> Draft<'a> {
     /// A column more, of a new name.
     pub fn push_column(&mut self, name: &'a str) -> Result<(), AllocError>
         requires new { length self.old.columns ≤ column_place name.now self.old.columns }
-        requires room { length self.old.columns < 100_000 }
+        requires room { length self.old.columns < 1_000_000 }
         ensures added { OnOk result (self.new ≡ record self.old { columns = self.old.columns ++ new_column name.now false ∷ [] }) }
         ensures more { OnOk result (length self.new.columns ≡ length self.old.columns + 1) }
     {

@@ -31,7 +31,7 @@ impl Model for RowTable {
 
     ghost view = { λ t. t.rows.items };
 
-    ghost invariant = { λ t. record { index : t.names ≡ map (λ (r : Row). r.name) t.rows.items; new : AreNew t.names; few : length t.rows.items ≤ 100_000; counted : t.count ≡ entries_in t.rows.items; entry_room : entries_in t.rows.items ≤ 2_000_000 } };
+    ghost invariant = { λ t. record { index : t.names ≡ map (λ (r : Row). r.name) t.rows.items; new : AreNew t.names; few : length t.rows.items ≤ 1_000_000; counted : t.count ≡ entries_in t.rows.items; entry_room : entries_in t.rows.items ≤ 20_000_000 } };
 }
 
 impl RowTable {
@@ -47,14 +47,14 @@ impl RowTable {
 
     pub(crate) fn len(&self) -> usize
         ensures len { result ≡ length self.now }
-        ensures few { length self.now ≤ 100_000 }
+        ensures few { length self.now ≤ 1_000_000 }
     {
         self.rows.len()
     }
 
     pub(crate) fn entry_count(&self) -> usize
         ensures value { result ≡ entry_count self.now }
-        ensures few { result ≤ 2_000_000 }
+        ensures few { result ≤ 20_000_000 }
     {
         self.count
     }
@@ -63,8 +63,8 @@ impl RowTable {
     pub(crate) fn into_rows(self) -> Vec<DeclaredRow>
         ensures value { result.items ≡ self }
         ensures new { AreNew (map (λ (r : Row). r.name) self) }
-        ensures few { length self ≤ 100_000 }
-        ensures entries { entry_count self ≤ 2_000_000 }
+        ensures few { length self ≤ 1_000_000 }
+        ensures entries { entry_count self ≤ 20_000_000 }
     {
         self.rows
     }
@@ -79,7 +79,7 @@ impl RowTable {
     // One more row, of which the name alone is read.
     pub(crate) fn push(&mut self, alloc: Global, name: String) -> Result<(), AllocError>
         requires new { is_row (string_bytes name) self.old ≡ false }
-        requires room { length self.old < 100_000 }
+        requires room { length self.old < 1_000_000 }
         ensures added { OnOk result (self.new ≡ self.old ++ blank_row (string_bytes name) ∷ []) }
         ensures kept { OnErr result (self.new ≡ self.old) }
     {
@@ -97,7 +97,7 @@ impl RowTable {
         upper: Option<Frac>,
         entries: Vec<Entry>,
     )
-        requires { entry_count self.old + length entries.items ≤ 2_000_000 }
+        requires { entry_count self.old + length entries.items ≤ 20_000_000 }
         ensures { self.new ≡ with_changed (length self.old - 1) (λ (r : Row). record r { lower = lower; upper = upper; entries = entries.items }) self.old }
     {
         let rows = self.rows.len();

@@ -59,7 +59,7 @@ fn named_row(
 
 // The row after so many, without a name.
 fn default_name(alloc: Global, rows: usize) -> Result<String, AllocError>
-    requires { rows ≤ 100_000 }
+    requires { rows ≤ 1_000_000 }
     ensures { IfOk result (λ name. string_bytes name ≡ codes "r." ++ decimal (rows + 1)) }
 {
     let number = rows + 1;

@@ -69,7 +69,7 @@ module _ (text : List ℕ) (p : Problem) (count : ℕ) (declares : declared text
       some_same : {a b : Meaning} → Some a ≡ Some b → a ≡ b
       some_same e = cc
 
-  pub is_complete : length text ≤ 16777216 → (told : ToldNames) (files_rose out_rose : Type 0) → Has (told (codes "model")) text → (files_rose → ⊥) → (out_rose → ⊥) → IsComplete example_words told files_rose out_rose
+  pub is_complete : length text ≤ 67108864 → (told : ToldNames) (files_rose out_rose : Type 0) → Has (told (codes "model")) text → (files_rose → ⊥) → (out_rose → ⊥) → IsComplete example_words told files_rose out_rose
   is_complete short told files_rose out_rose has files_held out_held = record {
     settings = plain_settings;
     texts = text ∷ [];

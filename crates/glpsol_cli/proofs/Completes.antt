@@ -58,7 +58,7 @@ texts_same told (name ∷ names) (text ∷ texts) (other ∷ others) has read = 
 record ToldShort (told : ToldNames) (name : List ℕ) : Type 0 where
   text : List ℕ
   has : Has (told name) text
-  within : length text ≤ 16777216
+  within : length text ≤ 67108864
 
 told_short : (told : ToldNames) (before : List (List ℕ)) (name : List ℕ) (after texts : List (List ℕ)) → AreTold told (before ++ name ∷ after) texts → ToldShort told name
 told_short told [] name after [] has = absurd has
@@ -185,9 +185,9 @@ module _ (words : List (List ℕ)) (told : ToldNames) (settings : Settings) (tex
   not_missing : (name : List ℕ) (r : Reached) → OfFile words told name r (λ now. (text : List ℕ) → Has now text → ⊥) → ⊥
   not_missing name r h = let found = file_told name r (λ now. (text : List ℕ) → Has now text → ⊥) h in found.said.first found.text found.said.second.0
 
-  not_long : (name : List ℕ) (r : Reached) → OfFile words told name r (λ now. (Lacks now → ⊥) × ((text : List ℕ) → Has now text → 16777216 < length text)) → ⊥
+  not_long : (name : List ℕ) (r : Reached) → OfFile words told name r (λ now. (Lacks now → ⊥) × ((text : List ℕ) → Has now text → 67108864 < length text)) → ⊥
   not_long name r h =
-      let found = file_told name r (λ now. (Lacks now → ⊥) × ((text : List ℕ) → Has now text → 16777216 < length text)) h in
+      let found = file_told name r (λ now. (Lacks now → ⊥) × ((text : List ℕ) → Has now text → 67108864 < length text)) h in
       let above = found.said.first.1 found.text found.said.second.0 in
       let short = found.said.second.1 in
       absurd (omega (arith, above, short))

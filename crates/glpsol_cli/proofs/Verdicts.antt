@@ -62,7 +62,7 @@ module _ (words : List (List ℕ)) (told : ToldNames) (c : Certificate) (right :
   carried files_rose out_rose (OpenFault name r) e h = absurd (file_carried name (λ now. files_rose) r e h)
   carried files_rose out_rose (ReadFault name r) e h = absurd (file_carried name (λ now. (Lacks now → ⊥) × files_rose) r e h)
   carried files_rose out_rose (WriteFault target r) e h = of_reached r e h.0
-  carried files_rose out_rose (TooLong name r) e h = absurd (file_carried name (λ now. (Lacks now → ⊥) × ((text : List ℕ) → Has now text → 16777216 < length text)) r e h)
+  carried files_rose out_rose (TooLong name r) e h = absurd (file_carried name (λ now. (Lacks now → ⊥) × ((text : List ℕ) → Has now text → 67108864 < length text)) r e h)
   carried files_rose out_rose (BadText fault) e h = absurd (executed_carried e)
   carried files_rose out_rose (FaultBehindSolve fault d) e h = of_ended (Some fault) d e h.1
   carried files_rose out_rose (BadCertificate fault) e h = absurd (executed_carried e)

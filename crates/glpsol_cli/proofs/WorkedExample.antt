@@ -31,7 +31,7 @@ declares Endless = refl
 declares Pivoted = refl
 declares Parted = declares_parted
 
-pub short : (e : Example) → length (text_of e) ≤ 16777216
+pub short : (e : Example) → length (text_of e) ≤ 67108864
 short AnyWhole = omega arith
 short LeastWhole = omega arith
 short Endless = omega arith

@@ -52,7 +52,7 @@ names_read s = s.model ∷ (s.data_files ++ names_checked s.task)
 -- a file isn't told missing, and its text, where it is told, isn't too long
 pub record IsThere (told : Option (Option (List ℕ))) : Type 0 where
   pub there : Lacks told → ⊥
-  pub within : (text : List ℕ) → Has told text → length text ≤ 16777216
+  pub within : (text : List ℕ) → Has told text → length text ≤ 67108864
 
 abbrev pub AreThere : ToldNames → List (List ℕ) → Type 0
 AreThere told [] = Unit {0}
@@ -70,7 +70,7 @@ pub record IsInTurn (words : List (List ℕ)) (told : ToldNames) (name : List �
 -- a file is there, and this is its text, which isn't too long; where the store tells nothing of it, some such text
 pub record IsTextOf (told : Option (Option (List ℕ))) (text : List ℕ) : Type 0 where
   pub there : IsThere told
-  pub short : length text ≤ 16777216
+  pub short : length text ≤ 67108864
   pub is : (bytes : List ℕ) → Has told bytes → bytes ≡ text
 
 -- the texts of the files of these names

@@ -25,11 +25,11 @@ abbrev pub AreTold : ToldNames → List (List ℕ) → List (List ℕ) → Type 
 AreTold told [] [] = Unit {0}
 AreTold told [] (text ∷ texts) = ⊥
 AreTold told (name ∷ names) [] = ⊥
-AreTold told (name ∷ names) (text ∷ texts) = Has (told name) text × (length text ≤ 16777216) × AreTold told names texts
+AreTold told (name ∷ names) (text ∷ texts) = Has (told name) text × (length text ≤ 67108864) × AreTold told names texts
 
 -- it is told with this text, which isn't too long
 abbrev pub IsToldShort : List ℕ → Option (Option (List ℕ)) → Type 0
-IsToldShort text told = Has told text × (length text ≤ 16777216)
+IsToldShort text told = Has told text × (length text ≤ 67108864)
 
 -- the table's file that is to be read next is told with this text then, which isn't too long
 pub record IsTableTold (told : ToldNames) (s : Settings) (texts : List (List ℕ)) (text : List ℕ) : Type 0 where

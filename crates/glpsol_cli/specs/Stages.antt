@@ -225,7 +225,7 @@ abbrev pub IsUnread : Option (Option (List ℕ)) → Type 0 → LoadFault → Ty
 IsUnread told files_rose LoadMissing = (text : List ℕ) → Has told text → ⊥
 IsUnread told files_rose Open = files_rose
 IsUnread told files_rose Read = (Lacks told → ⊥) × files_rose
-IsUnread told files_rose LoadTooLong = (Lacks told → ⊥) × ((text : List ℕ) → Has told text → 16777216 < length text)
+IsUnread told files_rose LoadTooLong = (Lacks told → ⊥) × ((text : List ℕ) → Has told text → 67108864 < length text)
 IsUnread told files_rose LoadNoMemory = Unit {0}
 
 abbrev pub IsWordsFault : List (List ℕ) → WordsFault → Type 0

@@ -58,7 +58,7 @@ abbrev pub CauseBy : ToldNames → Type 0 → Type 0 → Answer → Settings →
 CauseBy told files_rose out_rose (Missing name reached) s texts = IsTableInTurn told name (λ now. (text : List ℕ) → Has now text → ⊥) s texts
 CauseBy told files_rose out_rose (OpenFault name reached) s texts = IsTableInTurn told name (λ now. files_rose) s texts
 CauseBy told files_rose out_rose (ReadFault name reached) s texts = IsTableInTurn told name (λ now. (Lacks now → ⊥) × files_rose) s texts
-CauseBy told files_rose out_rose (TooLong name reached) s texts = IsTableInTurn told name (λ now. (Lacks now → ⊥) × ((text : List ℕ) → Has now text → 16777216 < length text)) s texts
+CauseBy told files_rose out_rose (TooLong name reached) s texts = IsTableInTurn told name (λ now. (Lacks now → ⊥) × ((text : List ℕ) → Has now text → 67108864 < length text)) s texts
 CauseBy told files_rose out_rose answer s texts = CauseIn s texts files_rose out_rose answer
 
 -- the user's words for the verdict of an answer

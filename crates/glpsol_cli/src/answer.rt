@@ -106,7 +106,7 @@ pub enum Answer {
         target: Target,
         reached: Reached,
     },
-    /// The file of this name is longer than 16,777,216 bytes.
+    /// The file of this name is longer than 67,108,864 bytes.
     TooLong {
         name: Name,
         reached: Reached,

@@ -17,7 +17,7 @@ use std::alloc::{AllocError, Global};
 use std::marker::Model;
 
 // How many elements of sets, symbols, forms and bounds are kept at most.
-const MOST_KEPT: usize = 3_000_000;
+const MOST_KEPT: usize = 8_000_000;
 
 /// What is kept of a model, by what was asked for: values, and the bounds of variables' members. Clauses see the lists of pairs.
 #[derive(Drop)]

@@ -12,8 +12,8 @@ pub record IsLeft (b : Problem) (rows : List Row) (whole : Problem) : Type 0 whe
   pub same : record b { rows = b.rows ++ rows } ≡ whole
   pub new : IsTrue (are_distinct_rows b.rows rows)
   pub forms : IsTrue (list_all (λ (r : Row). are_entries (length b.columns) r.entries) rows)
-  pub room : length b.rows + length rows ≤ 100000
-  pub entry_room : entry_count b.rows + entry_count rows ≤ 2000000
+  pub room : length b.rows + length rows ≤ 1000000
+  pub entry_room : entry_count b.rows + entry_count rows ≤ 20000000
 
 second : (a b : Bool) → (a && b) ≡ true → b ≡ true
 second true b h = h

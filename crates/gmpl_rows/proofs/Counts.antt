@@ -100,7 +100,7 @@ pub note-past : (row : ℕ) (t : Term) (ds all : List Demanded) (entries columns
 note-past row t ds all entries columns same counted past =
     let P : List Demanded → Type 0 = λ l. note row t l ≡ Ok ds in
     let unchanged = changed-past (noted_in row t) ds t.variable.statement past in
-    let within = both-true (cell_count ds) 2000000 (used_count ds) 100000 (omega (arith, counted.entries_are, counted.few_entries)) (omega (arith, counted.columns_are, counted.few_columns)) in
+    let within = both-true (cell_count ds) 20000000 (used_count ds) 1000000 (omega (arith, counted.entries_are, counted.few_entries)) (omega (arith, counted.columns_are, counted.few_columns)) in
     subst P same (noted-ok row t ds (ap within_limits unchanged ∙ within) ∙ ap Ok unchanged)
 
 module _ (row : ℕ) (t : Term) (ds all : List Demanded) (entries columns : ℕ) (x y : Demanded) (more : More) (same : ds ≡ all) (counted : AreCounted ds entries columns)
@@ -118,17 +118,17 @@ module _ (row : ℕ) (t : Term) (ds all : List Demanded) (entries columns : ℕ)
   set-noted : set ds t.variable.statement y ≡ noted row t ds
   set-noted = set-changed (noted_in row t) ds t.variable.statement x y lt is then_is
 
-  pub note-entries : 2000000 < entries + more.entries → note row t all ≡ Err TooMany
+  pub note-entries : 20000000 < entries + more.entries → note row t all ≡ Err TooMany
   note-entries many =
       let P : List Demanded → Type 0 = λ l. note row t l ≡ Err TooMany in
-      subst P same (noted-many row t ds (first-false (cell_count (noted row t ds)) 2000000 _ (omega (arith, entries-now, many))))
+      subst P same (noted-many row t ds (first-false (cell_count (noted row t ds)) 20000000 _ (omega (arith, entries-now, many))))
 
-  pub note-columns : entries + more.entries ≤ 2000000 → 100000 < columns + more.columns → note row t all ≡ Err TooMany
+  pub note-columns : entries + more.entries ≤ 20000000 → 1000000 < columns + more.columns → note row t all ≡ Err TooMany
   note-columns few many =
       let P : List Demanded → Type 0 = λ l. note row t l ≡ Err TooMany in
-      subst P same (noted-many row t ds (second-false (cell_count (noted row t ds)) 2000000 (used_count (noted row t ds)) 100000 (omega (arith, entries-now, few)) (omega (arith, columns-now, many))))
+      subst P same (noted-many row t ds (second-false (cell_count (noted row t ds)) 20000000 (used_count (noted row t ds)) 1000000 (omega (arith, entries-now, few)) (omega (arith, columns-now, many))))
 
-  pub note-counted : entries + more.entries ≤ 2000000 → columns + more.columns ≤ 100000 → AreCounted (set ds t.variable.statement y) (entries + more.entries) (columns + more.columns)
+  pub note-counted : entries + more.entries ≤ 20000000 → columns + more.columns ≤ 1000000 → AreCounted (set ds t.variable.statement y) (entries + more.entries) (columns + more.columns)
   note-counted few few_columns = record {
     entries_are = sym (ap cell_count set-noted ∙ entries-now);
     columns_are = sym (ap used_count set-noted ∙ columns-now);
@@ -136,10 +136,10 @@ module _ (row : ℕ) (t : Term) (ds all : List Demanded) (entries columns : ℕ)
     few_columns = few_columns;
   }
 
-  pub note-ok : entries + more.entries ≤ 2000000 → columns + more.columns ≤ 100000 → note row t all ≡ Ok (set ds t.variable.statement y)
+  pub note-ok : entries + more.entries ≤ 20000000 → columns + more.columns ≤ 1000000 → note row t all ≡ Ok (set ds t.variable.statement y)
   note-ok few few_columns =
       let P : List Demanded → Type 0 = λ l. note row t l ≡ Ok (set ds t.variable.statement y) in
-      let within = both-true (cell_count (noted row t ds)) 2000000 (used_count (noted row t ds)) 100000 (omega (arith, entries-now, few)) (omega (arith, columns-now, few_columns)) in
+      let within = both-true (cell_count (noted row t ds)) 20000000 (used_count (noted row t ds)) 1000000 (omega (arith, entries-now, few)) (omega (arith, columns-now, few_columns)) in
       subst P same (noted-ok row t ds within ∙ ap Ok (sym set-noted))
 
 -- ---- the start

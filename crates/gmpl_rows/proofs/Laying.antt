@@ -228,7 +228,7 @@ rows-total vs [] rs = omega arith
 rows-total vs (h ∷ hs) [] = omega arith
 rows-total vs (h ∷ hs) (r ∷ rs) = omega (arith, rows-total vs hs rs)
 
-pub rows-few : (vs : List Declared) (ls : List LaidColumn) (hs : List RowHead) → laid_cells ls ≤ 2000000 → entry_count (rows_from vs ls 0 hs) ≤ 2000000
+pub rows-few : (vs : List Declared) (ls : List LaidColumn) (hs : List RowHead) → laid_cells ls ≤ 20000000 → entry_count (rows_from vs ls 0 hs) ≤ 20000000
 rows-few vs ls hs few =
     let rs = lay_all 0 ls (all_begun (length hs)) in
     omega (arith, ap entry_count (rows-laid vs ls hs), rows-total vs hs rs, total-all 0 ls (all_begun (length hs)), total-begun (length hs), few)

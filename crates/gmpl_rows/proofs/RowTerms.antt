@@ -170,7 +170,7 @@ record IsMade (head : RowHead) (terms : List Term) (d e : Draft) : Type 0 where
   noted : note_all (length d.rows) terms d.variables ≡ Ok e.variables
 
 made_of : (head : RowHead) (terms : List Term) (d e : Draft) → with_new_row head terms d ≡ Ok e → IsMade head terms d e
-made_of head terms d e is = few (nat_lt (length d.rows) 100000) is
+made_of head terms d e is = few (nat_lt (length d.rows) 1000000) is
   where
     put : List Demanded → Result Draft DraftFault
     put vs = Ok (record d { rows = d.rows ++ head ∷ []; variables = vs })

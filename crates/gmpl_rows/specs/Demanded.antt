@@ -72,7 +72,7 @@ used_count (d ∷ ds) = used_of d.columns + used_count ds
 
 -- at most 2,000,000 entries and 100,000 columns
 abbrev pub within_limits : List Demanded → Bool
-within_limits ds = nat_le (cell_count ds) 2000000 && nat_le (used_count ds) 100000
+within_limits ds = nat_le (cell_count ds) 20000000 && nat_le (used_count ds) 1000000
 
 -- TooMany is at the entry or column that would pass a limit
 abbrev pub note : ℕ → Term → List Demanded → Result (List Demanded) DraftFault
@@ -88,8 +88,8 @@ note_all row (t ∷ ts) ds = then_do (note_all row ts) (note row t ds)
 pub record AreCounted (ds : List Demanded) (entries columns : ℕ) : Type 0 where
   pub entries_are : entries ≡ cell_count ds
   pub columns_are : columns ≡ used_count ds
-  pub few_entries : entries ≤ 2000000
-  pub few_columns : columns ≤ 100000
+  pub few_entries : entries ≤ 20000000
+  pub few_columns : columns ≤ 1000000
 
 -- how many entries and columns there are more, at most 1
 pub record IsMore (more : More) (old new : Demanded) : Type 0 where

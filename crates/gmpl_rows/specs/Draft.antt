@@ -35,7 +35,7 @@ is_row m hs = list_any (member_eq m) (map row_member hs)
 -- TooMany at the row, entry or column that would pass a limit
 abbrev pub with_new_row : RowHead → List Term → Draft → Result Draft DraftFault
 with_new_row head terms d =
-    cond (nat_lt (length d.rows) 100000)
+    cond (nat_lt (length d.rows) 1000000)
     (then_do (λ vs. Ok (record d { rows = d.rows ++ head ∷ []; variables = vs })) (note_all (length d.rows) terms d.variables))
     (Err TooMany)
 

@@ -75,7 +75,7 @@ impl Model for Draft {
 
     ghost view = { λ d. record { objects = d.so_far.objects.items; rows = d.so_far.rows.items; variables = d.so_far.variables; objective = d.objective } };
 
-    ghost invariant = { λ d. record { few : length d.so_far.rows.items ≤ 100000; members : keys d.so_far.members ≡ map row_member d.so_far.rows.items; differ : AreDifferent (map row_member d.so_far.rows.items); objects : AreObjects d.so_far.objects.items; declared : AreDeclared d.so_far.objects.items d.so_far.rows.items } };
+    ghost invariant = { λ d. record { few : length d.so_far.rows.items ≤ 1000000; members : keys d.so_far.members ≡ map row_member d.so_far.rows.items; differ : AreDifferent (map row_member d.so_far.rows.items); objects : AreObjects d.so_far.objects.items; declared : AreDeclared d.so_far.objects.items d.so_far.rows.items } };
 }
 
 impl Draft {

@@ -19,7 +19,7 @@ is_within first second = list_all (is_member second) first
 
 -- the most elements that a set has
 abbrev pub most_elements : ℕ
-most_elements = 1000000
+most_elements = 5000000
 
 -- a new element stands at the end
 abbrev pub with_element : Elements → List Symbol → Result Elements SetFault

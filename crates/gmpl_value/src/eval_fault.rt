@@ -23,7 +23,7 @@ pub enum EvalFault {
     BadFormat,
     /// A chain of members is too long.
     Depth,
-    /// A set would have more than 1,000,000 elements.
+    /// A set would have more than 5,000,000 elements.
     TooMany,
     /// The result of an operation doesn't fit.
     NoFit(NoFit),

@@ -6,7 +6,7 @@ use std::alloc::{AllocError, AllocFailed};
 /// Why a set can't be made.
 #[derive(Clone, Copy, Drop)]
 pub enum SetFault {
-    /// The set would have more than 1,000,000 elements.
+    /// The set would have more than 5,000,000 elements.
     TooMany,
     /// A number on the way doesn't fit.
     NoFit(NoFit),

@@ -12,10 +12,10 @@ use crate::tuple::Tuple;
 use fraction::Frac;
 use std::alloc::Global;
 
-const MOST_ELEMENTS: i128 = 1_000_000;
+const MOST_ELEMENTS: i128 = 5_000_000;
 
 /// The numbers `from`, `from + by` and so on up to `to`, down to it where `by` is negative. `NoFit` where the
-/// distance, its quotient by the step or a number doesn't fit, and `TooMany` where there would be more than 1,000,000.
+/// distance, its quotient by the step or a number doesn't fit, and `TooMany` where there would be more than 5,000,000.
 pub fn range(alloc: Global, from: Frac, to: Frac, by: Frac) -> Result<SetValue, SetFault>
     requires { by.numerator ≢ pos 0 }
     ensures { Gives result (range_of from to by) }

@@ -26,7 +26,7 @@ impl Model for SetValue {
     ghost view = { λ s. keys s.members };
 }
 
-const MOST_ELEMENTS: usize = 1_000_000;
+const MOST_ELEMENTS: usize = 5_000_000;
 
 impl SetValue {
     /// The empty set.
@@ -84,7 +84,7 @@ impl SetValue {
     }
 
     /// Puts a tuple at the end, unless it is there, and tells whether it was new. `TooMany` exactly where
-    /// the set would have more than 1,000,000 elements.
+    /// the set would have more than 5,000,000 elements.
     pub fn insert(&mut self, tuple: Tuple) -> Result<bool, (Tuple, SetFault)>
         ensures ok { OnOk result (with_element self.old tuple ≡ Ok self.new) }
         ensures was_new { IfOk result (λ new. new ≡ not (is_member self.old tuple)) }

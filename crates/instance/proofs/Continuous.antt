@@ -40,4 +40,4 @@ module _ (cs made : List Column) (rs : List Row) (is : made ≡ map continuous c
   }
 
   pub within_limits : IsWithinLimits cs rs → IsWithinLimits made rs
-  within_limits h = record { columns = subst (λ n. n ≤ 100000) as_many h.columns; rows = h.rows }
+  within_limits h = record { columns = subst (λ n. n ≤ 1000000) as_many h.columns; rows = h.rows }

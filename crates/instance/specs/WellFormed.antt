@@ -39,8 +39,8 @@ entry_count (r ∷ rs) = length r.entries + entry_count rs
 
 -- no more columns and rows than an instance takes
 pub record IsWithinLimits (cs : List Column) (rs : List Row) : Type 0 where
-  pub columns : length cs ≤ 100000
-  pub rows : length rs ≤ 100000
+  pub columns : length cs ≤ 1000000
+  pub rows : length rs ≤ 1000000
 
 pub record IsWellFormed (columns : List Column) (rows : List Row) (objective : List Entry) : Type 0 where
   pub objective_form : IsTrue (are_entries (length columns) objective)

@@ -11,13 +11,13 @@ use std::alloc::{AllocError, Global};
 use std::marker::Model;
 
 /// The most columns of an instance.
-pub const MAX_COLUMNS: usize = 100_000;
+pub const MAX_COLUMNS: usize = 1_000_000;
 
 /// The most rows of an instance.
-pub const MAX_ROWS: usize = 100_000;
+pub const MAX_ROWS: usize = 1_000_000;
 
 /// The most entries of all rows of an instance together.
-pub const MAX_ENTRIES: usize = 2_000_000;
+pub const MAX_ENTRIES: usize = 20_000_000;
 
 /// Why a column or a row is not taken.
 #[derive(Clone, Copy, Debug, PartialEq, Eq)]

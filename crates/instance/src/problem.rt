@@ -202,7 +202,7 @@ impl Instance {
     }
 
     /// The problem is well formed: its places are in range, its forms in order and its names distinct; and it has at
-    /// most 100,000 columns and rows. A call does nothing: it says that what follows rests on this.
+    /// most 1,000,000 columns and rows. A call does nothing: it says that what follows rests on this.
     pub fn keeps_its_limits(&self)
         ensures well_formed { IsWellFormed self.now.columns self.now.rows self.now.objective }
         ensures limits { IsWithinLimits self.now.columns self.now.rows }

@@ -12,10 +12,10 @@ use Rattle.model_text.proofs.Laws.{new-at}
 pub record IsLeft (b : Problem) (rows : List Row) (whole : Problem) : Type 0 where
   pub same : record b { rows = b.rows ++ rows } ≡ whole
   pub new : AreNew (map (λ (r : Row). r.name) (b.rows ++ rows))
-  pub few : length b.rows + length rows ≤ 100_000
-  pub entries : entry_count b.rows + entry_count rows ≤ 2_000_000
+  pub few : length b.rows + length rows ≤ 1_000_000
+  pub entries : entry_count b.rows + entry_count rows ≤ 20_000_000
 
-pub left-at-first : (b : Problem) (rows : List Row) → b.rows ≡ [] → AreNew (map (λ (r : Row). r.name) rows) → length rows ≤ 100_000 → entry_count rows ≤ 2_000_000 → IsLeft b rows (record b { rows = rows })
+pub left-at-first : (b : Problem) (rows : List Row) → b.rows ≡ [] → AreNew (map (λ (r : Row). r.name) rows) → length rows ≤ 1_000_000 → entry_count rows ≤ 20_000_000 → IsLeft b rows (record b { rows = rows })
 left-at-first b rows none new few entries = record {
   same = rw none refl;
   new = rw none new;
@@ -33,10 +33,10 @@ module _ (b whole : Problem) (row : Row) (rest : List Row) (left : IsLeft b (row
       let new = new-at (λ (r : Row). r.name) (b.rows ++ row ∷ rest) (length b.rows) row left.new within (sym here) in
       subst (λ (rs : List Row). has_row row.name rs ≡ false) (take-append_seam b.rows (row ∷ rest)) new
 
-  pub row-room : length b.rows < 100_000
+  pub row-room : length b.rows < 1_000_000
   row-room = omega (arith, left.few)
 
-  pub row-entries : entry_count b.rows + length row.entries ≤ 2_000_000
+  pub row-entries : entry_count b.rows + length row.entries ≤ 20_000_000
   row-entries = omega (arith, left.entries)
 
   pub one-less : IsLeft (record b { rows = b.rows ++ row ∷ [] }) rest whole

@@ -19,7 +19,7 @@ pub fn add_columns(
 ) -> Result<(), AllocError>
     requires empty { builder.old.columns ≡ [] }
     requires new { AreNew (map (λ (c : ColumnOf). c.name) columns.now) }
-    requires few { length columns.now ≤ 100_000 }
+    requires few { length columns.now ≤ 1_000_000 }
     ensures { IfOk result (λ _. builder.new ≡ record builder.old { columns = columns.now }) }
 {
     for column in columns {

@@ -10,7 +10,7 @@ use crate::names::Names;
 use std::alloc::{AllocError, Global};
 use std::marker::Model;
 
-/// At most 100,000 columns of different names, found by name. Clauses see a list of a problem's columns.
+/// At most 1,000,000 columns of different names, found by name. Clauses see a list of a problem's columns.
 #[derive(Drop)]
 pub struct ColumnTable<'a> {
     names: Names<'a>,
@@ -26,7 +26,7 @@ impl<'a> Model for ColumnTable<'a> {
 
     ghost view = { λ t. t.columns.items };
 
-    ghost invariant = { λ t. (t.names ≡ map (λ (c : Column). c.name) t.columns.items) × AreNew t.names × (length t.columns.items ≤ 100_000) };
+    ghost invariant = { λ t. (t.names ≡ map (λ (c : Column). c.name) t.columns.items) × AreNew t.names × (length t.columns.items ≤ 1_000_000) };
 }
 
 impl<'a> ColumnTable<'a> {
@@ -43,7 +43,7 @@ impl<'a> ColumnTable<'a> {
     /// How many columns there are.
     pub fn len(&self) -> usize
         ensures len { result ≡ length self.now }
-        ensures few { length self.now ≤ 100_000 }
+        ensures few { length self.now ≤ 1_000_000 }
     {
         self.columns.len()
     }
@@ -52,7 +52,7 @@ impl<'a> ColumnTable<'a> {
     pub fn as_slice(&self) -> &[DeclaredColumn<'a>]
         ensures value { result.now ≡ self.now }
         ensures new { AreNew (map (λ (c : Column). c.name) self.now) }
-        ensures few { length self.now ≤ 100_000 }
+        ensures few { length self.now ≤ 1_000_000 }
     {
         &self.columns
     }
@@ -61,7 +61,7 @@ impl<'a> ColumnTable<'a> {
     pub fn place(&self, name: &str) -> Option<usize>
         ensures place { result ≡ position (is_column_named name.now) self.now }
         ensures within { IfSome result (λ place. place < length self.now) }
-        ensures few { length self.now ≤ 100_000 }
+        ensures few { length self.now ≤ 1_000_000 }
     {
         self.names.place(name)
     }
@@ -76,7 +76,7 @@ impl<'a> ColumnTable<'a> {
     /// One more column.
     pub fn push(&mut self, column: DeclaredColumn<'a>) -> Result<(), AllocError>
         requires new { list_any (is_column_named column.name) self.old ≡ false }
-        requires room { length self.old < 100_000 }
+        requires room { length self.old < 1_000_000 }
         ensures added { OnOk result (self.new ≡ self.old ++ column.entry ∷ []) }
         ensures kept { OnErr result (self.new ≡ self.old) }
     {

@@ -17,8 +17,8 @@ pub fn reader_profile() -> Profile
     ensures within { IsWithinInstance result }
 {
     Profile {
-        rows: 100_000,
-        columns: 100_000,
-        entries: 2_000_000,
+        rows: 1_000_000,
+        columns: 1_000_000,
+        entries: 20_000_000,
     }
 }

@@ -23,7 +23,7 @@ entries-finished (r ∷ rs) = ap (λ n. length r.entries + n) (entries-finished 
 abbrev pub AreLeft : Problem → List DeclaredRow → Problem → Type 0
 AreLeft b rows whole = IsLeft b (map finished_row rows) whole × All (IsGiven (length b.columns)) rows
 
-pub all-left : (b : Problem) (rows left : List DeclaredRow) → left ≡ rows → b.rows ≡ [] → AreNew (map (λ (r : DeclaredRow). r.name) rows) → length rows ≤ 100_000 → All (IsGiven (length b.columns)) rows → entry_count rows ≤ 2_000_000 → AreLeft b left (record b { rows = map finished_row rows })
+pub all-left : (b : Problem) (rows left : List DeclaredRow) → left ≡ rows → b.rows ≡ [] → AreNew (map (λ (r : DeclaredRow). r.name) rows) → length rows ≤ 1_000_000 → All (IsGiven (length b.columns)) rows → entry_count rows ≤ 20_000_000 → AreLeft b left (record b { rows = map finished_row rows })
 all-left b rows left same none new few given entries =
     let one : IsLeft b (map finished_row rows) (record b { rows = map finished_row rows }) = left-at-first b (map finished_row rows) none (rw (names-finished rows) new) (omega (arith, length-map rows finished_row, few)) (omega (arith, entries-finished rows, entries)) in
     rw same (one, given)

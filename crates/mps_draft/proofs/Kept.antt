@@ -63,7 +63,7 @@ entry_count-same p f same [] = refl
 entry_count-same p f same (x ∷ xs) = let e = entry_count-same p f same xs in let s = same x in either (λ (ys : List DeclaredRow). entry_count ys ≡ entry_count (x ∷ xs)) (p x) (f x ∷ xs) (x ∷ with_first_changed p f xs) (omega arith) (omega arith)
 
 -- one more row
-pub push_row-keeps : {objective : Option DeclaredRow} {rows : List DeclaredRow} {columns : List Column} {count : ℕ} → IsConsistent objective rows columns count → length rows < 100_000 → (name : List ℕ) (kind : RowKind) → IsConsistent objective (rows ++ new_row name kind ∷ []) columns count
+pub push_row-keeps : {objective : Option DeclaredRow} {rows : List DeclaredRow} {columns : List Column} {count : ℕ} → IsConsistent objective rows columns count → length rows < 1_000_000 → (name : List ℕ) (kind : RowKind) → IsConsistent objective (rows ++ new_row name kind ∷ []) columns count
 push_row-keeps {objective} {rows} {columns} {count} k room name kind = record {
   objective_given = k.objective_given;
   rows_given = All-push (IsGiven (length columns)) rows (new_row name kind) k.rows_given (omega arith);
@@ -72,7 +72,7 @@ push_row-keeps {objective} {rows} {columns} {count} k room name kind = record {
   entry_room = omega (arith, entry_count-push rows (new_row name kind), k.entry_room);
 }
 
-changed-keeps : {objective : Option DeclaredRow} {rows : List DeclaredRow} {columns : List Column} {count : ℕ} → IsConsistent objective rows columns count → (p : DeclaredRow → Bool) (f : DeclaredRow → DeclaredRow) → ((x : DeclaredRow) → IsGiven (length columns) x → IsGiven (length columns) (f x)) → (more : ℕ) → entry_count (with_first_changed p f rows) ≡ more → more ≤ 2_000_000 → IsConsistent objective (with_first_changed p f rows) columns more
+changed-keeps : {objective : Option DeclaredRow} {rows : List DeclaredRow} {columns : List Column} {count : ℕ} → IsConsistent objective rows columns count → (p : DeclaredRow → Bool) (f : DeclaredRow → DeclaredRow) → ((x : DeclaredRow) → IsGiven (length columns) x → IsGiven (length columns) (f x)) → (more : ℕ) → entry_count (with_first_changed p f rows) ≡ more → more ≤ 20_000_000 → IsConsistent objective (with_first_changed p f rows) columns more
 changed-keeps {objective} {rows} {columns} {count} k p f keeps more e room = record {
   objective_given = k.objective_given;
   rows_given = All-changed (IsGiven (length columns)) p f keeps rows k.rows_given;
@@ -96,7 +96,7 @@ pub zero-keeps : {objective : Option DeclaredRow} {rows : List DeclaredRow} {col
 zero-keeps {objective} {rows} {columns} {count} k p v z = changed-keeps k p (given (length columns) v) (λ x h. omega arith) count (entry_count-same p (given (length columns) v) (zero-length (length columns) v z) rows ∙ sym k.counted) (omega (arith, k.counted, k.entry_room))
 
 -- a row with an entry more
-pub entry-keeps : {objective : Option DeclaredRow} {rows : List DeclaredRow} {columns : List Column} {count : ℕ} → IsConsistent objective rows columns count → (p : DeclaredRow → Bool) (v : Rational) → is_zero v ≡ false → is_some (find p rows) ≡ true → entry_count rows < 2_000_000 → IsConsistent objective (with_first_changed p (given (length columns) v) rows) columns (count + 1)
+pub entry-keeps : {objective : Option DeclaredRow} {rows : List DeclaredRow} {columns : List Column} {count : ℕ} → IsConsistent objective rows columns count → (p : DeclaredRow → Bool) (v : Rational) → is_zero v ≡ false → is_some (find p rows) ≡ true → entry_count rows < 20_000_000 → IsConsistent objective (with_first_changed p (given (length columns) v) rows) columns (count + 1)
 entry-keeps {objective} {rows} {columns} {count} k p v z there room = changed-keeps k p (given (length columns) v) (λ x h. omega arith) (count + 1) (entry_count-more p (given (length columns) v) 1 (more-length (length columns) v z) rows there ∙ ap (λ n. n + 1) (sym k.counted)) (omega (arith, k.counted, room))
 
 given-later : (m n : ℕ) → m ≤ n → (x : DeclaredRow) → IsGiven m x → IsGiven n x

@@ -13,5 +13,5 @@ pub record IsConsistent (objective : Option DeclaredRow) (rows : List DeclaredRo
   pub objective_given : IfSome objective (IsGiven (length columns))
   pub rows_given : All (IsGiven (length columns)) rows
   pub counted : count ≡ entry_count rows
-  pub row_room : length rows ≤ 100_000
-  pub entry_room : entry_count rows ≤ 2_000_000
+  pub row_room : length rows ≤ 1_000_000
+  pub entry_room : entry_count rows ≤ 20_000_000

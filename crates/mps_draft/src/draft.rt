@@ -162,7 +162,7 @@ impl<'a> Draft<'a> {
         kind: RowKind,
     ) -> Result<(), AllocError>
         requires new { is_row self.old name.now ≡ false }
-        requires room { length self.old.rows < 100_000 }
+        requires room { length self.old.rows < 1_000_000 }
         ensures { OnOk result (self.new ≡ record self.old { rows = self.old.rows ++ new_row name.now kind ∷ [] }) }
     {
         self.rows.push(DeclaredRow::new(alloc, name, kind))?;
@@ -173,7 +173,7 @@ impl<'a> Draft<'a> {
     pub fn give(&mut self, name: &str, value: Frac) -> Result<(), AllocError>
         requires there { is_row self.old name.now ≡ true }
         requires once { IfSome (row_named self.old name.now) (λ r. r.latest ≢ length self.old.columns) }
-        requires room { is_objective_named name.now self.old.objective ≡ false → is_zero value ≡ false → count_of_entries self.old.rows < 2_000_000 }
+        requires room { is_objective_named name.now self.old.objective ≡ false → is_zero value ≡ false → count_of_entries self.old.rows < 20_000_000 }
         ensures { OnOk result (self.new ≡ with_row (given (length self.old.columns) value) name.now self.old) }
     {
         let columns = self.columns.len();
@@ -245,7 +245,7 @@ impl<'a> Draft<'a> {
     /// A column more, whose lines may go on.
     pub fn begin_column(&mut self, name: &'a str) -> Result<(), AllocError>
         requires new { is_column self.old name.now ≡ false }
-        requires room { length self.old.columns < 100_000 }
+        requires room { length self.old.columns < 1_000_000 }
         ensures { OnOk result (self.new ≡ record self.old { columns = self.old.columns ++ new_column name.now self.old.in_integers ∷ []; current = Some name.now }) }
     {
         self.columns
@@ -281,7 +281,7 @@ impl<'a> Draft<'a> {
     pub(crate) fn columns(&self) -> &[DeclaredColumn<'a>]
         ensures value { result.now ≡ self.now.columns }
         ensures new { AreNew (map (λ (c : Column). c.name) self.now.columns) }
-        ensures few { length self.now.columns ≤ 100_000 }
+        ensures few { length self.now.columns ≤ 1_000_000 }
     {
         self.columns.as_slice()
     }
@@ -298,9 +298,9 @@ impl<'a> Draft<'a> {
         ensures objective_given { IfSome self.entry.objective (IsGiven (length self.entry.columns)) }
         ensures rows { result.1.items ≡ self.entry.rows }
         ensures new { AreNew (map (λ (r : RowOf). r.name) self.entry.rows) }
-        ensures few { length self.entry.rows ≤ 100_000 }
+        ensures few { length self.entry.rows ≤ 1_000_000 }
         ensures given { All (IsGiven (length self.entry.columns)) self.entry.rows }
-        ensures entries { count_of_entries self.entry.rows ≤ 2_000_000 }
+        ensures entries { count_of_entries self.entry.rows ≤ 20_000_000 }
     {
         (self.objective, self.rows.into_rows())
     }

@@ -37,9 +37,9 @@ pub fn finish(alloc: Global, draft: Draft) -> Result<Instance, AllocError>
 fn add_rows(alloc: Global, builder: &mut Builder, rows: Vec<DeclaredRow>) -> Result<(), AllocError>
     requires empty { builder.old.rows ≡ [] }
     requires new { AreNew (map (λ (r : RowOf). r.name) rows.items) }
-    requires few { length rows.items ≤ 100_000 }
+    requires few { length rows.items ≤ 1_000_000 }
     requires given { All (IsGiven (length builder.old.columns)) rows.items }
-    requires entries { entry_count rows.items ≤ 2_000_000 }
+    requires entries { entry_count rows.items ≤ 20_000_000 }
     ensures { IfOk result (λ _. builder.new ≡ record builder.old { rows = map finished_row rows.entry.items }) }
 {
     for row in rows {

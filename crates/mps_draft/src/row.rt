@@ -183,7 +183,7 @@ impl<'a> DeclaredRow<'a> {
     // The last of so many columns gives it a number.
     pub(crate) fn give(&mut self, columns: usize, value: Frac) -> Result<(), AllocError>
         requires later { self.old.latest < columns }
-        requires few { columns ≤ 100_000 }
+        requires few { columns ≤ 1_000_000 }
         ensures given { OnOk result (self.new ≡ given columns value self.old) }
         ensures kept { OnErr result (self.new ≡ self.old) }
     {

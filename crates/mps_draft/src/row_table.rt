@@ -80,7 +80,7 @@ impl<'a> RowTable<'a> {
     // The last of so many columns gives the row a number.
     pub(crate) fn give(&mut self, name: &str, columns: usize, value: Frac) -> Result<(), AllocError>
         requires later { IfSome (find (is_row_named name.now) self.old) (λ r. r.latest < columns) }
-        requires few { columns ≤ 100_000 }
+        requires few { columns ≤ 1_000_000 }
         ensures given { OnOk result (self.new ≡ with_first_changed (is_row_named name.now) (given columns value) self.old) }
         ensures kept { OnErr result (self.new ≡ self.old) }
     {

@@ -12,7 +12,7 @@ use std::alloc::{AllocError, Global};
 use thiserror::Error;
 
 /// The most bytes of a file that is read.
-pub const MAX_FILE: usize = 16_777_216;
+pub const MAX_FILE: usize = 67_108_864;
 
 /// Why a call on a store or a sink gave no answer.
 #[derive(Clone, Copy, Debug, PartialEq, Eq, Error)]

@@ -26,7 +26,7 @@ pub enum Fault<'a> {
     ReadFault(&'a Name),
     /// The file of this name can't be written.
     WriteFault(&'a Name),
-    /// The file of this name is longer than 16,777,216 bytes.
+    /// The file of this name is longer than 67,108,864 bytes.
     TooLong(&'a Name),
     /// The MathProg text of the model has this fault.
     Syntax(SyntaxFault),

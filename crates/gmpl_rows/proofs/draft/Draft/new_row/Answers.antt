@@ -24,10 +24,10 @@ invariant_of-result c =
     subst (λ (r : Rows). c.args.head.statement < length r.objects.items) (sym is) (subst (λ (d : Draft). c.args.head.statement < length d.objects) (sym c.self.view_is) c.requires.there) in
     let declared : AreDeclared old.objects.items old.rows.items = subst (λ (r : Rows). AreDeclared r.objects.items r.rows.items) (sym is) c.self.invariant.declared in
     let count : length c.get.result.now.rows.items ≡ length old.rows.items = ap (λ (r : Rows). length r.rows.items) (c.get.ensures ∙ sym is) in
-    let few : length c.push_reserved.new.self.items ≤ 100000 = omega (arith, ap (λ hs. length hs) rows, length-append old.rows.items (c.args.head ∷ []), c.len-place.ensures, count, c.if-place-ge-MAX_ROWS.false) in
+    let few : length c.push_reserved.new.self.items ≤ 1000000 = omega (arith, ap (λ hs. length hs) rows, length-append old.rows.items (c.args.head ∷ []), c.len-place.ensures, count, c.if-place-ge-MAX_ROWS.false) in
     let boxed = sym c.in_ok-so_far.ensures in
     record {
-      few = subst (λ (r : Rows). length r.rows.items ≤ 100000) boxed few;
+      few = subst (λ (r : Rows). length r.rows.items ≤ 1000000) boxed few;
       members = subst (λ (r : Rows). keys r.members ≡ map row_member r.rows.items) boxed same;
       differ = subst (λ (r : Rows). AreDifferent (map row_member r.rows.items)) boxed (subst AreDifferent same (different (keys c.insert.new.self) c.in_ok-insert.ensures.unique));
       objects = subst (λ (r : Rows). AreObjects r.objects.items) boxed (subst (λ (r : Rows). AreObjects r.objects.items) (sym is) c.self.invariant.objects);
