@@ -11,6 +11,7 @@ use crate::evaluate::eval;
 use crate::indexing::walked;
 use crate::members::demanded;
 use crate::places::start;
+use crate::room::ROOM;
 use crate::variables::bounds_by;
 use fraction::Frac;
 use gmpl_data::LoadedModel;
@@ -23,9 +24,6 @@ use std::alloc::Global;
 
 // The longest chain of members.
 const MOST_HEIGHT: u32 = 400;
-
-// How many expressions may stand within one another, through members too.
-const ROOM: u32 = 1700;
 
 /// The value that an expression comes to, of whatever kind.
 pub fn eval_value(

@@ -3,8 +3,8 @@
 // Expressions, indexing expressions and members evaluate one another: this module and `values`, `iterations`, `indexing`, `members`,
 // `restrictions` and `variables` are one cycle of calls. What needs no evaluation stands in other modules.
 //
-// `height` is how many members may still stand in the chain of demands, and `room` how many expressions may still stand within
-// one another; where there is no room, memory is wanting.
+// `height` is how many members may still stand in the chain of demands, and `room` how much of the stack is left for what stands
+// within one another, as src/room.rt reckons it; where there is no room, memory is wanting.
 ghost use Rattle.std.specs.Prelude.{◌≡◌};
 ghost use Rattle.gmpl_value.specs.Outcome.{Gives};
 ghost use Rattle.gmpl_expr.specs.At as at;
@@ -16,6 +16,7 @@ use crate::iterations::iterated;
 use crate::members::demanded;
 use crate::parts::{bound_to, nothing};
 use crate::places::copied;
+use crate::room::room_of;
 use crate::set_kinds::is_set;
 use crate::values::{braces, called, compared, holds, negation, power, range, symbols};
 use gmpl_data::LoadedModel;
@@ -42,10 +43,11 @@ pub(crate) fn eval(
     ensures right { AreRight model.now kept.new }
     ensures value { Gives result ((at.expr model.now height whole.now).value bindings.now) }
 {
-    if room == 0 {
+    let taken = room_of(whole);
+    if room < taken {
         return Err(EvalFault::NoMemory);
     }
-    let room = room - 1;
+    let room = room - taken;
     match whole {
         Expr::Number(number) => Ok(Value::number(*number)),
         Expr::Text(text) => Ok(Value::Scalar(Symbol::Word(text.copied(alloc)?))),

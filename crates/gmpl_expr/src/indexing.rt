@@ -11,6 +11,7 @@ ghost use Rattle.gmpl_meaning.specs.Right.{AreRight};
 use crate::entered::Entered;
 use crate::evaluate::eval;
 use crate::places::{add_matches, copied, start, stopped, within_value};
+use crate::room::TEST;
 use crate::sets::shared_set;
 use crate::values::holds;
 use gmpl_data::LoadedModel;
@@ -221,7 +222,10 @@ pub(crate) fn within_domain(
 {
     match domain {
         None => Ok(Tuple::new(alloc)),
-        Some(domain) => within_indexing(alloc, model, kept, height, room, domain, subscripts),
+        Some(domain) => {
+            let room = room.saturating_sub(TEST);
+            within_indexing(alloc, model, kept, height, room, domain, subscripts)
+        }
     }
 }
 

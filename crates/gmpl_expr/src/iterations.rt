@@ -12,6 +12,7 @@ use crate::evaluate::eval;
 use crate::indexing::entry_value;
 use crate::parts::{finished, join};
 use crate::places::inner_of;
+use crate::room::ENTRY;
 use crate::values::holds;
 use gmpl_data::LoadedModel;
 use gmpl_meaning::Kept;
@@ -54,7 +55,7 @@ pub(crate) fn iterated(
     };
     let mut total = None;
     let entries = indexing.entries.as_slice();
-    let done = deeper(
+    let done = over_entries(
         alloc, model, kept, height, room, &each, entries, bindings, &mut total,
     );
     finished(alloc, iteration, total, done)
@@ -143,7 +144,7 @@ fn at_inner(
     }
 }
 
-// The entries that are left, each of which takes one of the room.
+// Entries within one another take room.
 #[cycle(evaluation)]
 fn deeper(
     alloc: Global,
@@ -163,7 +164,7 @@ fn deeper(
     if entries.is_empty() {
         return at_element(alloc, model, kept, height, room, each, bindings, total);
     }
-    if room == 0 {
+    if room < ENTRY {
         return Err(EvalFault::NoMemory);
     }
     over_entries(
@@ -171,7 +172,7 @@ fn deeper(
         model,
         kept,
         height,
-        room - 1,
+        room - ENTRY,
         each,
         entries,
         bindings,

@@ -14,6 +14,7 @@ mod members;
 mod parts;
 mod places;
 mod restrictions;
+mod room;
 mod set_kinds;
 mod sets;
 mod solved;

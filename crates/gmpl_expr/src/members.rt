@@ -13,6 +13,7 @@ use crate::indexing::within_domain;
 use crate::parts::kept_value;
 use crate::places::copied;
 use crate::restrictions::{inclusions_hold, restricted};
+use crate::room::TEST;
 use crate::solved::row_member;
 use crate::variables::variable_member;
 use gmpl_data::LoadedModel;
@@ -304,6 +305,7 @@ fn set_member(
         alloc, model, kept, height, room, &bindings, place, subscripts, attributes,
     )?;
     let set = value.into_set()?;
+    let room = room.saturating_sub(TEST);
     inclusions_hold(
         alloc, model, kept, height, room, &bindings, attributes, &set,
     )?;

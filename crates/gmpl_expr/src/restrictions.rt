@@ -8,6 +8,7 @@ ghost use Rattle.gmpl_meaning.specs.Right.{AreRight};
 use crate::attributes::{all_allow, held, is_in, where_true};
 use crate::evaluate::eval;
 use crate::places::copied;
+use crate::room::TEST;
 use crate::sets::shared_set;
 use gmpl_data::LoadedModel;
 use gmpl_meaning::Kept;
@@ -35,6 +36,7 @@ pub(crate) fn restricted(
     ensures value { Gives result (restrictions.restricted model.now.statements (member model.now height) bindings.now symbolic attributes.now symbol) }
 {
     where_true(all_allow(attributes, &symbol))?;
+    let room = room.saturating_sub(TEST);
     relations_hold(
         alloc, model, kept, height, room, bindings, symbolic, attributes, &symbol,
     )?;

@@ -12,6 +12,7 @@ use crate::evaluate::eval;
 use crate::kept_sets::{found_set, remembered_set};
 use crate::members::demanded;
 use crate::parts::{index_set, kept_range};
+use crate::room::DEMAND;
 use crate::values::{number, symbols};
 use fraction::Frac;
 use gmpl_data::LoadedModel;
@@ -102,13 +103,13 @@ fn shared_member(
     ensures right { AreRight model.now kept.new }
     ensures value { GivesAs (λ set. set.value) result (then_do set_in (spec.named (member model.now height) name (at.exprs model.now height subscripts.now) suffix bindings.now)) }
 {
-    if room == 0 {
+    if room < DEMAND {
         return Err(EvalFault::NoMemory);
     }
     match name {
         Meaning::Index(place) => index_set(alloc, bindings, place),
         Meaning::Object(place) => {
-            let room = room - 1;
+            let room = room - DEMAND;
             let subscripts = symbols(alloc, model, kept, height, room, subscripts, bindings)?;
             let value = demanded(alloc, model, kept, height, room, place, suffix, &subscripts)?;
             value.into_set(alloc)

@@ -74,4 +74,4 @@ iterations::over_entries-returns-in_ok-value-in-len1-up-clause-value t c =
 pub iterations::iterated-returns-clause-value : goal.iterations::iterated-returns-clause-value
 iterations::iterated-returns-clause-value t c =
     iterated_at c.args.model.now c.args.height c.args.iteration c.args.indexing.now (at.expr c.args.model.now c.args.height c.args.body.now) c.args.bindings.now c.as_slice-entries.result.now c.finished.result
-    c.as_slice-entries.ensures (c.finished.ensures _ c.deeper-done.ensures.value)
+    c.as_slice-entries.ensures (c.finished.ensures _ c.over_entries-done.ensures.value)
