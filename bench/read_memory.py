@@ -1,18 +1,22 @@
 #!/usr/bin/env python3
-"""Tells the peak memory of `glpsol --check` on texts of 16 MB with short tokens, and how many bytes that are a byte of text.
+"""Tells the peak memory of `glpsol --check` on texts of 64 MB with short tokens, and how many bytes that are a byte of text.
 
 usage: bench/read_memory.py [text ...]     (all of those below where none are named)
 
-Each text declares a problem within the limits (100,000 columns, 100,000 rows, 2,000,000 entries), with as many entries as
-they allow where its name doesn't say otherwise:
+Each text declares a problem within the limits (1,000,000 columns, 1,000,000 rows, 20,000,000 entries):
   lp-terms          CPLEX LP, a line a row of 20 terms like `+x012345`
   lp-bytes          CPLEX LP, tokens of one byte each (`+x`), 100 terms a line: few entries
   lp-one-line       CPLEX LP, the same tokens in one line
   lp-short-lines    CPLEX LP, a token a line
-  mps-pairs         free MPS, names of three letters, two entries a line, about 20 in each row, which grow side by side
+  mps-pairs         free MPS, names of four letters, two entries a line, about 20 in each row, which grow side by side
   mps-entries       the same with an entry a line
   mps-few-rows      the same with two entries a line in 100 rows
   mps-short-lines   free MPS, comments of one byte
+  math-tuples       MathProg, a data section of numbers with two subscripts each
+  math-table        MathProg, a data section that is a table of 3,000 columns
+  csv               MathProg, a CSV table of five fields that is read into a set and parameters
+  set               MathProg, a set of 5,000,000 numbers: its seconds and its memory alone
+The bars: 12 bytes a byte for the linear programs, 16 for data, 40 for the table; the set in under 6 s.
 The program is the one that ./glpsol builds; PROGRAM in the environment names another, which gets the file's name alone.
 """
 import os
@@ -22,10 +26,10 @@ import sys
 import tempfile
 
 TOP = os.path.dirname(os.path.dirname(os.path.abspath(__file__)))
-SIZE = 16_000_000
-COLUMNS = 100_000
-ROWS = 100_000
-ENTRIES = 2_000_000
+SIZE = 64_000_000
+COLUMNS = 1_000_000
+ROWS = 1_000_000
+ENTRIES = 20_000_000
 NAME_BYTES = string.digits + string.ascii_letters
 
 
@@ -42,8 +46,8 @@ def filled(head, line, tail, count):
 
 
 def short_name(number):
-    """A name of three letters or digits."""
-    return "".join(NAME_BYTES[number // 62**place % 62] for place in (2, 1, 0))
+    """A name of four letters or digits."""
+    return "".join(NAME_BYTES[number // 62**place % 62] for place in (3, 2, 1, 0))
 
 
 def lp_terms():
@@ -82,6 +86,33 @@ def mps_short_lines():
     return filled("ROWS\n N c\nCOLUMNS\n x c 1\n", lambda i: "*\n" * 100, "ENDATA\n", SIZE)
 
 
+HEAD = "param d{i in 1..N, j in 1..N} default 0;\nvar x >= 0;\nminimize z: x;\ns.t. r: x >= d[1,1];\n"
+
+
+def math_tuples():
+    return filled(HEAD.replace("N", "10000") + "data;\nparam d :=\n", lambda i: f"{i // 3000 + 1} {i % 3000 + 1} {i % 97}\n", ";\nend;\n", SIZE)
+
+
+def math_table():
+    head = " ".join(str(j) for j in range(1, 3001))
+    numbers = " ".join(str(j % 97) for j in range(1, 3001))
+    return filled(HEAD.replace("N", "10000") + f"data;\nparam d : {head} :=\n", lambda i: f"{i + 1} {numbers}\n", ";\nend;\n", 10_000)
+
+
+def csv():
+    return filled("k,a,b,c,d\n", lambda i: f"{i},{i * 3},{i % 97},name {i},{i % 1009}\n", "", SIZE)
+
+
+def a_set():
+    return "set S := 1..5000000;\ncheck: card(S) = 5000000;\nend;\n"
+
+
+TABLE = (
+    "set K; param a{K}; param b{K}; param c{K} symbolic; param d{K};\n"
+    'table t IN "CSV" "read.csv" : K <- [k], a, b, c, d;\n'
+    "var x >= 0;\nminimize z: x;\ns.t. r: x >= 1;\nend;\n"
+)
+
 TEXTS = {
     "lp-terms": ("--lp", lp_terms),
     "lp-bytes": ("--lp", lp_bytes),
@@ -91,12 +122,16 @@ TEXTS = {
     "mps-entries": ("--freemps", lambda: mps_entries(ROWS, 1)),
     "mps-few-rows": ("--freemps", lambda: mps_entries(100, 2)),
     "mps-short-lines": ("--freemps", mps_short_lines),
+    "math-tuples": ("--math", math_tuples),
+    "math-table": ("--math", math_table),
+    "csv": ("--math", csv),
+    "set": ("--math", a_set),
 }
 
 
-def run(words):
+def run(words, folder):
     """The peak memory in kB and the seconds of processor time of a command, and what it wrote."""
-    child = subprocess.Popen(words, stdout=subprocess.PIPE, text=True)
+    child = subprocess.Popen(words, cwd=folder, stdout=subprocess.PIPE, text=True)
     written = child.stdout.read()
     _, status, usage = os.wait4(child.pid, 0)
     child.returncode = os.waitstatus_to_exitcode(status)
@@ -111,12 +146,16 @@ def main():
         for name in sys.argv[1:] or TEXTS:
             option, text_of = TEXTS[name]
             text = text_of()
-            path = os.path.join(folder, "text.lp" if option == "--lp" else "text.mps")
+            path = os.path.join(folder, "read.csv" if name == "csv" else "text")
             with open(path, "w") as file:
                 file.write(text)
+            if name == "csv":
+                path = os.path.join(folder, "text")
+                with open(path, "w") as file:
+                    file.write(TABLE)
             built = os.path.join(TOP, "crates", "glpsol", "out", "glpsol")
             words = [program, path] if program else [built, option, path, "--check"]
-            peak, seconds, written = run(words)
+            peak, seconds, written = run(words, folder)
             print(f"{name}: {len(text)} bytes, {seconds:.2f} s, {peak / 1000:.0f} MB, {peak * 1024 / len(text):.1f} bytes a byte ({written})")
 
 
