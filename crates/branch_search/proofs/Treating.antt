@@ -125,10 +125,3 @@ fault_at p ds path there best x w b d basic t fault e f h found =
     go (of_value k) = IsWorkFault.in_value x w b d found k
     go (of_weights k) = IsWorkFault.in_bound x w b d (form_goal p (Some (objective_value p x))) found k
     go (of_point k) = IsWorkFault.in_point x w b d found k
-
--- the number at the point of a basis is told
-pub never_untold : (p : Problem) (ds : List Derived) (path : List Side) (best : Option Rational) (x : List Rational) (w : Weights) (t : Verdict) → t ≡ NotTold → IsVerdict p ds path best x w true t → ⊥
-never_untold p ds path best x w t e h =
-    let P : Verdict → Type 0 = λ u. IsVerdict p ds path best x w true u in
-    let never : true ≡ false = subst P e h in
-    cc
