@@ -6,4 +6,4 @@ abbrev pub invariant-loop-store : goal.invariant-loop-store
 invariant-loop-store g l = let s = g.S.Store in ReadSince s.in_hand s.left s.told s.faults l.fn.store l.store l.file l.bytes.items
 
 abbrev pub decreases-loop-store : goal.decreases-loop-store
-decreases-loop-store g l = 16777217 - vec_len l.bytes
+decreases-loop-store g l = 67108865 - vec_len l.bytes
