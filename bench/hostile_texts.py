@@ -133,7 +133,7 @@ AROUND = {
 
 def run(ours, words, folder, stack=None):
     """The status, what is printed, processor time and peak memory of a run."""
-    limit = (lambda: resource.setrlimit(resource.RLIMIT_STACK, (stack, resource.RLIM_INFINITY))) if stack else None
+    limit = (lambda: resource.setrlimit(resource.RLIMIT_STACK, (stack, resource.getrlimit(resource.RLIMIT_STACK)[1]))) if stack else None
     with open(os.path.join(folder, "told"), "wb+") as told:
         child = subprocess.Popen([ours, *words.split()], cwd=folder, stdout=told, stderr=subprocess.DEVNULL, preexec_fn=limit)
         _, status, usage = os.wait4(child.pid, 0)
