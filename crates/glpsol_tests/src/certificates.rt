@@ -30,7 +30,7 @@ fn certificates_are_checked(rt: HostRuntime) -> Result<(), Fail> {
 #[test]
 fn the_files_are_written(rt: HostRuntime) -> Result<(), Fail> {
     let alloc = rt.alloc();
-    let mut files = model_alone(alloc, None, 7)?;
+    let mut files = model_alone(alloc, 7)?;
     let found = outcome(&rt, alloc, "--cert c -o r --freemps f", &mut files)?;
     assert_eq!(rt; found.as_str(), "0 OPTIMAL\nobjective cost 2\ncolumn x 2\n");
     let report = b"OPTIMAL\nobjective cost 2\ncolumn x 2\n";

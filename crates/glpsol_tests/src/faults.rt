@@ -1,12 +1,9 @@
 // Words that are no command, files that are missing, and an outside that fails.
 use crate::rows::{Subject, check};
-use crate::runs::{model_alone, printed, words_of};
+use crate::runs::{model_alone, words_of};
 use glpsol_cli::{Answer, Reached, Target, run};
 use outside::MemSink;
-use std::alloc::{AllocError, Global};
-use std::process::Abort;
 use std::test::Fail;
-use std::thread::Threads;
 
 const WORDS: &str = "\
 1 usage: glpsol (--math|--freemps|--lp) FILE [options]$ <- --freemps --min
@@ -29,56 +26,60 @@ fn a_file_that_is_missing(rt: HostRuntime) -> Result<(), Fail> {
     check(&rt, rt.alloc(), &Subject::Answers, MISSING)
 }
 
-// The number of the call on the store that fails, and what is printed: opening, two reads and the end of the model, making,
-// writing and ending the report's file, then the raw solution's, and then the certificate's; the fourteenth never comes.
+// How many runs of which command: each call on the files or on the output fails once, and in the last run none does. A run answers
+// the fault of the call that failed; the files and the output hold the first part of their texts, and nothing behind is made.
 const FAILING_CALLS: &str = "\
-1 open fault: f$
-2 read fault: f$
-3 read fault: f$
-4 read fault: f$
-5 OPTIMAL$objective cost 2$column x 2$write fault: r$
-6 OPTIMAL$objective cost 2$column x 2$write fault: r$
-7 OPTIMAL$objective cost 2$column x 2$write fault: r$
-8 OPTIMAL$objective cost 2$column x 2$write fault: w$
-9 OPTIMAL$objective cost 2$column x 2$write fault: w$
-10 OPTIMAL$objective cost 2$column x 2$write fault: w$
-11 OPTIMAL$objective cost 2$column x 2$write fault: c$
-12 OPTIMAL$objective cost 2$column x 2$write fault: c$
-13 OPTIMAL$objective cost 2$column x 2$write fault: c$
-14 OPTIMAL$objective cost 2$column x 2$
+37 runs <- to files with the files by pieces
+2 runs <- to files with the output by pieces
+22 runs <- to the output with the files by pieces
+4 runs <- to the output with the output by pieces
+14 runs <- a solution with the files by pieces
+2 runs <- a solution with the output by pieces
+9 runs <- a table with the files by pieces
+3 runs <- a table with the output by pieces
+9 runs <- a check with the files by pieces
+2 runs <- a check with the output by pieces
 ";
 
-fn printed_at_call<T: Threads + Sync>(
-    rt: &T,
-    alloc: Global,
-    number: u64,
-) -> Result<String, AllocError> {
-    let mut files = model_alone(alloc, Some(number), 4096)?;
-    let words = words_of(alloc, "--freemps f --cert c -o r -w w")?;
-    printed(rt, alloc, words, &mut files, 1)
+#[test]
+fn each_call_on_the_outside_fails(rt: HostRuntime) -> Result<(), Fail> {
+    check(&rt, rt.alloc(), &Subject::FailingCalls, FAILING_CALLS)
 }
 
-/// A row with what is printed.
-pub(crate) fn failing_call<T: Threads + Sync>(
-    rt: &T,
-    alloc: Global,
-    row: &str,
-) -> Result<String, AllocError> {
-    let (call, _) = row.split_once(' ').unwrap_or((row, ""));
-    let found = printed_at_call(rt, alloc, call.parse::<u64>().unwrap_or(0))?;
-    format!(in alloc; "{call} {found}")
-}
+// The same where a read or a write moves one byte.
+const BYTE_BY_BYTE: &str = "\
+470 runs <- to files with the files by bytes
+";
 
 #[test]
-fn each_call_on_the_store_fails(rt: HostRuntime) -> Result<(), Fail> {
-    check(&rt, rt.alloc(), &Subject::FailingCalls, FAILING_CALLS)
+fn each_call_on_files_fails_byte_by_byte(rt: HostRuntime) -> Result<(), Fail> {
+    check(&rt, rt.alloc(), &Subject::FailingCalls, BYTE_BY_BYTE)
+}
+
+const BYTE_BY_BYTE_ELSEWHERE: &str = "\
+153 runs <- a table with the files by bytes
+42 runs <- to files with the output by bytes
+46 runs <- to the output with the output by bytes
+74 runs <- a solution with the output by bytes
+37 runs <- a table with the output by bytes
+10 runs <- a check with the output by bytes
+";
+
+#[test]
+fn other_calls_fail_byte_by_byte(rt: HostRuntime) -> Result<(), Fail> {
+    check(
+        &rt,
+        rt.alloc(),
+        &Subject::FailingCalls,
+        BYTE_BY_BYTE_ELSEWHERE,
+    )
 }
 
 // The sink takes 4 bytes, and fails then.
 #[test]
 fn the_sink_fails(rt: HostRuntime) -> Result<(), Fail> {
     let alloc = rt.alloc();
-    let mut files = model_alone(alloc, None, 1)?;
+    let mut files = model_alone(alloc, 1)?;
     let mut out = MemSink::new(alloc, vec![in alloc; 2]?, 4);
     let answer = run(
         &rt,

@@ -7,6 +7,12 @@ mod certificates;
 #[cfg(test)]
 mod cplex_lp;
 #[cfg(test)]
+mod deeds;
+#[cfg(test)]
+mod failing;
+#[cfg(test)]
+mod failing_calls;
+#[cfg(test)]
 mod faults;
 #[cfg(test)]
 mod free_mps;

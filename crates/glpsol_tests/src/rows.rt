@@ -1,7 +1,6 @@
 // The tables, row by row. One loop goes over all of them, so that a test is one call, which is proved ten times as fast as a loop.
-use crate::faults::failing_call;
+use crate::failing_calls::failing_calls;
 use crate::runs::{answer_of_row, round_trip_of_row};
-use crate::tables::failing_call_of_tables;
 use crate::written_files::written_of_row;
 use std::alloc::{AllocError, Global};
 use std::process::Abort;
@@ -15,7 +14,6 @@ use std::thread::Threads;
 pub(crate) enum Subject {
     Answers,
     FailingCalls,
-    FailingCallsOfTables,
     RoundTrips,
     WrittenFiles,
 }
@@ -33,8 +31,7 @@ fn found<T: Threads + Sync>(
 ) -> Result<String, AllocError> {
     match subject {
         Subject::Answers => answer_of_row(rt, alloc, row),
-        Subject::FailingCalls => failing_call(rt, alloc, row),
-        Subject::FailingCallsOfTables => failing_call_of_tables(rt, alloc, row),
+        Subject::FailingCalls => failing_calls(rt, alloc, row),
         Subject::RoundTrips => round_trip_of_row(rt, alloc, row),
         Subject::WrittenFiles => written_of_row(rt, alloc, row),
     }

@@ -40,21 +40,9 @@ pub(crate) fn with_marks(alloc: Global, text: &str) -> Result<String, AllocError
     text.replace(alloc, "\n", "$")
 }
 
-fn text_of(bytes: &[u8]) -> &str {
+/// A text, where bytes are one.
+pub(crate) fn text_of(bytes: &[u8]) -> &str {
     str::from_utf8(bytes).unwrap_or("bytes that are no text")
-}
-
-/// What words print, in a table's words, where the output takes at most so many bytes at once.
-pub(crate) fn printed<T: Threads + Sync>(
-    rt: &T,
-    alloc: Global,
-    words: Vec<String>,
-    files: &mut MemStore,
-    at_most: usize,
-) -> Result<String, AllocError> {
-    let mut out = MemSink::new(alloc, Vec::new(alloc), at_most);
-    let _status = status(rt, alloc, words, files, &mut out);
-    with_marks(alloc, text_of(out.bytes()))
 }
 
 /// The status with which words end, and what they print.
@@ -77,17 +65,9 @@ fn add_file(alloc: Global, files: &mut MemStore, name: &str, row: &str) -> Resul
     files.add(name, text.as_bytes())
 }
 
-/// The small model as file f, where a read gives at most so many bytes; the call of this number fails, if there is one.
-pub(crate) fn model_alone(
-    alloc: Global,
-    failing: Option<u64>,
-    at_most: usize,
-) -> Result<MemStore, AllocError> {
-    let mut fails = Vec::new(alloc);
-    if let Some(number) = failing {
-        fails.push(number)?;
-    }
-    let mut files = MemStore::new(alloc, fails, at_most);
+/// The small model as file f, where a read gives at most so many bytes.
+pub(crate) fn model_alone(alloc: Global, at_most: usize) -> Result<MemStore, AllocError> {
+    let mut files = MemStore::new(alloc, Vec::new(alloc), at_most);
     add_file(alloc, &mut files, "f", "@")?;
     Ok(files)
 }

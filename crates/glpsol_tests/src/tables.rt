@@ -1,10 +1,6 @@
 // Models with tables: files that are read and written on the way.
 use crate::rows::{Subject, check};
-use crate::runs::{printed, words_of};
-use outside::MemStore;
-use std::alloc::{AllocError, Global};
 use std::test::Fail;
-use std::thread::Threads;
 
 // By hand after the language reference, and the worked rows of the scope.
 const READ: &str = "\
@@ -38,58 +34,4 @@ const WRITTEN: &str = "\
 #[test]
 fn tables_are_written(rt: HostRuntime) -> Result<(), Fail> {
     check(&rt, rt.alloc(), &Subject::WrittenFiles, WRITTEN)
-}
-
-// The number of the call on the store that fails, and what is printed: the first four are the model's, then come opening, two reads and
-// the end of the table that is read, and making, writing and ending the one that is written, before `solve` and behind it.
-const FAILING_CALLS: &str = "\
-5 a$open fault: c$
-6 a$read fault: c$
-7 a$read fault: c$
-8 a$read fault: c$
-9 write fault: o$
-10 write fault: o$
-11 write fault: o$
-12 a$OPTIMAL$objective z 1$column x 1$row z 1$write fault: p$
-13 a$OPTIMAL$objective z 1$column x 1$row z 1$write fault: p$
-14 a$OPTIMAL$objective z 1$column x 1$row z 1$write fault: p$
-15 a$OPTIMAL$objective z 1$column x 1$row z 1$b$
-";
-
-const MODEL_WITH_TABLES: &str =
-    "set K; printf 'a\\n'; table t IN 'CSV' 'c': K<-[k]; table u{i in K} OUT 'CSV' 'o': i; var x >= 1; minimize z: x; solve; printf 'b\\n'; table w{i in K} OUT 'CSV' 'p': i, x; end;";
-
-fn printed_at_call<T: Threads + Sync>(
-    rt: &T,
-    alloc: Global,
-    number: u64,
-) -> Result<String, AllocError> {
-    let mut fails = Vec::new(alloc);
-    fails.push(number)?;
-    let mut files = MemStore::new(alloc, fails, 4096);
-    files.add("f", MODEL_WITH_TABLES.as_bytes())?;
-    files.add("c", b"k\n1\n2\n")?;
-    let words = words_of(alloc, "--math f")?;
-    printed(rt, alloc, words, &mut files, 4096)
-}
-
-/// A row with what is printed.
-pub(crate) fn failing_call_of_tables<T: Threads + Sync>(
-    rt: &T,
-    alloc: Global,
-    row: &str,
-) -> Result<String, AllocError> {
-    let (call, _) = row.split_once(' ').unwrap_or((row, ""));
-    let found = printed_at_call(rt, alloc, call.parse::<u64>().unwrap_or(0))?;
-    format!(in alloc; "{call} {found}")
-}
-
-#[test]
-fn each_call_on_the_store_fails(rt: HostRuntime) -> Result<(), Fail> {
-    check(
-        &rt,
-        rt.alloc(),
-        &Subject::FailingCallsOfTables,
-        FAILING_CALLS,
-    )
 }

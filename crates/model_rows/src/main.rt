@@ -5,6 +5,7 @@
 mod answers;
 mod behind;
 mod course;
+mod nested;
 mod problems;
 mod rows;
 mod words;
