@@ -5,10 +5,10 @@ usage: bench/changed_certificates.py [--ours PATH] [--changes N] [--from SEED]
 
 Twenty problems: those of examples/ in free MPS, three with certificates written by hand that have derived rows, and random ones of up
 to five columns and rows, at least half of them with a tree of several nodes. Each good certificate is changed so many times (1,000),
-one to three times at once: a digit or a sign, and less often a line dropped, doubled or moved. The two checkers are to say the same of each text (that it is no certificate, which part does
-not hold, or that it is accepted; where the program says that a number does not fit, the other may say anything), and what is accepted
-has the verdict and the value that are true. It tells where that fails, and its status is then 1. PATH is the program; else it is the one
-that ./glpsol builds.
+one to three times at once: a digit or a sign, and less often a line dropped, doubled or moved. The two checkers are to say the same of
+each text (that it is no certificate, which part does not hold, or that it is accepted; where the program says that a number does not
+fit, the other may say anything), and what is accepted has the verdict and the value that are true. It tells where that fails, and its
+status is then 1. PATH is the program; else it is the one that ./glpsol builds.
 """
 import argparse
 import collections

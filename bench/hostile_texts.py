@@ -5,10 +5,10 @@ usage: bench/hostile_texts.py [--ours PATH] [--megabytes N] [word ...]     (the 
 
 Long texts, of ten megabytes, are parentheses, signs, one name, digits, beginnings of comments, one line, and more of their kind, in
 each place where a text is read: a model in MathProg, its data and its table, free MPS, CPLEX LP, and a certificate. Each is to get the
-answer that stands beside it here, by the manual, within a second of processor time and with at most 16 bytes of memory for a byte (good
-models of a million statements are measured only). Nested texts have 1,000 of a construct within one another. Deep ones stay within the limits (50 open at a place, 400 members in a chain,
-a tree of a million nodes one below the other) and are run with a stack of 8 MB: each is to end with an answer. It tells what fails, and
-its status is then 1. PATH is the program; else it is the one that ./glpsol builds.
+answer that stands beside it here, by the manual, within a second of processor time and with at most 16 bytes of memory for a byte; good
+models of a million statements are measured only. Nested texts have 1,000 of a construct within one another. Deep ones stay within the
+limits (50 open at a place, 400 members in a chain, a tree of a million nodes one below the other) and are run with a stack of 8 MB: each
+is to end with an answer. It tells what fails, and its status is then 1. PATH is the program; else it is the one that ./glpsol builds.
 """
 import argparse
 import os

@@ -63,7 +63,7 @@ impl Failing {
 }
 
 /// How far a run has got: so many calls before the one that fails, behind a table's file that was not read, or at its end.
-#[derive(Clone, Copy)]
+#[derive(Drop)]
 pub(crate) enum Course {
     Before(usize),
     Asked,
@@ -72,7 +72,7 @@ pub(crate) enum Course {
 
 impl Course {
     /// How far it has got behind a deed.
-    pub(crate) fn behind(self, deed: &Deed<'_>, failing: &Failing) -> Course {
+    pub(crate) fn behind(&self, deed: &Deed<'_>, failing: &Failing) -> Course {
         match self {
             Course::Before(left) => match left.checked_sub(failing.calls(deed)) {
                 Some(left) => Course::Before(left),
@@ -85,10 +85,10 @@ impl Course {
     }
 
     /// How much of its text a deed leaves; nothing, where nothing is made.
-    pub(crate) fn made(self, deed: &Deed<'_>, failing: &Failing) -> Option<usize> {
+    pub(crate) fn made(&self, deed: &Deed<'_>, failing: &Failing) -> Option<usize> {
         match self {
-            Course::Before(left) if left >= failing.calls(deed) => Some(deed.text.len()),
-            Course::Before(left) => failing.part(left),
+            Course::Before(left) if *left >= failing.calls(deed) => Some(deed.text.len()),
+            Course::Before(left) => failing.part(*left),
             Course::Asked if deed.kind == "shows" => Some(deed.text.len()),
             _ => None,
         }
