@@ -42,12 +42,10 @@ impl Failing {
         } else {
             length.min(1)
         };
-        let others = match (self.is_on_output, deed.is_read()) {
-            (true, _) => 0,
-            (false, true) => 3,
-            (false, false) => 2,
-        };
-        moves.saturating_add(others)
+        if self.is_on_output {
+            return moves;
+        }
+        moves.saturating_add(if deed.is_read() { 3 } else { 2 })
     }
 
     // How much of its text a deed leaves that is broken off behind so many calls; nothing, where a file isn't made.

@@ -49,8 +49,11 @@ fn held(alloc: Global, deeds: &str, name: &str, failing: &Failing) -> Result<Str
     Ok(held)
 }
 
-// The status of a deed that is broken off behind so many calls, and the line of its fault.
-fn fault_line(alloc: Global, deed: &Deed<'_>, calls: usize) -> Result<(u8, String), AllocError> {
+// The line of the fault of a deed that is broken off behind so many calls; a write on the output has none.
+fn fault_line(alloc: Global, deed: &Deed<'_>, calls: usize) -> Result<String, AllocError> {
+    if deed.is_on_output() {
+        return Ok(String::new(alloc));
+    }
     let word = if !deed.is_read() {
         "write"
     } else if calls == 0 {
@@ -58,15 +61,12 @@ fn fault_line(alloc: Global, deed: &Deed<'_>, calls: usize) -> Result<(u8, Strin
     } else {
         "read"
     };
-    if deed.is_on_output() {
-        return Ok((1, String::new(alloc)));
-    }
     let name = deed.name;
-    Ok((1, format!(in alloc; "{word} fault: {name}$")?))
+    format!(in alloc; "{word} fault: {name}$")
 }
 
-// The status that is wanted, and the line of the fault.
-fn end(alloc: Global, deeds: &str, failing: &Failing) -> Result<(u8, String), AllocError> {
+// The line of the fault that is wanted, where there is one.
+fn last_line(alloc: Global, deeds: &str, failing: &Failing) -> Result<String, AllocError> {
     let mut left = failing.before;
     for row in deeds.lines() {
         let deed = deed_of(row);
@@ -75,7 +75,16 @@ fn end(alloc: Global, deeds: &str, failing: &Failing) -> Result<(u8, String), Al
             None => return fault_line(alloc, &deed, left),
         }
     }
-    Ok((0, String::new(alloc)))
+    Ok(String::new(alloc))
+}
+
+// How many calls the whole command takes there where one fails.
+fn calls_of(deeds: &str, failing: &Failing) -> usize {
+    let mut calls = 0usize;
+    for row in deeds.lines() {
+        calls = calls.saturating_add(failing.calls(&deed_of(row)));
+    }
+    calls
 }
 
 fn push_file(alloc: Global, told: &mut String, name: &str, text: &str) -> Result<(), AllocError> {
@@ -84,8 +93,13 @@ fn push_file(alloc: Global, told: &mut String, name: &str, text: &str) -> Result
 
 // The status, what is printed, and what each file that is written holds, as they are wanted.
 fn wanted(alloc: Global, deeds: &str, failing: &Failing) -> Result<String, AllocError> {
-    let (code, line) = end(alloc, deeds, failing)?;
+    let code = if failing.before < calls_of(deeds, failing) {
+        1u8
+    } else {
+        0
+    };
     let printed = held(alloc, deeds, "out", failing)?;
+    let line = last_line(alloc, deeds, failing)?;
     let mut told = format!(in alloc; "{code} {printed}{line}")?;
     for row in deeds.lines() {
         let deed = deed_of(row);
@@ -146,15 +160,6 @@ fn found<T: Threads + Sync>(
     Ok(told)
 }
 
-// How many calls the whole command takes there where one fails.
-fn calls_of(deeds: &str, failing: &Failing) -> usize {
-    let mut calls = 0usize;
-    for row in deeds.lines() {
-        calls = calls.saturating_add(failing.calls(&deed_of(row)));
-    }
-    calls
-}
-
 // What differs in a run, where something does.
 fn difference<T: Threads + Sync>(
     rt: &T,
@@ -199,12 +204,12 @@ pub(crate) fn failing_calls<T: Threads + Sync>(
     row: &str,
 ) -> Result<String, AllocError> {
     let (_, asked) = split(row);
-    let (name, outside) = asked.split_once(" with ").unwrap_or((asked, ""));
+    let (name, manner) = asked.split_once(" with ").unwrap_or((asked, ""));
     let (words, deeds) = command(name).split_once('\n').unwrap_or(("", ""));
     let failing = Failing {
-        is_on_output: outside.starts_with("the output"),
+        is_on_output: manner.starts_with("the output"),
         before: 0,
-        is_by_bytes: outside.ends_with("by bytes"),
+        is_by_bytes: manner.ends_with("by bytes"),
     };
     all_runs(rt, alloc, words, deeds, &failing)
 }
