@@ -88,8 +88,11 @@ impl Gains {
         }
     }
 
-    /// Makes room for so many columns, of which nothing is known.
+    /// Makes room for so many columns, of which nothing is known, where it isn't there yet.
     pub(crate) fn begin(&mut self, alloc: Global, columns: usize) -> Result<(), Stop> {
+        if self.low.len() == columns && self.high.len() == columns {
+            return Ok(());
+        }
         self.low = filled(alloc, columns, NOTHING)?;
         self.high = filled(alloc, columns, NOTHING)?;
         Ok(())

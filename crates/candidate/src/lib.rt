@@ -6,6 +6,7 @@
 #![tactic(auto)]
 
 mod branching;
+mod crash;
 mod dual;
 mod ending;
 mod gains;

@@ -1,16 +1,17 @@
 // What is proposed.
+use crate::crash::crashed;
 use crate::ending::End;
 use crate::gains::{Departure, Gains};
 use crate::reading::{bound, contradiction, endless_ray, optimum};
 use crate::search::{Aim, Found, objective, run};
 use certificate::Weights;
 use fraction::Frac;
-use instance::{Instance, Point};
+use instance::{Column, Instance, Point};
 use search_node::{Basis, SplitsTaken};
 use sparse_factors::Stop;
 use std::alloc::{AllocError, Global};
 use std::mem;
-use tableau::{Model, State, model_of, start_of};
+use tableau::{Model, Start, State, model_of, start_of};
 
 /// A point, weights that may show that none is better, and the basis that both were read from. Where integer columns are not
 /// whole, `column` is the one of them that may be split, and `told` may have weights of what rests at the point that make it alone.
@@ -89,21 +90,80 @@ impl Proposer {
         start: Option<&Basis>,
         cutoff: &Option<Frac>,
     ) -> Result<Candidate, Stop> {
-        let mut model = self.taken_model(alloc, problem)?;
-        model.set_bounds(problem, splits)?;
-        if !model.has_bounds_in_order() {
-            return Err(Stop::NoFit);
+        if start.is_none() && !has_integer(problem.columns()) {
+            match self.from_triangle(alloc, problem, splits, cutoff) {
+                Err(Stop::NoFit) | Err(Stop::Steps) => {}
+                outcome => return outcome,
+            }
         }
+        let model = self.model_below(alloc, problem, splits)?;
         let aim = Aim {
             splits,
             cutoff,
-            may_spread: start.is_none() && model.has_no_costs(),
+            spread_after: match start {
+                None => spread_after(&model),
+                Some(_) => None,
+            },
+            dual_steps: self.steps,
         };
         let start = start_of(alloc, &model, start)?;
+        self.from_start(alloc, problem, model, start, aim)
+    }
+
+    // From a triangular start, which is given up where the dual phase takes more than twice as many steps as there are rows.
+    fn from_triangle(
+        &mut self,
+        alloc: Global,
+        problem: &Instance,
+        splits: &SplitsTaken,
+        cutoff: &Option<Frac>,
+    ) -> Result<Candidate, Stop> {
+        let model = self.model_below(alloc, problem, splits)?;
+        let rows = u32::try_from(model.matrix.rows).unwrap_or(u32::MAX);
+        let aim = Aim {
+            splits,
+            cutoff,
+            spread_after: spread_after(&model),
+            dual_steps: rows.saturating_mul(2),
+        };
+        match crashed(alloc, &model) {
+            Ok(Some(start)) => self.from_start(alloc, problem, model, start, aim),
+            Ok(None) => {
+                self.model = Some(model);
+                Err(Stop::NoFit)
+            }
+            Err(stop) => Err(stop),
+        }
+    }
+
+    fn from_start(
+        &mut self,
+        alloc: Global,
+        problem: &Instance,
+        model: Model,
+        start: Start,
+        aim: Aim<'_>,
+    ) -> Result<Candidate, Stop> {
         let mut state = State::at_basis(alloc, model, start, self.steps)?;
         let found = self.found(alloc, problem, &mut state, aim);
         self.model = Some(state.into_model());
         found
+    }
+
+    // The linear program below the splits, where no bounds cross.
+    fn model_below(
+        &mut self,
+        alloc: Global,
+        problem: &Instance,
+        splits: &SplitsTaken,
+    ) -> Result<Model, Stop> {
+        let mut model = self.taken_model(alloc, problem)?;
+        model.set_bounds(problem, splits)?;
+        if model.has_bounds_in_order() {
+            return Ok(model);
+        }
+        self.model = Some(model);
+        Err(Stop::NoFit)
     }
 
     // The linear program, which is put back behind the search, or made anew where it wasn't.
@@ -145,6 +205,25 @@ impl Proposer {
             (Some(departure), Ok(value)) => self.gains.note(&departure, value),
             _ => {}
         }
+    }
+}
+
+// Whether a column takes whole numbers alone.
+fn has_integer(columns: &[Column]) -> bool {
+    for column in columns {
+        if column.integer() {
+            return true;
+        }
+    }
+    false
+}
+
+// After so many steps of length 0 in a row small costs may help a start far from its end, where there are no costs.
+fn spread_after(model: &Model) -> Option<usize> {
+    if model.has_no_costs() {
+        Some(model.matrix.rows.max(model.matrix.columns) / 8)
+    } else {
+        None
     }
 }
 

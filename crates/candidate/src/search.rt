@@ -13,13 +13,14 @@ use tableau::{State, TieRule};
 // How often a search whose numbers did not fit is taken up again.
 const TRIES: u32 = 6;
 
-/// What a search is to find: the least value, if it is below the cutoff, below these splits. Where it stands still it may go on with
-/// small costs.
+/// What a search is to find: the least value, if it is below the cutoff, below these splits. Where so many steps in a row have
+/// length 0 it may go on with small costs, and it gives up where the dual phase takes more than `dual_steps`.
 #[derive(Clone, Copy)]
 pub(crate) struct Aim<'a> {
     pub splits: &'a SplitsTaken,
     pub cutoff: &'a Option<Frac>,
-    pub may_spread: bool,
+    pub spread_after: Option<usize>,
+    pub dual_steps: u32,
 }
 
 /// What it comes to, and where it began.
@@ -37,7 +38,7 @@ pub(crate) fn run(state: &mut State, alloc: Global, aim: Aim<'_>) -> Result<Foun
         outcome => return outcome,
     }
     let later = Aim {
-        may_spread: false,
+        spread_after: None,
         ..aim
     };
     for _ in 0..TRIES {
@@ -132,11 +133,12 @@ fn shift_costs(state: &mut State, wrong: &[usize]) -> Result<(), Stop> {
 }
 
 fn dual_phase(state: &mut State, alloc: Global, aim: Aim<'_>) -> Result<Option<End>, Stop> {
-    for _ in 0..u64::from(state.steps_left) + 1 {
+    let most = state.steps_left.min(aim.dual_steps);
+    for _ in 0..u64::from(most) + 1 {
         if is_cut_off(state, aim.cutoff) {
             return Ok(Some(End::Bounded));
         }
-        if aim.may_spread && stands_still(state) {
+        if stands_still(state, aim.spread_after) {
             spread_costs(state)?;
         }
         match dual_step(state, alloc)? {
@@ -149,9 +151,12 @@ fn dual_phase(state: &mut State, alloc: Global, aim: Aim<'_>) -> Result<Option<E
     Err(Stop::Steps)
 }
 
-// Many steps in a row have length 0, beside the rows, and small costs may help.
-fn stands_still(state: &State) -> bool {
-    !state.costs_are_shifted && state.stalls > state.model.matrix.rows / 8
+// So many steps in a row had length 0 that small costs may help.
+fn stands_still(state: &State, after: Option<usize>) -> bool {
+    match after {
+        None => false,
+        Some(most) => !state.costs_are_shifted && state.stalls > most,
+    }
 }
 
 // The prices bound the value, which is not below the cutoff. They do so while a bound is broken and the costs are the true ones.
