@@ -1,0 +1,4 @@
+pub mod Members
+pub mod Subsets
+pub mod Listed
+pub mod Building
