@@ -1,1 +1,5 @@
 mod Building
+mod Lists
+mod Subsets
+mod There
+mod Turns

@@ -2,3 +2,4 @@ pub mod Members
 pub mod Subsets
 pub mod Listed
 pub mod Building
+pub mod Underway
