@@ -2,4 +2,5 @@ mod Building
 mod Lists
 mod Subsets
 mod There
-mod Turns
+mod OneByOne
+mod Treated

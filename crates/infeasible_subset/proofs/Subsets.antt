@@ -25,11 +25,11 @@ get_row keep [] i = refl
 get_row keep (r ∷ rs) zero = refl
 get_row keep (r ∷ rs) (suc i) = get_row (λ k. keep (suc k)) rs i
 
-abbrev column_or_none : (Side → Bool) → Option Column → Option Column
+abbrev pub column_or_none : (Side → Bool) → Option Column → Option Column
 column_or_none keep None = None
 column_or_none keep (Some c) = Some (sub_column keep c)
 
-get_column : (keep : ℕ → Side → Bool) (cs : List Column) (j : ℕ) → slice_get (sub_columns keep cs) j ≡ column_or_none (keep j) (slice_get cs j)
+pub get_column : (keep : ℕ → Side → Bool) (cs : List Column) (j : ℕ) → slice_get (sub_columns keep cs) j ≡ column_or_none (keep j) (slice_get cs j)
 get_column keep [] j = refl
 get_column keep (c ∷ cs) zero = refl
 get_column keep (c ∷ cs) (suc j) = get_column (λ k. keep (suc k)) cs j

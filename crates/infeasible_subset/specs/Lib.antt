@@ -3,3 +3,5 @@ pub mod Subsets
 pub mod Listed
 pub mod Building
 pub mod Underway
+pub mod Faults
+pub mod Trials

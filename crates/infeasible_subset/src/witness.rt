@@ -2,6 +2,7 @@
 ghost use Rattle.std.specs.Prelude.{◌≡◌, ◌++◌, [], ◌∷◌, OnOk, OnErr};
 
 use crate::Member;
+use certificate::Weights;
 use instance::Point;
 use std::alloc::{AllocError, Global};
 use std::marker::Model;
@@ -53,4 +54,12 @@ impl Witnesses {
     {
         &self.witnesses
     }
+}
+
+/// An irreducible infeasible subset: its members, each with a point that meets the others, and weights that refute the
+/// problem by the members alone.
+#[derive(Drop)]
+pub struct Subset {
+    pub witnesses: Witnesses,
+    pub weights: Weights,
 }

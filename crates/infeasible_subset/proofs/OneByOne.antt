@@ -1,5 +1,5 @@
 -- One member after the other: how it begins, what each trial makes of it, and what stands at the end.
-use Rattle.std.proofs.Common.{◌≡◌, ◌∙◌, ◌⊎◌, inl, inr, List, [], ◌∷◌, ◌++◌, map, Bool, true, false, ◌&&◌, ◌||◌, not, refl, sym, ap, subst, IsTrue}
+use Rattle.std.proofs.Common.{◌≡◌, ◌∙◌, ◌⊎◌, ◌≤◌, inl, inr, suc, length, cond, arith, Result, Ok, Err, IfOk, OnOk, List, [], ◌∷◌, ◌++◌, map, Bool, true, false, ◌&&◌, ◌||◌, not, refl, sym, ap, subst, IsTrue}
 use Rattle.std.proofs.lemmas.Bool.{and_parts}
 use Rattle.std.proofs.lemmas.List.{append-nil, append_assoc}
 use Rattle.rational.specs.Rational.{Rational}
@@ -15,7 +15,7 @@ use Rattle.infeasible_subset.proofs.Subsets.{fewer_bounds, members_fewer, refute
 use Rattle.infeasible_subset.proofs.There.{bounds_there, uses_left}
 
 -- what weights use, by rows and then by columns
-abbrev used : Weights → List Member
+abbrev pub used : Weights → List Member
 used w = map row_used w.rows ++ map column_used w.columns
 
 -- ---- points
@@ -115,3 +115,23 @@ module _ (p : Problem) (done : List Witness) (w : Weights) (h : IsUnderway p don
     none = none_meets (sub p (has (members_of done))) w (refuted_with p (has (members_of done)) w uses_members h.refuted);
     each = λ m t. point_of p (members_of done) done m points_meet t;
   }
+
+-- ---- a turn of the code
+
+both_fewer : (ms ks : List Member) → length (both ms ks) ≤ length ms
+both_fewer [] ks = omega arith
+both_fewer (m ∷ ms) ks = go (has ks m) (both_fewer ms ks)
+  where
+    go : (b : Bool) → length (both ms ks) ≤ length ms → length (cond b (m ∷ both ms ks) (both ms ks)) ≤ suc (length ms)
+    go true h = omega arith
+    go false h = omega arith
+
+pub left_fewer : (left ms rest ks : List Member) → left ≡ both ms ks → ms ≡ rest → length left ≤ length rest
+left_fewer left ms rest ks is same = rw (is, same) (both_fewer rest ks)
+
+pub others_among : (p : Problem) (done : List Witness) (m : Member) (rest others : List Member) (w : Weights) → IsUnderway p done (m ∷ rest) w → others ≡ members_of done ++ rest → AreAmong others (all_bounds p)
+others_among p done m rest others w h is = subst (λ ms. AreAmong ms (all_bounds p)) (sym is) (among_then (members_of done) (m ∷ rest) rest (all_bounds p) (λ cs t. among_less m rest cs t) h.among)
+
+pub when_pushed : {A E : Type 0} (r : Result A E) (p : Problem) (done made : List Witness) (left : List Member) (w : Weights) → OnOk r (done ≡ made) → IsUnderway p made left w → IfOk r (λ x. IsUnderway p done left w)
+when_pushed (Ok a) p done made left w e h = subst (λ d. IsUnderway p d left w) (sym e) h
+when_pushed (Err e) p done made left w k h = tt
