@@ -125,7 +125,6 @@ members_fewer m few many h k t = go (few k) (many k) (not (same_member m k)) (h 
     go true false n g t = let e = g refl in cc
     go false b n g t = cc
 
-
 -- ---- the weights of a trial
 
 bound_kept : (keep : Side → Bool) (w : Rational) (form : List Entry) (lower upper : Option Rational) (t : Weighted) → term w form (bound_used w (kept_if (keep Lower) lower) (kept_if (keep Upper) upper)) ≡ Some t → IsTrue (keep (side_used w))

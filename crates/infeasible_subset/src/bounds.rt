@@ -37,8 +37,16 @@ fn add_columns(members: &mut Vec<Member>, columns: &[Column]) -> Result<(), Allo
 {
     let mut place = 0;
     for column in columns {
-        add(members, column.lower(), Member::OfColumn(place, Side::Lower))?;
-        add(members, column.upper(), Member::OfColumn(place, Side::Upper))?;
+        add(
+            members,
+            column.lower(),
+            Member::OfColumn(place, Side::Lower),
+        )?;
+        add(
+            members,
+            column.upper(),
+            Member::OfColumn(place, Side::Upper),
+        )?;
         place += 1;
     }
     Ok(())

@@ -2,6 +2,7 @@
 #![tactic(auto)]
 
 mod bounds;
+mod continuous;
 mod fault;
 mod leaf;
 mod member;
@@ -13,6 +14,7 @@ mod turns;
 mod whole;
 mod witness;
 
+pub use continuous::has_no_integer_column;
 pub use fault::{StuckAt, SubsetFault, TooLong};
 pub use member::{Member, Side};
 pub use members::Members;

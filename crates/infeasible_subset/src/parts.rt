@@ -25,12 +25,7 @@ pub(crate) fn sub_problem(
     add_columns(alloc, &mut builder, problem.columns(), members)?;
     add_rows(alloc, &mut builder, problem.rows(), members)?;
     let name = problem.objective_name().copy(alloc)?;
-    builder.objective(
-        problem.direction(),
-        name,
-        Entries::new(alloc),
-        Frac::zero(),
-    );
+    builder.objective(problem.direction(), name, Entries::new(alloc), Frac::zero());
     Ok(builder.done())
 }
 
@@ -104,23 +99,30 @@ fn sub_column(
     ensures { IfOk result (λ made. made ≡ sub_column (λ s. has members.now (OfColumn place s)) column.now) }
 {
     let name = column.name().copy(alloc)?;
-    let lower = kept_if(has(members, &Member::OfColumn(place, Side::Lower)), column.lower());
-    let upper = kept_if(has(members, &Member::OfColumn(place, Side::Upper)), column.upper());
+    let lower = kept_if(
+        has(members, &Member::OfColumn(place, Side::Lower)),
+        column.lower(),
+    );
+    let upper = kept_if(
+        has(members, &Member::OfColumn(place, Side::Upper)),
+        column.upper(),
+    );
     Ok(Column::new(name, lower, upper, column.integer()))
 }
 
-fn sub_row(
-    alloc: Global,
-    row: &Row,
-    place: usize,
-    members: &[Member],
-) -> Result<Row, AllocError>
+fn sub_row(alloc: Global, row: &Row, place: usize, members: &[Member]) -> Result<Row, AllocError>
     ensures { IfOk result (λ made. made ≡ sub_row (λ s. has members.now (OfRow place s)) row.now) }
 {
     let name = row.name().copy(alloc)?;
     let entries = row.entries().copy(alloc)?;
-    let lower = kept_if(has(members, &Member::OfRow(place, Side::Lower)), row.lower());
-    let upper = kept_if(has(members, &Member::OfRow(place, Side::Upper)), row.upper());
+    let lower = kept_if(
+        has(members, &Member::OfRow(place, Side::Lower)),
+        row.lower(),
+    );
+    let upper = kept_if(
+        has(members, &Member::OfRow(place, Side::Upper)),
+        row.upper(),
+    );
     Ok(Row::new(name, lower, upper, entries))
 }
 

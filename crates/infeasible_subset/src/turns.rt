@@ -66,15 +66,7 @@ fn turn(
     let member = underway.left.take_first();
     let others = others(alloc, &underway.done, &underway.left)?;
     let trial = try_alone(alloc, problem, others.as_slice(), pivot_limit)?;
-    settle(
-        alloc,
-        problem,
-        underway,
-        member,
-        others,
-        pivot_limit,
-        trial,
-    )
+    settle(alloc, problem, underway, member, others, pivot_limit, trial)
 }
 
 // The members that are done, and then those that are left.
