@@ -1,0 +1,6 @@
+mod Building
+mod Lists
+mod Subsets
+mod There
+mod OneByOne
+mod Treated

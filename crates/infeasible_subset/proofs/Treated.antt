@@ -1,0 +1,63 @@
+-- What becomes of the root of a problem without an objective and without integer columns.
+use Rattle.std.proofs.Common.{◌≡◌, ◌∙◌, ℕ, List, [], Bool, true, false, refl, sym, subst, Option, Some, None, IfSome, slice_get, Result, IfOk}
+use Rattle.rational.specs.Rational.{Rational, zero_ℚ, ◌<ℚ◌, ◌≤ℚ◌, ◌*ℚ◌}
+use Rattle.rational.proofs.Laws as Q
+use Rattle.fraction.specs.declared.frac.NoFit.{NoFit}
+use Rattle.milp.specs.Form.{Entry, sum_at}
+use Rattle.milp.specs.Problem.{Column, Problem}
+use Rattle.milp.specs.Points.{IsImprovingRay, sign_of}
+use Rattle.instance.specs.WellFormed.{IsWellFormed}
+use Rattle.verdicts.specs.Certificate.{Weights, TreeNode, Empty, Bound}
+use Rattle.verdicts.specs.Proves.{is_integer, node_passes}
+use Rattle.cert_check.proofs.Laws.{node_ok}
+use Rattle.simplex.proofs.Laws.{over_columns}
+use Rattle.search_tree.specs.Nodes.{IsHonestSplit, NodePasses}
+use Rattle.search_tree.specs.Work.{IsWorkFault}
+use Rattle.search_tree.proofs.Laws.{forms_ascend, on_site_numbers}
+use Rattle.branch_search.specs.Plain.{NoneInteger}
+use Rattle.infeasible_subset.specs.Members.{Member, OfColumn}
+use Rattle.infeasible_subset.specs.Subsets.{sub, Refutes}
+use Rattle.infeasible_subset.proofs.Subsets.{column_or_none, get_column}
+use Rattle.infeasible_subset.specs.Faults.{IsRootFault}
+
+passing : (p : Problem) (node : TreeNode) → NodePasses p None [] [] node → node_passes p None [] [] node ≡ true
+passing p node h = let P : Result Bool NoFit → Type 0 = λ r. IfOk r (λ b. b ≡ node_passes p None [] [] node) in sym (subst P h (node_ok p None [] [] node))
+
+pub refuted : (p : Problem) (w : Weights) → NodePasses p None [] [] (Empty w) → Refutes p w
+refuted p w h = record { passes = passing p (Empty w) h }
+
+-- there is no value against which a leaf could be bounded
+pub not_bounded : (p : Problem) (w : Weights) → NodePasses p None [] [] (Bound w) → ⊥
+not_bounded p w h = let e : false ≡ true = passing p (Bound w) h in cc
+
+not_integer : (o : Option Column) → IfSome o (λ c. c.integer ≡ false) → is_integer o ≡ true → ⊥
+not_integer None h e = cc
+not_integer (Some c) h e = let never : true ≡ false = sym e ∙ h in cc
+
+-- there is no column to be split
+pub no_integer : (p : Problem) (j : ℕ) → NoneInteger p.columns → is_integer (slice_get p.columns j) ≡ true → ⊥
+no_integer p j none e = not_integer (slice_get p.columns j) (none j) e
+
+-- there is no objective that a ray could improve
+pub no_ray : (p : Problem) (ray : List Rational) → p.objective ≡ [] → IsImprovingRay p ray → ⊥
+no_ray p ray e h =
+    let s : Rational = sign_of p.direction in
+    let F : List Entry → Type 0 = λ form. (s *ℚ sum_at ray form) <ℚ zero_ℚ in
+    let below : (s *ℚ zero_ℚ) <ℚ zero_ℚ = subst F e h.improves in
+    let G : Rational → Type 0 = λ t. zero_ℚ ≤ℚ t in
+    Q.lt-not-le _ _ below (subst G (sym (Q.mul-zero s)) (Q.le_refl zero_ℚ))
+
+pub root_fault : (p : Problem) (e : NoFit) → IsWellFormed p.columns p.rows p.objective → IsWorkFault p [] [] e → IsRootFault p e
+root_fault p e formed fault = record {
+  fault = fault;
+  on_site = on_site_numbers p [] [] e (over_columns p formed) (forms_ascend p formed) fault;
+}
+
+-- ---- the problem with some of its bounds alone
+
+pub none_integer : (p q : Problem) (keep : Member → Bool) → q ≡ sub p keep → NoneInteger p.columns → NoneInteger q.columns
+none_integer p q keep is h = subst (λ (r : Problem). NoneInteger r.columns) (sym is) (λ j. go j (slice_get p.columns j) (get_column _ p.columns j) (h j))
+  where
+    go : (j : ℕ) (o : Option Column) {a : Option Column} → a ≡ column_or_none (λ s. keep (OfColumn j s)) o → IfSome o (λ c. c.integer ≡ false) → IfSome a (λ c. c.integer ≡ false)
+    go j None e k = rw e tt
+    go j (Some c) e k = rw e k

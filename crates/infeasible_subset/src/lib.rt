@@ -1,0 +1,22 @@
+//! Irreducible infeasible subsets: bounds of a problem that no point meets, while without any one of them a point does.
+#![tactic(auto)]
+
+mod bounds;
+mod continuous;
+mod fault;
+mod leaf;
+mod member;
+mod members;
+mod parts;
+mod settling;
+mod trial;
+mod turns;
+mod whole;
+mod witness;
+
+pub use continuous::has_no_integer_column;
+pub use fault::{StuckAt, SubsetFault, TooLong};
+pub use member::{Member, Side};
+pub use members::Members;
+pub use whole::subset;
+pub use witness::{Subset, Witness, Witnesses};
