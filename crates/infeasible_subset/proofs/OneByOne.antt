@@ -1,7 +1,7 @@
 -- One member after the other: how it begins, what each trial makes of it, and what stands at the end.
-use Rattle.std.proofs.Common.{◌≡◌, ◌∙◌, ◌⊎◌, ◌≤◌, inl, inr, suc, length, cond, arith, Result, Ok, Err, IfOk, OnOk, List, [], ◌∷◌, ◌++◌, map, Bool, true, false, ◌&&◌, ◌||◌, not, refl, sym, ap, subst, IsTrue}
+use Rattle.std.proofs.Common.{◌≡◌, ◌⊎◌, ◌≤◌, inl, inr, suc, length, cond, arith, Result, Ok, Err, IfOk, OnOk, List, [], ◌∷◌, ◌++◌, map, Bool, true, false, ◌||◌, not, refl, sym, ap, subst, IsTrue}
 use Rattle.std.proofs.lemmas.Bool.{and_parts}
-use Rattle.std.proofs.lemmas.List.{append-nil, append_assoc}
+use Rattle.std.proofs.lemmas.List.{append-nil}
 use Rattle.rational.specs.Rational.{Rational}
 use Rattle.milp.specs.Problem.{Problem}
 use Rattle.milp.specs.Points.{Feasible}
@@ -10,7 +10,7 @@ use Rattle.infeasible_subset.specs.Members.{Member, same_member, has, both}
 use Rattle.infeasible_subset.specs.Subsets.{sub, without, row_used, column_used, IsIrreducible, UsesOnly, Refutes}
 use Rattle.infeasible_subset.specs.Listed.{AreAmong, all_bounds}
 use Rattle.infeasible_subset.specs.Underway.{Witness, members_of, AllMeet, IsUnderway}
-use Rattle.infeasible_subset.proofs.Lists.{or_left, or_right, either_way, same_members, in_front, behind, front_or_behind, of_both, all_among, among_less, both_among, among_then}
+use Rattle.infeasible_subset.proofs.Lists.{or_right, either_way, same_members, in_front, behind, front_or_behind, of_both, all_among, among_less, both_among, among_then}
 use Rattle.infeasible_subset.proofs.Subsets.{fewer_bounds, members_fewer, refuted_with, none_meets, trial_refutes}
 use Rattle.infeasible_subset.proofs.There.{bounds_there, uses_left}
 

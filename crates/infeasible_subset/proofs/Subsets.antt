@@ -1,7 +1,5 @@
 -- Weights that refute a problem refute it with the bounds alone that they use, and a point of many bounds is one of few.
-use Rattle.std.proofs.Common.{◌≡◌, ◌∙◌, ℕ, zero, suc, List, [], ◌∷◌, Bool, true, false, ◌&&◌, ◌||◌, not, ◌==◌, refl, sym, ap, subst, Option, Some, None, IfSome, IsTrue, slice_get, length, option_and_then, if◌then◌else◌}
-use Rattle.std.proofs.lemmas.Bool.{and_parts, eqb-true}
-use mathlib.Core.Path.{ap₂}
+use Rattle.std.proofs.Common.{◌≡◌, ◌∙◌, ℕ, zero, suc, List, [], ◌∷◌, Bool, true, false, ◌&&◌, not, refl, sym, ap, Option, Some, None, IfSome, IsTrue, slice_get, length, option_and_then, if◌then◌else◌}
 use Rattle.rational.specs.Rational.{Rational, ◌≤ℚ◌, zero_ℚ, one_ℚ}
 use Rattle.rational.specs.Compare.{is_less}
 use Rattle.milp.specs.Form.{Entry, number_at, sum_at}

@@ -1,5 +1,5 @@
 -- Weights that refute a problem use bounds that it has.
-use Rattle.std.proofs.Common.{◌≡◌, ◌∙◌, ◌+◌, ◌⊎◌, inl, inr, length, ℕ, zero, suc, List, [], ◌∷◌, ◌++◌, map, Bool, true, false, refl, sym, ap, subst, arith, Option, Some, None, IsTrue, slice_get, option_and_then, if◌then◌else◌}
+use Rattle.std.proofs.Common.{◌≡◌, ◌+◌, ◌⊎◌, inl, inr, length, ℕ, zero, suc, List, [], ◌∷◌, ◌++◌, map, Bool, true, false, refl, subst, arith, Option, Some, None, IsTrue, slice_get, option_and_then, if◌then◌else◌}
 use Rattle.rational.specs.Rational.{Rational, zero_ℚ, one_ℚ}
 use Rattle.rational.specs.Compare.{is_less}
 use Rattle.milp.specs.Form.{Entry}

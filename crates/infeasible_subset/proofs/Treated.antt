@@ -1,5 +1,5 @@
 -- What becomes of the root of a problem without an objective and without integer columns.
-use Rattle.std.proofs.Common.{◌≡◌, ◌∙◌, ℕ, List, [], Bool, true, false, refl, sym, subst, Option, Some, None, IfSome, slice_get, Result, IfOk}
+use Rattle.std.proofs.Common.{◌≡◌, ◌∙◌, ℕ, List, [], Bool, true, false, sym, subst, Option, Some, None, IfSome, slice_get, Result, IfOk}
 use Rattle.rational.specs.Rational.{Rational, zero_ℚ, ◌<ℚ◌, ◌≤ℚ◌, ◌*ℚ◌}
 use Rattle.rational.proofs.Laws as Q
 use Rattle.fraction.specs.declared.frac.NoFit.{NoFit}
@@ -11,7 +11,7 @@ use Rattle.verdicts.specs.Certificate.{Weights, TreeNode, Empty, Bound}
 use Rattle.verdicts.specs.Proves.{is_integer, node_passes}
 use Rattle.cert_check.proofs.Laws.{node_ok}
 use Rattle.simplex.proofs.Laws.{over_columns}
-use Rattle.search_tree.specs.Nodes.{IsHonestSplit, NodePasses}
+use Rattle.search_tree.specs.Nodes.{NodePasses}
 use Rattle.search_tree.specs.Work.{IsWorkFault}
 use Rattle.search_tree.proofs.Laws.{forms_ascend, on_site_numbers}
 use Rattle.branch_search.specs.Plain.{NoneInteger}

@@ -1,5 +1,5 @@
 -- Bounds of rows and columns by their places, and lists of them.
-use Rattle.std.specs.Prelude.{ℕ, List, [], ◌∷◌, Bool, true, false, ◌&&◌, ◌||◌, not, ◌==◌, cond}
+use Rattle.std.specs.Prelude.{List, [], ◌∷◌, Bool, true, false, ◌&&◌, ◌||◌, ◌==◌, cond}
 pub use Rattle.infeasible_subset.specs.declared.member.Side.{Side}
 pub use Rattle.infeasible_subset.specs.declared.member.Side.TheVariants.{Lower, Upper}
 pub use Rattle.infeasible_subset.specs.declared.member.Member.{Member}
