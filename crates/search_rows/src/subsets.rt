@@ -19,7 +19,12 @@ pub(crate) fn found_subset(
     if !has_no_integer_column(problem) {
         return "integer columns".to_string(alloc);
     }
-    let steps = steps.parse::<u32>().unwrap_or(1);
+    of_continuous(alloc, problem, steps.parse::<u32>().unwrap_or(1))
+}
+
+fn of_continuous(alloc: Global, problem: &Instance, steps: u32) -> Result<String, AllocError>
+    requires { NoneInteger problem.now.columns }
+{
     let verdict = search(alloc, problem, 0, 0);
     let words = match &verdict {
         Ok(certificate) => of_certificate(alloc, problem, certificate, steps),
