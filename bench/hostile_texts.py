@@ -7,7 +7,7 @@ Long texts, of ten megabytes, are parentheses, signs, one name, digits, beginnin
 each place where a text is read: a model in MathProg, its data and its table, free MPS, CPLEX LP, and a certificate. Each is to get the
 answer that stands beside it here, by the manual, within a second of processor time and with at most 16 bytes of memory for a byte; good
 models of a million statements are measured only. Nested texts have 1,000 of a construct within one another. Deep ones stay within the
-limits (50 open at a place, 400 members in a chain, a tree of a million nodes one below the other) and are run with a stack of 8 MB: each
+limits (50 open at a place, 400 members in a chain, a tree of 10,000 branches one below the other) and are run with a stack of 8 MB: each
 is to end with an answer. It tells what fails, and its status is then 1. PATH is the program; else it is the one that ./glpsol builds.
 """
 import argparse
@@ -208,7 +208,7 @@ def deep_texts(ours, folder, is_asked):
     if is_asked("a tree, one node below the other"):
         with open(os.path.join(folder, "model"), "w", encoding="utf-8") as file:
             file.write("ROWS\n N z\nCOLUMNS\n M 'MARKER' 'INTORG'\n x z 1\nBOUNDS\n LO b x 2\n UP b x 1\nENDATA\n")
-        length = write(folder, "hostile", tree, "branch 1 0\n", 1_000_000, "empty c1:1 c1:-1\n" * 1_000_001 + "end\n")
+        length = write(folder, "hostile", tree, "branch 1 0\n", 10_000, "empty c1:1 c1:-1\n" * 10_001 + "end\n")
         is_well &= tell("a tree, one node below the other", length, run(ours, "--freemps model --checkcert hostile", folder, STACK), "ACCEPTED", True)
     return is_well
 
