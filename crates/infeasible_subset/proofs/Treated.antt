@@ -7,8 +7,8 @@ use Rattle.milp.specs.Form.{Entry, sum_at}
 use Rattle.milp.specs.Problem.{Column, Problem}
 use Rattle.milp.specs.Points.{IsImprovingRay, sign_of}
 use Rattle.instance.specs.WellFormed.{IsWellFormed}
-use Rattle.verdicts.specs.Certificate.{Weights, TreeNode, Empty, Bound}
-use Rattle.verdicts.specs.Proves.{is_integer, node_passes}
+use Rattle.verdicts.specs.Certificate.{Weights, TreeNode, Empty}
+use Rattle.verdicts.specs.Proves.{node_passes}
 use Rattle.cert_check.proofs.Laws.{node_ok}
 use Rattle.simplex.proofs.Laws.{over_columns}
 use Rattle.search_tree.specs.Nodes.{NodePasses}
@@ -25,18 +25,6 @@ passing p node h = let P : Result Bool NoFit → Type 0 = λ r. IfOk r (λ b. b 
 
 pub refuted : (p : Problem) (w : Weights) → NodePasses p None [] [] (Empty w) → Refutes p w
 refuted p w h = record { passes = passing p (Empty w) h }
-
--- there is no value against which a leaf could be bounded
-pub not_bounded : (p : Problem) (w : Weights) → NodePasses p None [] [] (Bound w) → ⊥
-not_bounded p w h = let e : false ≡ true = passing p (Bound w) h in cc
-
-not_integer : (o : Option Column) → IfSome o (λ c. c.integer ≡ false) → is_integer o ≡ true → ⊥
-not_integer None h e = cc
-not_integer (Some c) h e = let never : true ≡ false = sym e ∙ h in cc
-
--- there is no column to be split
-pub no_integer : (p : Problem) (j : ℕ) → NoneInteger p.columns → is_integer (slice_get p.columns j) ≡ true → ⊥
-no_integer p j none e = not_integer (slice_get p.columns j) (none j) e
 
 -- there is no objective that a ray could improve
 pub no_ray : (p : Problem) (ray : List Rational) → p.objective ≡ [] → IsImprovingRay p ray → ⊥
