@@ -1,0 +1,18 @@
+use Rattle.std.proofs.Common.{◌≡◌, ℕ, ◌⊎◌, ◌+◌, None}
+use Rattle.std.specs.List.{All}
+use Rattle.std.specs.Vec.{vec_len, vec_capacity}
+use Rattle.turn_pool.specs.Logs.{Has}
+use Rattle.pool_rows.specs.Ready.{IsReady, numbers, AnyHas}
+use Rattle.pool_rows.proofs.whole.hired.Given as goal
+
+abbrev pub invariant-loop : goal.invariant-loop
+invariant-loop l = record {
+  ready : IsReady l.pool l.first;
+  none : l.first.held ≡ None;
+  crew : All (IsReady l.pool) l.crew.items;
+  numbers : (k : ℕ) → Has (numbers l.initial.first) k → AnyHas l.crew.items k ⊎ Has (numbers l.first) k;
+  from : l.first.pass.seat.me.0.from ≡ l.initial.first.pass.seat.me.0.from + l.counter;
+  to : l.first.pass.seat.me.0.to ≡ l.initial.first.pass.seat.me.0.to;
+  len : vec_len l.crew ≡ l.counter;
+  room : vec_capacity l.crew ≡ vec_capacity l.initial.crew;
+}

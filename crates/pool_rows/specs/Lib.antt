@@ -1,0 +1,3 @@
+pub mod OpenLeases
+pub mod Ready
+pub mod Tasks
