@@ -5,7 +5,8 @@ use branch_search::{Treatment, VerdictFault, solve, treat_with};
 use candidate::{Candidate, ProposedOptimum, ProposedRay, Proposer};
 use certificate::{Certificate, DerivedRows, Item, Items, Weights, text};
 use fraction::Frac;
-use instance::{Column, Instance};
+use infeasible_subset::has_no_integer_column;
+use instance::Instance;
 use mps_reader::read_mps;
 use search_node::{Basis, Node, SplitsTaken};
 use simplex::root_is_over_columns;
@@ -37,23 +38,13 @@ fn of_problem(
     problem: &Instance,
     asked: Option<&str>,
 ) -> Result<String, AllocError> {
-    if has_integer(problem.columns()) {
+    if !has_no_integer_column(problem) {
         return "no linear program".to_string(alloc);
     }
     match asked {
         None => proposed_and_found(alloc, problem),
         Some(asked) => with_candidate(alloc, problem, asked),
     }
-}
-
-// Whether a column takes whole numbers alone.
-fn has_integer(columns: &[Column]) -> bool {
-    for column in columns {
-        if column.integer() {
-            return true;
-        }
-    }
-    false
 }
 
 fn proposed_and_found(alloc: Global, problem: &Instance) -> Result<String, AllocError> {

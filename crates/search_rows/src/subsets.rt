@@ -2,7 +2,7 @@
 ghost use Rattle.branch_search.specs.Plain.{NoneInteger, IsPlainCertificate};
 ghost use Rattle.verdicts.specs.Proves.{Proves};
 
-use branch_search::search;
+use branch_search::solve;
 use certificate::{Certificate, Verdict};
 use infeasible_subset::{
     Member, Side, Subset, SubsetFault, Witness, has_no_integer_column, subset,
@@ -25,7 +25,7 @@ pub(crate) fn found_subset(
 fn of_continuous(alloc: Global, problem: &Instance, steps: u32) -> Result<String, AllocError>
     requires { NoneInteger problem.now.columns }
 {
-    let verdict = search(alloc, problem, 0, 0);
+    let verdict = solve(alloc, problem, 0, 0);
     let words = match &verdict {
         Ok(certificate) => of_certificate(alloc, problem, certificate, steps),
         Err(_) => "no verdict".to_string(alloc),
