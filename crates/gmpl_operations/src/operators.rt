@@ -108,7 +108,7 @@ fn sets_joined(
 {
     let left = left.into_set()?;
     let right = right.into_set()?;
-    on_sets(alloc, operator, &left, &right)
+    on_sets(alloc, operator, left.get(), right.get())
 }
 
 fn on_sets(
@@ -120,11 +120,11 @@ fn on_sets(
     ensures { Gives result (spec.on_sets operator left.now right.now) }
 {
     match operator {
-        Operator::Union => Ok(Value::Elements(union(alloc, left, right)?)),
-        Operator::Diff => Ok(Value::Elements(diff(alloc, left, right)?)),
-        Operator::Symdiff => Ok(Value::Elements(symdiff(alloc, left, right)?)),
-        Operator::Inter => Ok(Value::Elements(inter(alloc, left, right)?)),
-        Operator::Cross => Ok(Value::Elements(cross(alloc, left, right)?)),
+        Operator::Union => Ok(Value::elements(alloc, union(alloc, left, right)?)?),
+        Operator::Diff => Ok(Value::elements(alloc, diff(alloc, left, right)?)?),
+        Operator::Symdiff => Ok(Value::elements(alloc, symdiff(alloc, left, right)?)?),
+        Operator::Inter => Ok(Value::elements(alloc, inter(alloc, left, right)?)?),
+        Operator::Cross => Ok(Value::elements(alloc, cross(alloc, left, right)?)?),
         _ => Err(EvalFault::NotANumber),
     }
 }

@@ -73,7 +73,7 @@ fn member_of(alloc: Global, left: Value, right: Value) -> Result<bool, EvalFault
 {
     let tuple = left.into_tuple(alloc)?;
     let set = right.into_set()?;
-    Ok(set.contains(&tuple))
+    Ok(set.get().contains(&tuple))
 }
 
 fn within(left: Value, right: Value) -> Result<bool, EvalFault>
@@ -81,7 +81,7 @@ fn within(left: Value, right: Value) -> Result<bool, EvalFault>
 {
     let inner = left.into_set()?;
     let outer = right.into_set()?;
-    Ok(inner.is_within(&outer))
+    Ok(inner.get().is_within(outer.get()))
 }
 
 /// Whether one of the six comparisons holds between two symbols.
