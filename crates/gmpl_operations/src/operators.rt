@@ -1,6 +1,6 @@
 // Operators between two parts of a chain.
 ghost use Rattle.std.specs.Prelude.{◌≡◌};
-ghost use Rattle.gmpl_value.specs.Outcome.{Gives, then_do};
+ghost use Rattle.gmpl_value.specs.Outcome.{Gives, GivesAs, then_do};
 ghost use Rattle.gmpl_operations.specs.Operators as spec;
 ghost use Rattle.gmpl_operations.specs.Values.{amount_in, as_value, set_in, truth_in, as_truth, symbol_in, number_in, as_number};
 ghost use Rattle.gmpl_operations.specs.declared.value.Value.TheVariants as values;
@@ -89,8 +89,8 @@ pub fn applied(
     match operator {
         Operator::Or | Operator::And => taken_truth(&right),
         Operator::Union | Operator::Diff | Operator::Symdiff | Operator::Inter | Operator::Cross =>
-            { sets_joined(alloc, operator, left, right) }
-        Operator::Join => texts_joined(alloc, left, right),
+            { sets_joined(alloc, operator, &left, &right) }
+        Operator::Join => texts_joined(alloc, &left, &right),
         Operator::Plus | Operator::Minus | Operator::Times | Operator::Over => {
             amounts_joined(alloc, operator, left, right)
         }
@@ -101,14 +101,15 @@ pub fn applied(
 fn sets_joined(
     alloc: Global,
     operator: Operator,
-    left: Value,
-    right: Value,
+    left: &Value,
+    right: &Value,
 ) -> Result<Value, EvalFault>
-    ensures { Gives result (spec.sets operator left right) }
+    ensures { Gives result (spec.sets operator left.now right.now) }
 {
-    let left = left.into_set()?;
-    let right = right.into_set()?;
-    on_sets(alloc, operator, left.get(), right.get())
+    let left = left.set()?;
+    let right = right.set()?;
+    let set = on_sets(alloc, operator, left, right)?;
+    Ok(Value::elements(alloc, set)?)
 }
 
 fn on_sets(
@@ -116,15 +117,15 @@ fn on_sets(
     operator: Operator,
     left: &SetValue,
     right: &SetValue,
-) -> Result<Value, EvalFault>
-    ensures { Gives result (spec.on_sets operator left.now right.now) }
+) -> Result<SetValue, EvalFault>
+    ensures { GivesAs (λ set. values.Elements set) result (spec.on_sets operator left.now right.now) }
 {
     match operator {
-        Operator::Union => Ok(Value::elements(alloc, union(alloc, left, right)?)?),
-        Operator::Diff => Ok(Value::elements(alloc, diff(alloc, left, right)?)?),
-        Operator::Symdiff => Ok(Value::elements(alloc, symdiff(alloc, left, right)?)?),
-        Operator::Inter => Ok(Value::elements(alloc, inter(alloc, left, right)?)?),
-        Operator::Cross => Ok(Value::elements(alloc, cross(alloc, left, right)?)?),
+        Operator::Union => Ok(union(alloc, left, right)?),
+        Operator::Diff => Ok(diff(alloc, left, right)?),
+        Operator::Symdiff => Ok(symdiff(alloc, left, right)?),
+        Operator::Inter => Ok(inter(alloc, left, right)?),
+        Operator::Cross => Ok(cross(alloc, left, right)?),
         _ => Err(EvalFault::NotANumber),
     }
 }
@@ -178,10 +179,10 @@ fn on_numbers(operator: Operator, left: Frac, right: Frac) -> Result<Value, Eval
     }
 }
 
-fn texts_joined(alloc: Global, left: Value, right: Value) -> Result<Value, EvalFault>
-    ensures { Gives result (spec.texts left right) }
+fn texts_joined(alloc: Global, left: &Value, right: &Value) -> Result<Value, EvalFault>
+    ensures { Gives result (spec.texts left.now right.now) }
 {
-    let left = left.into_symbol()?;
-    let right = right.into_symbol()?;
-    Ok(Value::Scalar(join(alloc, &left, &right)?))
+    let left = left.symbol()?;
+    let right = right.symbol()?;
+    Ok(Value::Scalar(join(alloc, left, right)?))
 }

@@ -1,6 +1,6 @@
 // What an expression comes to.
 ghost use Rattle.std.specs.Prelude.{◌≡◌, IfOk};
-ghost use Rattle.gmpl_value.specs.Outcome.{Gives};
+ghost use Rattle.gmpl_value.specs.Outcome.{Gives, GivesAs};
 ghost use Rattle.gmpl_operations.specs.Values.{number_in, symbol_in, truth_in, set_in, tuple_in, amount_in, of_amount, of_number};
 ghost use Rattle.gmpl_operations.specs.declared.value.Value.TheVariants as values;
 
@@ -71,6 +71,17 @@ impl Value {
         }
     }
 
+    /// The same symbol, to be looked at.
+    pub fn symbol(&self) -> Result<&Symbol, EvalFault>
+        ensures { GivesAs (λ symbol. symbol.now) result (symbol_in self.now) }
+    {
+        match self {
+            Value::Scalar(symbol) => Ok(symbol),
+            Value::Linear(_) => Err(EvalFault::Nonlinear),
+            _ => Err(EvalFault::NotANumber),
+        }
+    }
+
     /// In a logical place: a number is true where it isn't 0. `Nonlinear` for a form, `NotANumber` for a string.
     pub fn as_truth(&self) -> Result<bool, EvalFault>
         ensures { result ≡ truth_in self.now }
@@ -89,6 +100,16 @@ impl Value {
     {
         match self {
             Value::Elements(set) => Ok(set),
+            _ => Err(EvalFault::NotANumber),
+        }
+    }
+
+    /// The same set, to be looked at.
+    pub fn set(&self) -> Result<&SetValue, EvalFault>
+        ensures { GivesAs (λ set. set.now) result (set_in self.now) }
+    {
+        match self {
+            Value::Elements(set) => Ok(set.get()),
             _ => Err(EvalFault::NotANumber),
         }
     }
