@@ -33,7 +33,13 @@ fn with_tuple(alloc: Global, total: Value, value: Value) -> Result<Value, EvalFa
     with_element(alloc, set.into_inner(), tuple)
 }
 
-fn greater_value(total: &Value, value: &Value) -> Result<Value, EvalFault>
+fn greater_value(total: Value, value: Value) -> Result<Value, EvalFault>
+    ensures { Gives result (spec.greater_value total value) }
+{
+    greater_of(&total, &value)
+}
+
+fn greater_of(total: &Value, value: &Value) -> Result<Value, EvalFault>
     ensures { Gives result (spec.greater_value total.now value.now) }
 {
     let total = total.as_number()?;
@@ -41,7 +47,13 @@ fn greater_value(total: &Value, value: &Value) -> Result<Value, EvalFault>
     Ok(Value::number(greater(total, number)))
 }
 
-fn lesser_value(total: &Value, value: &Value) -> Result<Value, EvalFault>
+fn lesser_value(total: Value, value: Value) -> Result<Value, EvalFault>
+    ensures { Gives result (spec.lesser_value total value) }
+{
+    lesser_of(&total, &value)
+}
+
+fn lesser_of(total: &Value, value: &Value) -> Result<Value, EvalFault>
     ensures { Gives result (spec.lesser_value total.now value.now) }
 {
     let total = total.as_number()?;
@@ -56,10 +68,16 @@ fn factor(value: &Value) -> Result<Value, EvalFault>
     Ok(Value::number(value.as_number()?))
 }
 
-fn multiplied(alloc: Global, total: Value, value: &Value) -> Result<Value, EvalFault>
-    ensures { Gives result (spec.multiplied total value.now) }
+fn taken_factor(value: Value) -> Result<Value, EvalFault>
+    ensures { result ≡ spec.factor value }
 {
-    let factor = factor(value)?;
+    factor(&value)
+}
+
+fn multiplied(alloc: Global, total: Value, value: Value) -> Result<Value, EvalFault>
+    ensures { Gives result (spec.multiplied total value) }
+{
+    let factor = taken_factor(value)?;
     applied(alloc, Operator::Times, total, factor)
 }
 
@@ -68,7 +86,7 @@ fn first(alloc: Global, iteration: Iteration, value: Value) -> Result<Value, Eva
 {
     match iteration {
         Iteration::Sum => taken(Operator::Plus, value),
-        Iteration::Prod => factor(&value),
+        Iteration::Prod => taken_factor(value),
         Iteration::Min | Iteration::Max => taken(Operator::Less, value),
         Iteration::Setof => with_tuple(alloc, nothing(alloc)?, value),
         Iteration::Forall => taken(Operator::And, value),
@@ -81,9 +99,9 @@ fn next(alloc: Global, iteration: Iteration, total: Value, value: Value) -> Resu
 {
     match iteration {
         Iteration::Sum => applied(alloc, Operator::Plus, total, value),
-        Iteration::Prod => multiplied(alloc, total, &value),
-        Iteration::Min => lesser_value(&total, &value),
-        Iteration::Max => greater_value(&total, &value),
+        Iteration::Prod => multiplied(alloc, total, value),
+        Iteration::Min => lesser_value(total, value),
+        Iteration::Max => greater_value(total, value),
         Iteration::Setof => with_tuple(alloc, total, value),
         Iteration::Forall => applied(alloc, Operator::And, total, value),
         Iteration::Exists => applied(alloc, Operator::Or, total, value),

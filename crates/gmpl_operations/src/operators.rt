@@ -18,17 +18,17 @@ pub fn taken(operator: Operator, left: Value) -> Result<Value, EvalFault>
     ensures { result ≡ spec.taken operator left }
 {
     match operator {
-        Operator::Or | Operator::And => taken_truth(&left),
+        Operator::Or | Operator::And => taken_truth(left),
         Operator::Union | Operator::Diff | Operator::Symdiff | Operator::Inter | Operator::Cross =>
             { taken_set(left) }
         Operator::Join => taken_symbol(left),
         Operator::Plus | Operator::Minus | Operator::Times | Operator::Over => taken_amount(left),
-        Operator::Less | Operator::Div | Operator::Mod => taken_number(&left),
+        Operator::Less | Operator::Div | Operator::Mod => taken_number(left),
     }
 }
 
-fn taken_truth(left: &Value) -> Result<Value, EvalFault>
-    ensures { result ≡ as_truth (truth_in left.now) }
+fn taken_truth(left: Value) -> Result<Value, EvalFault>
+    ensures { result ≡ as_truth (truth_in left) }
 {
     Ok(Value::Truth(left.as_truth()?))
 }
@@ -51,8 +51,8 @@ fn taken_amount(left: Value) -> Result<Value, EvalFault>
     Ok(Value::amount(left.into_amount()?))
 }
 
-fn taken_number(left: &Value) -> Result<Value, EvalFault>
-    ensures { result ≡ as_number (number_in left.now) }
+fn taken_number(left: Value) -> Result<Value, EvalFault>
+    ensures { result ≡ as_number (number_in left) }
 {
     Ok(Value::number(left.as_number()?))
 }
@@ -87,18 +87,30 @@ pub fn applied(
     ensures { Gives result (spec.applied operator left right) }
 {
     match operator {
-        Operator::Or | Operator::And => taken_truth(&right),
+        Operator::Or | Operator::And => taken(operator, right),
         Operator::Union | Operator::Diff | Operator::Symdiff | Operator::Inter | Operator::Cross =>
-            { sets_joined(alloc, operator, &left, &right) }
-        Operator::Join => texts_joined(alloc, &left, &right),
+            { sets_joined(alloc, operator, left, right) }
+        Operator::Join => texts_joined(alloc, left, right),
         Operator::Plus | Operator::Minus | Operator::Times | Operator::Over => {
             amounts_joined(alloc, operator, left, right)
         }
-        Operator::Less | Operator::Div | Operator::Mod => numbers_joined(operator, &left, &right),
+        Operator::Less | Operator::Div | Operator::Mod => numbers_joined(operator, left, right),
     }
 }
 
+// Here and below the operands are let go by the outer of two functions, which has no other exit.
 fn sets_joined(
+    alloc: Global,
+    operator: Operator,
+    left: Value,
+    right: Value,
+) -> Result<Value, EvalFault>
+    ensures { Gives result (spec.sets operator left right) }
+{
+    in_sets(alloc, operator, &left, &right)
+}
+
+fn in_sets(
     alloc: Global,
     operator: Operator,
     left: &Value,
@@ -160,7 +172,13 @@ fn on_amounts(
     }
 }
 
-fn numbers_joined(operator: Operator, left: &Value, right: &Value) -> Result<Value, EvalFault>
+fn numbers_joined(operator: Operator, left: Value, right: Value) -> Result<Value, EvalFault>
+    ensures { Gives result (spec.numbers operator left right) }
+{
+    in_numbers(operator, &left, &right)
+}
+
+fn in_numbers(operator: Operator, left: &Value, right: &Value) -> Result<Value, EvalFault>
     ensures { Gives result (spec.numbers operator left.now right.now) }
 {
     let left = left.as_number()?;
@@ -179,7 +197,13 @@ fn on_numbers(operator: Operator, left: Frac, right: Frac) -> Result<Value, Eval
     }
 }
 
-fn texts_joined(alloc: Global, left: &Value, right: &Value) -> Result<Value, EvalFault>
+fn texts_joined(alloc: Global, left: Value, right: Value) -> Result<Value, EvalFault>
+    ensures { Gives result (spec.texts left right) }
+{
+    in_texts(alloc, &left, &right)
+}
+
+fn in_texts(alloc: Global, left: &Value, right: &Value) -> Result<Value, EvalFault>
     ensures { Gives result (spec.texts left.now right.now) }
 {
     let left = left.symbol()?;

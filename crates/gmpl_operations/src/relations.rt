@@ -68,10 +68,10 @@ pub fn left_side(alloc: Global, relation: Relation, left: Value) -> Result<Value
     }
 }
 
-fn member_of(alloc: Global, left: Value, right: &Value) -> Result<bool, EvalFault>
-    ensures { Gives result (spec.member_of left right.now) }
+fn member_of(alloc: Global, left: &Value, right: &Value) -> Result<bool, EvalFault>
+    ensures { Gives result (spec.member_of left.now right.now) }
 {
-    let tuple = left.into_tuple(alloc)?;
+    let tuple = left.tuple(alloc)?;
     let set = right.set()?;
     Ok(set.contains(&tuple))
 }
@@ -102,11 +102,22 @@ pub fn related(
 ) -> Result<bool, EvalFault>
     ensures { Gives result (spec.related relation left right) }
 {
+    are_related(alloc, relation, &left, &right)
+}
+
+fn are_related(
+    alloc: Global,
+    relation: Relation,
+    left: &Value,
+    right: &Value,
+) -> Result<bool, EvalFault>
+    ensures { Gives result (spec.related relation left.now right.now) }
+{
     match relation {
-        Relation::In => member_of(alloc, left, &right),
-        Relation::NotIn => Ok(!member_of(alloc, left, &right)?),
-        Relation::Within => within(&left, &right),
-        Relation::NotWithin => Ok(!within(&left, &right)?),
-        _ => scalars_related(relation, &left, &right),
+        Relation::In => member_of(alloc, left, right),
+        Relation::NotIn => Ok(!member_of(alloc, left, right)?),
+        Relation::Within => within(left, right),
+        Relation::NotWithin => Ok(!within(left, right)?),
+        _ => scalars_related(relation, left, right),
     }
 }

@@ -126,6 +126,18 @@ impl Value {
         }
     }
 
+    /// The same element, copied.
+    pub fn tuple(&self, alloc: Global) -> Result<Tuple, EvalFault>
+        ensures { Gives result (tuple_in self.now) }
+    {
+        match self {
+            Value::Scalar(symbol) => Ok(Tuple::single(alloc, symbol.copied(alloc)?)?),
+            Value::Group(tuple) => Ok(tuple.copied(alloc)?),
+            Value::Linear(_) => Err(EvalFault::Nonlinear),
+            _ => Err(EvalFault::NotANumber),
+        }
+    }
+
     /// In a numeric place that takes variables.
     pub fn into_amount(self) -> Result<Amount, EvalFault>
         ensures { result ≡ amount_in self }
