@@ -15,7 +15,7 @@ use crate::room::ROOM;
 use crate::variables::bounds_by;
 use fraction::Frac;
 use gmpl_data::LoadedModel;
-use gmpl_functions::{Amount, Form, Variable};
+use gmpl_functions::{Form, Variable};
 use gmpl_meaning::{Bounds, Kept, Walk};
 use gmpl_operations::Value;
 use gmpl_resolved::{Expr, Indexing};
@@ -85,7 +85,7 @@ pub fn eval_set(
     ensures same { context.new ≡ context.old }
 {
     let value = eval_value(alloc, context, whole, bindings)?;
-    value.into_set()
+    Ok(value.into_set()?.into_inner())
 }
 
 /// Whether an expression is true.
@@ -114,16 +114,7 @@ pub fn eval_form(
 {
     let value = eval_value(alloc, context, whole, bindings)?;
     let amount = value.into_amount()?;
-    Ok(form(alloc, amount))
-}
-
-fn form(alloc: Global, amount: Amount) -> Form
-    ensures { result ≡ form_in amount }
-{
-    match amount {
-        Amount::Number(number) => Form::number(alloc, number),
-        Amount::Form(form) => form,
-    }
+    Ok(amount.into_form(alloc)?)
 }
 
 fn elements_by(

@@ -4,9 +4,11 @@
 // `restrictions` and `variables` are one cycle of calls. What needs no evaluation stands in other modules.
 //
 // `height` is how many members may still stand in the chain of demands, and `room` how much of the stack is left for what stands
-// within one another, as src/room.rt reckons it; where there is no room, memory is wanting.
+// within one another, as src/room.rt reckons it; where there is no room, memory is wanting. `eval` owns no value, so that its frame
+// is small.
 ghost use Rattle.std.specs.Prelude.{◌≡◌};
-ghost use Rattle.gmpl_value.specs.Outcome.{Gives};
+ghost use Rattle.gmpl_value.specs.Outcome.{Gives, then_do};
+ghost use Rattle.gmpl_operations.specs.Functions.{signed};
 ghost use Rattle.gmpl_expr.specs.At as at;
 ghost use Rattle.gmpl_meaning.specs.Expressions as spec;
 ghost use Rattle.gmpl_meaning.specs.Members.{member};
@@ -14,7 +16,7 @@ ghost use Rattle.gmpl_meaning.specs.Right.{AreRight};
 
 use crate::iterations::iterated;
 use crate::members::demanded;
-use crate::parts::{bound_to, nothing};
+use crate::parts::{bound_to, nothing, text_value};
 use crate::places::copied;
 use crate::room::room_of;
 use crate::set_kinds::is_set;
@@ -23,8 +25,8 @@ use gmpl_data::LoadedModel;
 use gmpl_meaning::Kept;
 use gmpl_operations::{Value, applied, decides, signed, taken};
 use gmpl_resolved::{Expr, Link, Meaning};
-use gmpl_syntax::Suffix;
-use gmpl_value::{EvalFault, Symbol, Tuple};
+use gmpl_syntax::{Sign, Suffix};
+use gmpl_value::{EvalFault, Tuple};
 use sqlite_items::Boxed;
 use std::alloc::Global;
 
@@ -50,7 +52,7 @@ pub(crate) fn eval(
     let room = room - taken;
     match whole {
         Expr::Number(number) => Ok(Value::number(*number)),
-        Expr::Text(text) => Ok(Value::Scalar(Symbol::Word(text.copied(alloc)?))),
+        Expr::Text(text) => text_value(alloc, text),
         Expr::Named(name, subscripts, suffix) => {
             let subscripts = subscripts.as_slice();
             named(
@@ -99,9 +101,15 @@ pub(crate) fn eval(
             )
         }
         Expr::Signed(sign, part) => {
-            signed(
+            with_sign(
+                alloc,
+                model,
+                kept,
+                height,
+                room,
                 *sign,
-                eval(alloc, model, kept, height, room, part.get(), bindings)?,
+                part.get(),
+                bindings,
             )
         }
         Expr::Power(base, exponent) => {
@@ -205,6 +213,25 @@ fn group(
     }
 }
 
+#[cycle(evaluation)]
+fn with_sign(
+    alloc: Global,
+    model: &LoadedModel,
+    kept: &mut Kept,
+    height: u32,
+    room: u32,
+    sign: Sign,
+    part: &Expr,
+    bindings: &Tuple,
+) -> Result<Value, EvalFault>
+    requires right { AreRight model.now kept.old }
+    ensures right { AreRight model.now kept.new }
+    ensures value { Gives result (then_do (signed sign) ((at.expr model.now height part.now).value bindings.now)) }
+{
+    let value = eval(alloc, model, kept, height, room, part, bindings)?;
+    signed(sign, value)
+}
+
 // ---- choices and chains
 
 #[cycle(evaluation)]
@@ -227,7 +254,7 @@ fn conditional(
         eval(alloc, model, kept, height, room, first, bindings)
     } else {
         match other {
-            None => Ok(nothing(alloc, is_set(model, height, first))),
+            None => Ok(nothing(alloc, is_set(model, height, first))?),
             Some(other) => eval(alloc, model, kept, height, room, other.get(), bindings),
         }
     }

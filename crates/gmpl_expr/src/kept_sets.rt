@@ -89,7 +89,7 @@ pub(crate) fn remembered_set(
     ensures value { GivesAs (λ set. set.value) result (walks.entry_set (at.expr model.now height whole.now) bindings.now) }
 {
     match asked_for(model, height, whole, bindings) {
-        None => Ok(Rc::new(alloc, value.into_set()?)?),
+        None => Ok(Rc::new(alloc, value.into_set()?.into_inner())?),
         Some(asked) => kept.remember(alloc, asked, value)?.into_set(alloc),
     }
 }

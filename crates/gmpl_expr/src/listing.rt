@@ -29,7 +29,7 @@ pub(crate) fn set_over(alloc: Global, walk: &Walk) -> Result<Value, EvalFault>
         add(&mut found, element.tuple.copied(alloc)?)?;
     }
     match walk.fault {
-        None => Ok(Value::Elements(found)),
+        None => Ok(Value::elements(alloc, found)?),
         Some(fault) => Err(fault),
     }
 }

@@ -307,7 +307,14 @@ fn set_member(
     let set = value.into_set()?;
     let room = room.saturating_sub(TEST);
     inclusions_hold(
-        alloc, model, kept, height, room, &bindings, attributes, &set,
+        alloc,
+        model,
+        kept,
+        height,
+        room,
+        &bindings,
+        attributes,
+        set.get(),
     )?;
     Ok(Value::Elements(set))
 }

@@ -5,6 +5,8 @@ ghost use Rattle.gmpl_operations.specs.Iterations as operations;
 ghost use Rattle.gmpl_expr.specs.OneByOne as one_by_one;
 ghost use Rattle.gmpl_operations.specs.Relations.{negated};
 ghost use Rattle.gmpl_operations.specs.Values.{as_truth, set_in};
+ghost use Rattle.gmpl_operations.specs.declared.value.Value.TheVariants as values;
+ghost use Rattle.gmpl_value.specs.declared.symbol.Symbol.TheVariants as symbols;
 ghost use Rattle.gmpl_meaning.specs.Expressions as spec;
 ghost use Rattle.gmpl_meaning.specs.Members as members;
 ghost use Rattle.std.specs.Prelude.{Bool, Ok};
@@ -17,7 +19,8 @@ use gmpl_meaning::{Asked, Kept};
 use gmpl_members::Value as Given;
 use gmpl_operations::{Value, ended, joined};
 use gmpl_syntax::Iteration;
-use gmpl_value::{EvalFault, SetValue, Tuple, range};
+use gmpl_text::Text;
+use gmpl_value::{EvalFault, SetValue, Symbol, Tuple, range};
 use std::alloc::{AllocError, Global};
 use std::rc::Rc;
 
@@ -31,6 +34,13 @@ pub(crate) fn bound_to(alloc: Global, bindings: &Tuple, place: usize) -> Result<
     }
 }
 
+/// The value of a text.
+pub(crate) fn text_value(alloc: Global, text: &Text) -> Result<Value, EvalFault>
+    ensures { Gives result (Ok (values.Scalar (symbols.Word text.now))) }
+{
+    Ok(Value::Scalar(Symbol::Word(text.copied(alloc)?)))
+}
+
 /// The set from a number to another by a step; `DivZero` where the step is 0.
 pub(crate) fn ranged(alloc: Global, from: Frac, to: Frac, by: Frac) -> Result<Value, EvalFault>
     ensures { Gives result (spec.range_by from to by) }
@@ -38,7 +48,7 @@ pub(crate) fn ranged(alloc: Global, from: Frac, to: Frac, by: Frac) -> Result<Va
     if by.is_zero() {
         return Err(EvalFault::DivZero);
     }
-    Ok(Value::Elements(range(alloc, from, to, by)?))
+    Ok(Value::elements(alloc, range(alloc, from, to, by)?)?)
 }
 
 /// The same set, kept.
@@ -71,7 +81,7 @@ pub(crate) fn index_set(
     ensures { GivesAs (λ set. set.value) result (then_do set_in (spec.bound_to (slice_get bindings.now place))) }
 {
     let set = bound_to(alloc, bindings, place)?.into_set()?;
-    Ok(Rc::new(alloc, set)?)
+    Ok(Rc::new(alloc, set.into_inner())?)
 }
 
 /// How many elements a set has.
@@ -102,13 +112,13 @@ pub(crate) fn negated_value(found: Result<bool, EvalFault>) -> Result<Value, Eva
 }
 
 /// What an `if` without `else` is where its condition does not hold.
-pub(crate) fn nothing(alloc: Global, is_set: bool) -> Value
-    ensures { result ≡ spec.nothing is_set }
+pub(crate) fn nothing(alloc: Global, is_set: bool) -> Result<Value, AllocError>
+    ensures { IfOk result (λ made. made ≡ spec.nothing is_set) }
 {
     if is_set {
-        Value::Elements(SetValue::new(alloc))
+        Value::elements(alloc, SetValue::new(alloc))
     } else {
-        Value::number(Frac::zero())
+        Ok(Value::number(Frac::zero()))
     }
 }
 
@@ -147,6 +157,6 @@ pub(crate) fn kept_value(alloc: Global, kept: &Given) -> Result<Value, AllocErro
 {
     match kept {
         Given::Scalar(symbol) => Ok(Value::Scalar(symbol.copied(alloc)?)),
-        Given::Elements(set) => Ok(Value::Elements(set.copied(alloc)?)),
+        Given::Elements(set) => Value::elements(alloc, set.copied(alloc)?),
     }
 }

@@ -428,5 +428,5 @@ fn listed(
         let value = eval(alloc, model, kept, height, room, &entry.set, bindings)?;
         add(&mut found, value.into_tuple(alloc)?)?;
     }
-    Ok(Value::Elements(found))
+    Ok(Value::elements(alloc, found)?)
 }

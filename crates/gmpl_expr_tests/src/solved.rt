@@ -146,7 +146,7 @@ fn value_word(alloc: Global, value: &Value) -> Result<String, AllocError> {
         Value::Scalar(symbol) => symbol_word(alloc, symbol),
         Value::Truth(truth) => (if *truth { "1" } else { "0" }).to_string(alloc),
         Value::Group(tuple) => tuple_word(alloc, tuple),
-        Value::Elements(set) => set_word(alloc, set),
+        Value::Elements(set) => set_word(alloc, set.get()),
         Value::Linear(form) => form_word(alloc, form),
     }
 }

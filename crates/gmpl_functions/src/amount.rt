@@ -1,5 +1,5 @@
 // Numbers and linear forms, and the operators on them.
-ghost use Rattle.std.specs.Prelude.{◌≡◌};
+ghost use Rattle.std.specs.Prelude.{◌≡◌, IfOk};
 ghost use Rattle.gmpl_value.specs.Outcome.{Gives};
 ghost use Rattle.gmpl_functions.specs.Amounts.{sum_of, product_of, ratio_of, negative_of, number_in, form_in};
 ghost use Rattle.gmpl_functions.specs.declared.amount.Amount.TheVariants as amounts;
@@ -10,7 +10,7 @@ use crate::scaling::Scaling;
 use crate::terms::Sign;
 use fraction::Frac;
 use gmpl_value::EvalFault;
-use std::alloc::Global;
+use std::alloc::{AllocError, Global};
 
 /// A number, or a linear form.
 #[derive(Drop)]
@@ -30,13 +30,13 @@ impl Amount {
         }
     }
 
-    // The form, where a number is a form without terms.
-    fn into_form(self, alloc: Global) -> Form
-        ensures { result ≡ form_in self }
+    /// The form, where a number is a form without terms.
+    pub fn into_form(self, alloc: Global) -> Result<Form, AllocError>
+        ensures { IfOk result (λ made. made ≡ form_in self) }
     {
         match self {
             Amount::Number(number) => Form::number(alloc, number),
-            Amount::Form(form) => form,
+            Amount::Form(form) => Ok(form),
         }
     }
 
@@ -46,10 +46,7 @@ impl Amount {
     {
         match self {
             Amount::Number(number) => number_combined(alloc, number, sign, other),
-            Amount::Form(form) => {
-                let other = other.into_form(alloc);
-                Ok(Amount::Form(form.combined(alloc, sign, &other)?))
-            }
+            Amount::Form(form) => form_combined(alloc, form, sign, other),
         }
     }
 
@@ -104,9 +101,18 @@ fn number_combined(
     match other {
         Amount::Number(other) => Ok(Amount::Number(sign.applied(number, other)?)),
         Amount::Form(other) => {
-            let form = Form::number(alloc, number);
+            let form = Form::number(alloc, number)?;
             Ok(Amount::Form(form.combined(alloc, sign, &other)?))
         }
+    }
+}
+
+fn form_combined(alloc: Global, form: Form, sign: Sign, other: Amount) -> Result<Amount, EvalFault>
+    ensures { Gives result (sum_of sign (amounts.Form form) other) }
+{
+    match other {
+        Amount::Number(number) => Ok(Amount::Form(form.shifted(sign, number)?)),
+        Amount::Form(other) => Ok(Amount::Form(form.combined(alloc, sign, &other)?)),
     }
 }
 

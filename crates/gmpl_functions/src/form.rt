@@ -18,9 +18,14 @@ use std::alloc::{AllocError, Global};
 use std::marker::Model;
 
 /// A linear form: members with their coefficients, each member once, in the order of first mention, and a constant. A
-/// coefficient may be 0. Clauses see the list of its terms and its constant.
+/// coefficient may be 0. Clauses see the list of its terms and its constant. It is one pointer, so that values move cheaply.
 #[derive(Drop)]
 pub struct Form {
+    parts: Box<Parts>,
+}
+
+#[derive(Drop)]
+struct Parts {
     terms: IndexMap<Variable, Frac>,
     constant: Frac,
 }
@@ -30,18 +35,26 @@ impl Model for Form {
 
     ghost Value = { Linear };
 
-    ghost view = { λ f. linear f.terms.entries f.constant };
+    ghost view = { λ f. linear f.parts.value.terms.entries f.parts.value.constant };
 }
 
 impl Form {
-    /// The form of a number.
-    pub fn number(alloc: Global, constant: Frac) -> Form
-        ensures { result ≡ linear [] constant }
+    fn of_parts(
+        alloc: Global,
+        terms: IndexMap<Variable, Frac>,
+        constant: Frac,
+    ) -> Result<Form, AllocError>
+        ensures { IfOk result (λ made. made ≡ linear terms.entries constant) }
     {
-        Form {
-            terms: IndexMap::new(alloc),
-            constant,
-        }
+        let parts = Box::new(alloc, Parts { terms, constant })?;
+        Ok(Form { parts })
+    }
+
+    /// The form of a number.
+    pub fn number(alloc: Global, constant: Frac) -> Result<Form, AllocError>
+        ensures { IfOk result (λ made. made ≡ linear [] constant) }
+    {
+        Form::of_parts(alloc, IndexMap::new(alloc), constant)
     }
 
     /// The form of a member, with the coefficient 1.
@@ -50,17 +63,14 @@ impl Form {
     {
         let mut terms = IndexMap::new(alloc);
         terms.insert(variable, Frac::one())?;
-        Ok(Form {
-            terms,
-            constant: Frac::zero(),
-        })
+        Form::of_parts(alloc, terms, Frac::zero())
     }
 
     /// The constant.
     pub fn constant(&self) -> Frac
         ensures { result ≡ self.now.constant }
     {
-        self.constant
+        self.parts.constant
     }
 
     /// The number of terms, those with the coefficient 0 too.
@@ -68,47 +78,74 @@ impl Form {
         ensures count { result ≡ length self.now.terms }
         ensures distinct { IsDistinct variable_eq (map (λ t. t.0) self.now.terms) }
     {
-        self.terms.len()
+        self.parts.terms.len()
     }
 
     /// The term at a place.
     pub fn term(&self, place: usize) -> Option<(&Variable, &Frac)>
         ensures { option_map (λ t. (t.0.now, t.1.now)) result ≡ slice_get self.now.terms place }
     {
-        self.terms.get_index(place)
+        self.parts.terms.get_index(place)
     }
 
     /// The coefficient of a member, and 0 where the form has none.
     pub fn coefficient(&self, variable: &Variable) -> Frac
         ensures { result ≡ coefficient_of self.now.terms variable.now }
     {
-        coefficient(&self.terms, variable)
+        coefficient(&self.parts.terms, variable)
     }
 
-    /// The form with another added or taken off: its terms in order, and then the constant. A new member stands at the end.
+    /// Adds another form or takes it off: its terms in order, and then the constant. A new member stands at the end.
+    pub fn combine(&mut self, alloc: Global, sign: Sign, other: &Form) -> Result<(), EvalFault>
+        ensures { Follows result self.new (combined sign self.old other.now) }
+    {
+        put_all(alloc, &mut self.parts.terms, sign, other)?;
+        self.parts.constant = sign.applied(self.parts.constant, other.constant())?;
+        Ok(())
+    }
+
+    /// Adds a number or takes it off.
+    pub fn shift(&mut self, sign: Sign, number: Frac) -> Result<(), EvalFault>
+        ensures { Follows result self.new (combined sign self.old (linear [] number)) }
+    {
+        self.parts.constant = sign.applied(self.parts.constant, number)?;
+        Ok(())
+    }
+
+    /// Scales each coefficient, zeros too, and then the constant.
+    pub fn scale(&mut self, scaling: &Scaling) -> Result<(), EvalFault>
+        ensures { Follows result self.new (scaled scaling.now self.old) }
+    {
+        scale_terms(&mut self.parts.terms, scaling)?;
+        self.parts.constant = scaling.applied(self.parts.constant)?;
+        Ok(())
+    }
+
+    /// The form with another added or taken off.
     pub fn combined(self, alloc: Global, sign: Sign, other: &Form) -> Result<Form, EvalFault>
         ensures { Gives result (combined sign self other.now) }
     {
-        let Form {
-            mut terms,
-            constant,
-        } = self;
-        put_all(alloc, &mut terms, sign, other)?;
-        let constant = sign.applied(constant, other.constant())?;
-        Ok(Form { terms, constant })
+        let mut form = self;
+        form.combine(alloc, sign, other)?;
+        Ok(form)
+    }
+
+    /// The form with a number added or taken off.
+    pub fn shifted(self, sign: Sign, number: Frac) -> Result<Form, EvalFault>
+        ensures { Gives result (combined sign self (linear [] number)) }
+    {
+        let mut form = self;
+        form.shift(sign, number)?;
+        Ok(form)
     }
 
     /// The form with each coefficient, zeros too, and then the constant scaled.
     pub fn scaled(self, scaling: &Scaling) -> Result<Form, EvalFault>
         ensures { Gives result (scaled scaling.now self) }
     {
-        let Form {
-            mut terms,
-            constant,
-        } = self;
-        scale_terms(&mut terms, scaling)?;
-        let constant = scaling.applied(constant)?;
-        Ok(Form { terms, constant })
+        let mut form = self;
+        form.scale(scaling)?;
+        Ok(form)
     }
 }
 

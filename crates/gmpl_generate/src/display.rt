@@ -1,6 +1,6 @@
 // What is shown.
-ghost use Rattle.std.specs.Prelude.{◌≡◌, ◌++◌, [], string_bytes, IfOk, OnOk, length};
-ghost use Rattle.gmpl_value.specs.Outcome.{GivesAs};
+ghost use Rattle.std.specs.Prelude.{◌≡◌, ◌++◌, [], string_bytes, IfOk, Ok, OnOk, length};
+ghost use Rattle.gmpl_value.specs.Outcome.{GivesAs, then_do};
 ghost use Rattle.gmpl_generate.specs.Shown as texts;
 ghost use Rattle.gmpl_generate.specs.Running.{Follows};
 ghost use Rattle.gmpl_generate.specs.Display as spec;
@@ -28,11 +28,12 @@ fn line(alloc: Global, name: &str, value: &str) -> Result<String, AllocError>
     format!(in alloc; "{name} = {value}\n")
 }
 
-// The text of a value, which is let go.
-fn value_text(alloc: Global, value: Value) -> Result<String, EvalFault>
-    ensures { GivesAs string_bytes result (texts.shown value) }
+// The line of a name and a value.
+fn value_line(alloc: Global, name: &str, value: &Value) -> Result<String, EvalFault>
+    ensures { GivesAs string_bytes result (then_do (λ text. Ok (spec.line name.now text)) (texts.shown value.now)) }
 {
-    shown(alloc, &value)
+    let text = shown(alloc, value)?;
+    Ok(line(alloc, name, &text)?)
 }
 
 // ---- expressions
@@ -48,11 +49,23 @@ fn expression_line(
     ensures of { context.new ≡ model.now }
     ensures value { GivesAs string_bytes result (spec.expression_line model.now whole.now bindings.now) }
 {
-    let text = value_text(alloc, value_of(alloc, model, context, bindings, whole)?)?;
-    Ok(line(alloc, "display", &text)?)
+    let value = value_of(alloc, model, context, bindings, whole)?;
+    value_line(alloc, "display", &value)
 }
 
 // ---- members of objects
+
+fn named_line(
+    alloc: Global,
+    name: &Text,
+    subscripts: &Tuple,
+    value: &Value,
+) -> Result<String, EvalFault>
+    ensures { GivesAs string_bytes result (then_do (λ text. Ok (spec.line (member_name name.now subscripts.now) text)) (texts.shown value.now)) }
+{
+    let name = member_name(alloc, name.as_str(), subscripts)?;
+    value_line(alloc, &name, value)
+}
 
 fn member_line(
     alloc: Global,
@@ -66,12 +79,8 @@ fn member_line(
     ensures of { context.new ≡ model.now }
     ensures value { GivesAs string_bytes result (spec.member_line model.now place name.now subscripts.now) }
 {
-    let text = value_text(
-        alloc,
-        member_value_of(alloc, model, context, place, subscripts)?,
-    )?;
-    let name = member_name(alloc, name.as_str(), subscripts)?;
-    Ok(line(alloc, &name, &text)?)
+    let value = member_value_of(alloc, model, context, place, subscripts)?;
+    named_line(alloc, name, subscripts, &value)
 }
 
 fn show_member(

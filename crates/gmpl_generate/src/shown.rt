@@ -84,7 +84,7 @@ pub(crate) fn shown(alloc: Global, value: &Value) -> Result<String, EvalFault>
 {
     match value {
         Value::Scalar(symbol) => Ok(symbol_text(alloc, symbol)?),
-        Value::Elements(set) => Ok(set_text(alloc, set)?),
+        Value::Elements(set) => Ok(set_text(alloc, set.get())?),
         _ => Err(EvalFault::NotANumber),
     }
 }

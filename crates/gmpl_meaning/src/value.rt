@@ -33,7 +33,7 @@ impl KeptValue {
     {
         match value {
             Value::Scalar(symbol) => Ok(KeptValue::Scalar(symbol)),
-            Value::Elements(set) => Ok(KeptValue::Elements(Rc::new(alloc, set)?)),
+            Value::Elements(set) => Ok(KeptValue::Elements(Rc::new(alloc, set.into_inner())?)),
             other => Ok(KeptValue::Other(Boxed::new(alloc, other)?)),
         }
     }
@@ -44,7 +44,7 @@ impl KeptValue {
     {
         match self {
             KeptValue::Scalar(symbol) => Ok(Value::Scalar(symbol)),
-            KeptValue::Elements(set) => Ok(Value::Elements(set.copied(alloc)?)),
+            KeptValue::Elements(set) => Ok(Value::elements(alloc, set.copied(alloc)?)?),
             KeptValue::Variable(variable) => Ok(Value::Linear(Form::variable(alloc, variable)?)),
             KeptValue::Other(value) => Ok(value.into_inner()),
         }
@@ -58,7 +58,10 @@ impl KeptValue {
             KeptValue::Scalar(_symbol) => Err(EvalFault::NotANumber),
             KeptValue::Elements(set) => Ok(set),
             KeptValue::Variable(_variable) => Err(EvalFault::NotANumber),
-            KeptValue::Other(value) => Ok(Rc::new(alloc, value.into_inner().into_set()?)?),
+            KeptValue::Other(value) => {
+                let set = value.into_inner().into_set()?;
+                Ok(Rc::new(alloc, set.into_inner())?)
+            }
         }
     }
 

@@ -1,6 +1,6 @@
 // Operators between two parts of a chain.
 ghost use Rattle.std.specs.Prelude.{◌≡◌};
-ghost use Rattle.gmpl_value.specs.Outcome.{Gives, then_do};
+ghost use Rattle.gmpl_value.specs.Outcome.{Gives, GivesAs, then_do};
 ghost use Rattle.gmpl_operations.specs.Operators as spec;
 ghost use Rattle.gmpl_operations.specs.Values.{amount_in, as_value, set_in, truth_in, as_truth, symbol_in, number_in, as_number};
 ghost use Rattle.gmpl_operations.specs.declared.value.Value.TheVariants as values;
@@ -18,17 +18,17 @@ pub fn taken(operator: Operator, left: Value) -> Result<Value, EvalFault>
     ensures { result ≡ spec.taken operator left }
 {
     match operator {
-        Operator::Or | Operator::And => taken_truth(&left),
+        Operator::Or | Operator::And => taken_truth(left),
         Operator::Union | Operator::Diff | Operator::Symdiff | Operator::Inter | Operator::Cross =>
             { taken_set(left) }
         Operator::Join => taken_symbol(left),
         Operator::Plus | Operator::Minus | Operator::Times | Operator::Over => taken_amount(left),
-        Operator::Less | Operator::Div | Operator::Mod => taken_number(&left),
+        Operator::Less | Operator::Div | Operator::Mod => taken_number(left),
     }
 }
 
-fn taken_truth(left: &Value) -> Result<Value, EvalFault>
-    ensures { result ≡ as_truth (truth_in left.now) }
+fn taken_truth(left: Value) -> Result<Value, EvalFault>
+    ensures { result ≡ as_truth (truth_in left) }
 {
     Ok(Value::Truth(left.as_truth()?))
 }
@@ -51,8 +51,8 @@ fn taken_amount(left: Value) -> Result<Value, EvalFault>
     Ok(Value::amount(left.into_amount()?))
 }
 
-fn taken_number(left: &Value) -> Result<Value, EvalFault>
-    ensures { result ≡ as_number (number_in left.now) }
+fn taken_number(left: Value) -> Result<Value, EvalFault>
+    ensures { result ≡ as_number (number_in left) }
 {
     Ok(Value::number(left.as_number()?))
 }
@@ -87,17 +87,18 @@ pub fn applied(
     ensures { Gives result (spec.applied operator left right) }
 {
     match operator {
-        Operator::Or | Operator::And => taken_truth(&right),
+        Operator::Or | Operator::And => taken(operator, right),
         Operator::Union | Operator::Diff | Operator::Symdiff | Operator::Inter | Operator::Cross =>
             { sets_joined(alloc, operator, left, right) }
         Operator::Join => texts_joined(alloc, left, right),
         Operator::Plus | Operator::Minus | Operator::Times | Operator::Over => {
             amounts_joined(alloc, operator, left, right)
         }
-        Operator::Less | Operator::Div | Operator::Mod => numbers_joined(operator, &left, &right),
+        Operator::Less | Operator::Div | Operator::Mod => numbers_joined(operator, left, right),
     }
 }
 
+// Here and below the operands are let go by the outer of two functions, which has no other exit.
 fn sets_joined(
     alloc: Global,
     operator: Operator,
@@ -106,9 +107,21 @@ fn sets_joined(
 ) -> Result<Value, EvalFault>
     ensures { Gives result (spec.sets operator left right) }
 {
-    let left = left.into_set()?;
-    let right = right.into_set()?;
-    on_sets(alloc, operator, &left, &right)
+    in_sets(alloc, operator, &left, &right)
+}
+
+fn in_sets(
+    alloc: Global,
+    operator: Operator,
+    left: &Value,
+    right: &Value,
+) -> Result<Value, EvalFault>
+    ensures { Gives result (spec.sets operator left.now right.now) }
+{
+    let left = left.set()?;
+    let right = right.set()?;
+    let set = on_sets(alloc, operator, left, right)?;
+    Ok(Value::elements(alloc, set)?)
 }
 
 fn on_sets(
@@ -116,15 +129,15 @@ fn on_sets(
     operator: Operator,
     left: &SetValue,
     right: &SetValue,
-) -> Result<Value, EvalFault>
-    ensures { Gives result (spec.on_sets operator left.now right.now) }
+) -> Result<SetValue, EvalFault>
+    ensures { GivesAs (λ set. values.Elements set) result (spec.on_sets operator left.now right.now) }
 {
     match operator {
-        Operator::Union => Ok(Value::Elements(union(alloc, left, right)?)),
-        Operator::Diff => Ok(Value::Elements(diff(alloc, left, right)?)),
-        Operator::Symdiff => Ok(Value::Elements(symdiff(alloc, left, right)?)),
-        Operator::Inter => Ok(Value::Elements(inter(alloc, left, right)?)),
-        Operator::Cross => Ok(Value::Elements(cross(alloc, left, right)?)),
+        Operator::Union => Ok(union(alloc, left, right)?),
+        Operator::Diff => Ok(diff(alloc, left, right)?),
+        Operator::Symdiff => Ok(symdiff(alloc, left, right)?),
+        Operator::Inter => Ok(inter(alloc, left, right)?),
+        Operator::Cross => Ok(cross(alloc, left, right)?),
         _ => Err(EvalFault::NotANumber),
     }
 }
@@ -159,7 +172,13 @@ fn on_amounts(
     }
 }
 
-fn numbers_joined(operator: Operator, left: &Value, right: &Value) -> Result<Value, EvalFault>
+fn numbers_joined(operator: Operator, left: Value, right: Value) -> Result<Value, EvalFault>
+    ensures { Gives result (spec.numbers operator left right) }
+{
+    in_numbers(operator, &left, &right)
+}
+
+fn in_numbers(operator: Operator, left: &Value, right: &Value) -> Result<Value, EvalFault>
     ensures { Gives result (spec.numbers operator left.now right.now) }
 {
     let left = left.as_number()?;
@@ -181,7 +200,13 @@ fn on_numbers(operator: Operator, left: Frac, right: Frac) -> Result<Value, Eval
 fn texts_joined(alloc: Global, left: Value, right: Value) -> Result<Value, EvalFault>
     ensures { Gives result (spec.texts left right) }
 {
-    let left = left.into_symbol()?;
-    let right = right.into_symbol()?;
-    Ok(Value::Scalar(join(alloc, &left, &right)?))
+    in_texts(alloc, &left, &right)
+}
+
+fn in_texts(alloc: Global, left: &Value, right: &Value) -> Result<Value, EvalFault>
+    ensures { Gives result (spec.texts left.now right.now) }
+{
+    let left = left.symbol()?;
+    let right = right.symbol()?;
+    Ok(Value::Scalar(join(alloc, left, right)?))
 }

@@ -68,29 +68,29 @@ pub fn left_side(alloc: Global, relation: Relation, left: Value) -> Result<Value
     }
 }
 
-fn member_of(alloc: Global, left: Value, right: Value) -> Result<bool, EvalFault>
-    ensures { Gives result (spec.member_of left right) }
+fn member_of(alloc: Global, left: &Value, right: &Value) -> Result<bool, EvalFault>
+    ensures { Gives result (spec.member_of left.now right.now) }
 {
-    let tuple = left.into_tuple(alloc)?;
-    let set = right.into_set()?;
+    let tuple = left.tuple(alloc)?;
+    let set = right.set()?;
     Ok(set.contains(&tuple))
 }
 
-fn within(left: Value, right: Value) -> Result<bool, EvalFault>
-    ensures { Gives result (spec.within left right) }
+fn within(left: &Value, right: &Value) -> Result<bool, EvalFault>
+    ensures { Gives result (spec.within left.now right.now) }
 {
-    let inner = left.into_set()?;
-    let outer = right.into_set()?;
-    Ok(inner.is_within(&outer))
+    let inner = left.set()?;
+    let outer = right.set()?;
+    Ok(inner.is_within(outer))
 }
 
 /// Whether one of the six comparisons holds between two symbols.
-pub fn scalars_related(relation: Relation, left: Value, right: Value) -> Result<bool, EvalFault>
-    ensures { Gives result (spec.scalars_related relation left right) }
+pub fn scalars_related(relation: Relation, left: &Value, right: &Value) -> Result<bool, EvalFault>
+    ensures { Gives result (spec.scalars_related relation left.now right.now) }
 {
-    let left = left.into_symbol()?;
-    let right = right.into_symbol()?;
-    Ok(compared(relation, &left, &right))
+    let left = left.symbol()?;
+    let right = right.symbol()?;
+    Ok(compared(relation, left, right))
 }
 
 /// Whether a relation holds between two values.
@@ -101,6 +101,17 @@ pub fn related(
     right: Value,
 ) -> Result<bool, EvalFault>
     ensures { Gives result (spec.related relation left right) }
+{
+    are_related(alloc, relation, &left, &right)
+}
+
+fn are_related(
+    alloc: Global,
+    relation: Relation,
+    left: &Value,
+    right: &Value,
+) -> Result<bool, EvalFault>
+    ensures { Gives result (spec.related relation left.now right.now) }
 {
     match relation {
         Relation::In => member_of(alloc, left, right),

@@ -1,12 +1,14 @@
 // What an expression comes to.
-ghost use Rattle.std.specs.Prelude.{◌≡◌};
-ghost use Rattle.gmpl_value.specs.Outcome.{Gives};
+ghost use Rattle.std.specs.Prelude.{◌≡◌, IfOk};
+ghost use Rattle.gmpl_value.specs.Outcome.{Gives, GivesAs};
 ghost use Rattle.gmpl_operations.specs.Values.{number_in, symbol_in, truth_in, set_in, tuple_in, amount_in, of_amount, of_number};
+ghost use Rattle.gmpl_operations.specs.declared.value.Value.TheVariants as values;
 
 use fraction::Frac;
 use gmpl_functions::{Amount, Form, number_of, truth_of};
 use gmpl_value::{EvalFault, SetValue, Symbol, Tuple};
-use std::alloc::Global;
+use sqlite_items::Boxed;
+use std::alloc::{AllocError, Global};
 
 /// What an expression comes to.
 #[derive(Drop)]
@@ -17,7 +19,7 @@ pub enum Value {
     Truth(bool),
     /// An element with two components or more.
     Group(Tuple),
-    Elements(SetValue),
+    Elements(Boxed<SetValue>),
     /// A linear form, of an expression in which a variable stands.
     Linear(Form),
 }
@@ -28,6 +30,13 @@ impl Value {
         ensures { result ≡ of_number number }
     {
         Value::Scalar(Symbol::Number(number))
+    }
+
+    /// The value of a set.
+    pub fn elements(alloc: Global, set: SetValue) -> Result<Value, AllocError>
+        ensures { IfOk result (λ made. made ≡ values.Elements set) }
+    {
+        Ok(Value::Elements(Boxed::new(alloc, set)?))
     }
 
     /// The value of a number or a form.
@@ -62,6 +71,17 @@ impl Value {
         }
     }
 
+    /// The same symbol, to be looked at.
+    pub fn symbol(&self) -> Result<&Symbol, EvalFault>
+        ensures { GivesAs (λ symbol. symbol.now) result (symbol_in self.now) }
+    {
+        match self {
+            Value::Scalar(symbol) => Ok(symbol),
+            Value::Linear(_) => Err(EvalFault::Nonlinear),
+            _ => Err(EvalFault::NotANumber),
+        }
+    }
+
     /// In a logical place: a number is true where it isn't 0. `Nonlinear` for a form, `NotANumber` for a string.
     pub fn as_truth(&self) -> Result<bool, EvalFault>
         ensures { result ≡ truth_in self.now }
@@ -75,11 +95,21 @@ impl Value {
     }
 
     /// In a place of a set.
-    pub fn into_set(self) -> Result<SetValue, EvalFault>
+    pub fn into_set(self) -> Result<Boxed<SetValue>, EvalFault>
         ensures { result ≡ set_in self }
     {
         match self {
             Value::Elements(set) => Ok(set),
+            _ => Err(EvalFault::NotANumber),
+        }
+    }
+
+    /// The same set, to be looked at.
+    pub fn set(&self) -> Result<&SetValue, EvalFault>
+        ensures { GivesAs (λ set. set.now) result (set_in self.now) }
+    {
+        match self {
+            Value::Elements(set) => Ok(set.get()),
             _ => Err(EvalFault::NotANumber),
         }
     }
@@ -92,6 +122,18 @@ impl Value {
             Value::Scalar(symbol) => Ok(Tuple::single(alloc, symbol)?),
             Value::Group(tuple) => Ok(tuple),
             Value::Linear(_form) => Err(EvalFault::Nonlinear),
+            _ => Err(EvalFault::NotANumber),
+        }
+    }
+
+    /// The same element, copied.
+    pub fn tuple(&self, alloc: Global) -> Result<Tuple, EvalFault>
+        ensures { Gives result (tuple_in self.now) }
+    {
+        match self {
+            Value::Scalar(symbol) => Ok(Tuple::single(alloc, symbol.copied(alloc)?)?),
+            Value::Group(tuple) => Ok(tuple.copied(alloc)?),
+            Value::Linear(_) => Err(EvalFault::Nonlinear),
             _ => Err(EvalFault::NotANumber),
         }
     }

@@ -34,6 +34,9 @@ decreases-values::compared l = 32 * l.room + 6
 abbrev pub decreases-values::compared_values : goal.decreases-values::compared_values
 decreases-values::compared_values l = 32 * l.room + 1
 
+abbrev pub decreases-evaluate::with_sign : goal.decreases-evaluate::with_sign
+decreases-evaluate::with_sign l = 32 * l.room + 1
+
 abbrev pub decreases-values::within_set : goal.decreases-values::within_set
 decreases-values::within_set l = 32 * l.room + 5
 
