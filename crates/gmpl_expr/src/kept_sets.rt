@@ -1,5 +1,5 @@
-// Sets that are kept: they stand in a declaration, and no index is in scope.
-ghost use Rattle.std.specs.Prelude.{◌≡◌, true, [], IfSome, Ok};
+// Sets that are kept: they stand in a declaration.
+ghost use Rattle.std.specs.Prelude.{◌≡◌, IfSome, Ok};
 ghost use Rattle.gmpl_value.specs.Outcome.{GivesAs};
 ghost use Rattle.gmpl_expr.specs.At as at;
 ghost use Rattle.gmpl_meaning.specs.Walks as walks;
@@ -15,13 +15,6 @@ use gmpl_value::{EvalFault, SetValue, Tuple};
 use std::alloc::Global;
 use std::rc::Rc;
 
-// Whether no index is in scope.
-fn is_alone(model: &LoadedModel, height: u32, whole: &Expr, bindings: &Tuple) -> bool
-    ensures { result ≡ true → (at.expr model.now height whole.now).value bindings.now ≡ (at.expr model.now height whole.now).value [] }
-{
-    bindings.symbols().is_empty()
-}
-
 // A few elements in braces are made sooner than they are found.
 fn takes_time(model: &LoadedModel, height: u32, whole: &Expr) -> bool {
     match whole {
@@ -30,14 +23,17 @@ fn takes_time(model: &LoadedModel, height: u32, whole: &Expr) -> bool {
     }
 }
 
-fn asked_for(model: &LoadedModel, height: u32, whole: &Expr, bindings: &Tuple) -> Option<Asked>
+fn asked_for(
+    alloc: Global,
+    model: &LoadedModel,
+    height: u32,
+    whole: &Expr,
+    bindings: &Tuple,
+) -> Option<Asked>
     ensures { IfSome result (λ asked. anew model.now asked ≡ (at.expr model.now height whole.now).value bindings.now) }
 {
-    if !takes_time(model, height, whole) {
-        return None;
-    }
-    if is_alone(model, height, whole, bindings) {
-        asked_by(model, height, whole)
+    if takes_time(model, height, whole) {
+        asked_by(alloc, model, height, whole, bindings)
     } else {
         None
     }
@@ -64,7 +60,7 @@ pub(crate) fn found_set(
     requires right { AreRight model.now kept.now }
     ensures { IfSome result (λ set. walks.entry_set (at.expr model.now height whole.now) bindings.now ≡ Ok set.value) }
 {
-    match asked_for(model, height, whole, bindings) {
+    match asked_for(alloc, model, height, whole, bindings) {
         None => None,
         Some(asked) => match kept.found(alloc, &asked) {
             None => None,
@@ -88,7 +84,7 @@ pub(crate) fn remembered_set(
     ensures right { AreRight model.now kept.new }
     ensures value { GivesAs (λ set. set.value) result (walks.entry_set (at.expr model.now height whole.now) bindings.now) }
 {
-    match asked_for(model, height, whole, bindings) {
+    match asked_for(alloc, model, height, whole, bindings) {
         None => Ok(Rc::new(alloc, value.into_set()?.into_inner())?),
         Some(asked) => kept.remember(alloc, asked, value)?.into_set(alloc),
     }

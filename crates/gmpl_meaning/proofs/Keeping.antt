@@ -36,11 +36,12 @@ same_tuple (x ∷ s) (y ∷ t) h =
     let rest = same_tuple s t parts.1 in
     λ j. first j ∷ rest j
 
-same_places : (p n h q m k : ℕ) → (nat_eq p q && (nat_eq n m && nat_eq h k)) ≡ true → (p ≡ q) × ((n ≡ m) × (h ≡ k))
-same_places p n h q m k e =
-    let first = and_parts (nat_eq p q) (nat_eq n m && nat_eq h k) e in
-    let others = and_parts (nat_eq n m) (nat_eq h k) first.1 in
-    (eqb-true p q first.0, (eqb-true n m others.0, eqb-true h k others.1))
+same_places : (p n h q m k : ℕ) → (s t : List Symbol) → (nat_eq p q && (nat_eq n m && (nat_eq h k && tuple_eq s t))) ≡ true → (p ≡ q) × ((n ≡ m) × ((h ≡ k) × (s ≡ t)))
+same_places p n h q m k s t e =
+    let first = and_parts (nat_eq p q) (nat_eq n m && (nat_eq h k && tuple_eq s t)) e in
+    let others = and_parts (nat_eq n m) (nat_eq h k && tuple_eq s t) first.1 in
+    let last = and_parts (nat_eq h k) (tuple_eq s t) others.1 in
+    (eqb-true p q first.0, (eqb-true n m others.0, (eqb-true h k last.0, same_tuple s t last.1)))
 
 same_asked : (a b : Asked) → asked_eq a b ≡ true → a ≡ b
 same_asked (Member p h s) (Member q k t) e =
@@ -51,23 +52,23 @@ same_asked (Member p h s) (Member q k t) e =
     let subscripts = same_tuple s t others.1 in
     λ j. Member (place j) (height j) (subscripts j)
 same_asked (Member p h s) (Range x y z) e = absurd cc
-same_asked (Member p h s) (Entry q n k) e = absurd cc
-same_asked (Member p h s) (Restriction q n k) e = absurd cc
+same_asked (Member p h s) (Entry q n k t) e = absurd cc
+same_asked (Member p h s) (Restriction q n k t) e = absurd cc
 same_asked (Range a b c) (Member q k t) e = absurd cc
-same_asked (Range a b c) (Entry q n k) e = absurd cc
-same_asked (Range a b c) (Restriction q n k) e = absurd cc
-same_asked (Entry p n h) (Member q k t) e = absurd cc
-same_asked (Entry p n h) (Range x y z) e = absurd cc
-same_asked (Entry p n h) (Restriction q m k) e = absurd cc
-same_asked (Entry p n h) (Entry q m k) e =
-    let parts = same_places p n h q m k e in
-    λ j. Entry (parts.0 j) (parts.1.0 j) (parts.1.1 j)
-same_asked (Restriction p n h) (Member q k t) e = absurd cc
-same_asked (Restriction p n h) (Range x y z) e = absurd cc
-same_asked (Restriction p n h) (Entry q m k) e = absurd cc
-same_asked (Restriction p n h) (Restriction q m k) e =
-    let parts = same_places p n h q m k e in
-    λ j. Restriction (parts.0 j) (parts.1.0 j) (parts.1.1 j)
+same_asked (Range a b c) (Entry q n k t) e = absurd cc
+same_asked (Range a b c) (Restriction q n k t) e = absurd cc
+same_asked (Entry p n h s) (Member q k t) e = absurd cc
+same_asked (Entry p n h s) (Range x y z) e = absurd cc
+same_asked (Entry p n h s) (Restriction q m k t) e = absurd cc
+same_asked (Entry p n h s) (Entry q m k t) e =
+    let parts = same_places p n h q m k s t e in
+    λ j. Entry (parts.0 j) (parts.1.0 j) (parts.1.1.0 j) (parts.1.1.1 j)
+same_asked (Restriction p n h s) (Member q k t) e = absurd cc
+same_asked (Restriction p n h s) (Range x y z) e = absurd cc
+same_asked (Restriction p n h s) (Entry q m k t) e = absurd cc
+same_asked (Restriction p n h s) (Restriction q m k t) e =
+    let parts = same_places p n h q m k s t e in
+    λ j. Restriction (parts.0 j) (parts.1.0 j) (parts.1.1.0 j) (parts.1.1.1 j)
 same_asked (Range a b c) (Range x y z) e =
     let first = and_parts (symbol_eq (Number a) (Number x)) (symbol_eq (Number b) (Number y) && symbol_eq (Number c) (Number z)) e in
     let others = and_parts (symbol_eq (Number b) (Number y)) (symbol_eq (Number c) (Number z)) first.1 in

@@ -14,6 +14,7 @@ use Rattle.gmpl_operations.specs.declared.value.Value.{Value}
 use Rattle.gmpl_operations.specs.declared.value.Value.TheVariants as values
 use Rattle.gmpl_meaning.specs.declared.bounds.Bounds.{Bounds}
 use Rattle.gmpl_meaning.specs.Members.{bounds_at, member}
+use Rattle.gmpl_meaning.specs.Parts.{Bindings}
 use Rattle.gmpl_meaning.specs.Expressions.{meaning, range_by}
 use Rattle.gmpl_meaning.specs.Written.{entry_set, restriction}
 use Rattle.gmpl_meaning.specs.contracts.asked.AskedPartialEq.TheImpl as impl
@@ -46,17 +47,17 @@ value_seen (kept.Elements set) = values.Elements set.value
 value_seen (kept.Variable v) = values.Linear (linear ((v, one_ℚ) ∷ []) zero_ℚ)
 value_seen (kept.Other v) = v
 
--- what an expression comes to where no index is in scope
-abbrev pub alone : LoadedModel → ℕ → Option Expr → Outcome Value
-alone model height None = Err NoValue
-alone model height (Some x) = (meaning model.statements (member model height) x).value []
+-- what an expression comes to where the indices in scope have these values
+abbrev pub in_scope : LoadedModel → ℕ → Bindings → Option Expr → Outcome Value
+in_scope model height b None = Err NoValue
+in_scope model height b (Some x) = (meaning model.statements (member model height) x).value b
 
 -- what is asked for, evaluated anew: a member without suffix, a range, or a set that stands in a declaration
 abbrev pub anew : LoadedModel → Asked → Outcome Value
 anew model (asked.Member place height subscripts) = member model height place None subscripts
 anew model (asked.Range from to by) = range_by from to by
-anew model (asked.Entry place number height) = alone model height (entry_set (statement_at model place) number)
-anew model (asked.Restriction place number height) = alone model height (restriction (statement_at model place) number)
+anew model (asked.Entry place number height b) = in_scope model height b (entry_set (statement_at model place) number)
+anew model (asked.Restriction place number height b) = in_scope model height b (restriction (statement_at model place) number)
 
 abbrev pub IsRight : LoadedModel → Asked × KeptValue → Type 0
 IsRight model entry = anew model entry.0 ≡ Ok (value_seen entry.1)

@@ -10,9 +10,9 @@ pub enum Asked {
     Member(usize, u32, Tuple),
     /// The numbers from one to another, by a step.
     Range(Frac, Frac, Frac),
-    /// The set of an entry of a domain: the place of the object, the number of the entry, and how many members may stand in the
-    /// chain of demands. No index is in scope.
-    Entry(usize, usize, u32),
+    /// The set of an entry of a domain: the place of the object, the number of the entry, how many members may stand in the chain
+    /// of demands, and the values of the indices in scope.
+    Entry(usize, usize, u32, Tuple),
     /// What an attribute restricts values to, in the same way.
-    Restriction(usize, usize, u32),
+    Restriction(usize, usize, u32, Tuple),
 }

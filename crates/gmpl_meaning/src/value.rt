@@ -65,10 +65,10 @@ impl KeptValue {
         }
     }
 
-    // How much room it takes, in elements.
+    // How much room it takes, in elements. An empty set takes some too.
     pub(crate) fn size(&self) -> usize {
         match self {
-            KeptValue::Elements(set) => set.as_ref().len(),
+            KeptValue::Elements(set) => set.as_ref().len().max(1),
             _ => 1,
         }
     }

@@ -1,16 +1,19 @@
 // The sets that stand in declarations.
-ghost use Rattle.std.specs.Prelude.{◌≡◌, IfSome, Some, [], true};
+ghost use Rattle.std.specs.Prelude.{◌≡◌, IfSome, Some, true};
 ghost use Rattle.std.specs.Option.{option_copied};
 ghost use Rattle.gmpl_data.specs.Given.{statement_at};
 ghost use Rattle.gmpl_meaning.specs.Expressions.{meaning};
 ghost use Rattle.gmpl_meaning.specs.Members.{member};
 ghost use Rattle.gmpl_meaning.specs.Right.{anew};
 ghost use Rattle.gmpl_meaning.specs.Written as spec;
+ghost use Rattle.gmpl_meaning.specs.declared.asked.Asked.TheVariants as of;
 
 use crate::asked::Asked;
 use gmpl_data::LoadedModel;
 use gmpl_resolved::{Attribute, Entry, Expr, Indexing, Statement};
 use gmpl_same::same_expr;
+use gmpl_value::Tuple;
+use std::alloc::Global;
 
 fn domain_entries(domain: &Option<Indexing>) -> &[Entry]
     ensures { result.now ≡ spec.domain_entries domain.now }
@@ -129,25 +132,67 @@ fn attribute_count(model: &LoadedModel, place: usize) -> usize {
     }
 }
 
-fn asked_at(model: &LoadedModel, height: u32, place: usize, whole: &Expr) -> Option<Asked>
-    ensures { IfSome result (λ asked. anew model.now asked ≡ (meaning model.now.statements (member model.now height) whole.now).value []) }
+fn entry_in_scope(
+    alloc: Global,
+    place: usize,
+    number: usize,
+    height: u32,
+    bindings: &Tuple,
+) -> Option<Asked>
+    ensures { IfSome result (λ asked. asked ≡ of.Entry place number height bindings.now) }
+{
+    Some(Asked::Entry(place, number, height, bindings.copied(alloc).ok()?))
+}
+
+// A member's value is tested once, so a restriction is worth keeping only where it is the same for all members.
+fn restriction_in_scope(
+    alloc: Global,
+    place: usize,
+    number: usize,
+    height: u32,
+    bindings: &Tuple,
+) -> Option<Asked>
+    ensures { IfSome result (λ asked. asked ≡ of.Restriction place number height bindings.now) }
+{
+    if bindings.symbols().is_empty() {
+        Some(Asked::Restriction(place, number, height, bindings.copied(alloc).ok()?))
+    } else {
+        None
+    }
+}
+
+fn asked_at(
+    alloc: Global,
+    model: &LoadedModel,
+    height: u32,
+    place: usize,
+    whole: &Expr,
+    bindings: &Tuple,
+) -> Option<Asked>
+    ensures { IfSome result (λ asked. anew model.now asked ≡ (meaning model.now.statements (member model.now height) whole.now).value bindings.now) }
 {
     match entry_with(model, place, whole) {
-        Some(number) => Some(Asked::Entry(place, number, height)),
+        Some(number) => entry_in_scope(alloc, place, number, height, bindings),
         None => match restriction_to(model, place, whole) {
-            Some(number) => Some(Asked::Restriction(place, number, height)),
+            Some(number) => restriction_in_scope(alloc, place, number, height, bindings),
             None => None,
         },
     }
 }
 
 /// What is asked for by an expression that stands in a declaration, as the set of an entry of the domain or as what values are
-/// restricted to, where no index is in scope.
-pub fn asked_by(model: &LoadedModel, height: u32, whole: &Expr) -> Option<Asked>
-    ensures { IfSome result (λ asked. anew model.now asked ≡ (meaning model.now.statements (member model.now height) whole.now).value []) }
+/// restricted to, where the indices in scope have these values.
+pub fn asked_by(
+    alloc: Global,
+    model: &LoadedModel,
+    height: u32,
+    whole: &Expr,
+    bindings: &Tuple,
+) -> Option<Asked>
+    ensures { IfSome result (λ asked. anew model.now asked ≡ (meaning model.now.statements (member model.now height) whole.now).value bindings.now) }
 {
     for place in 0..model.statements.len() {
-        let found = asked_at(model, height, place, whole);
+        let found = asked_at(alloc, model, height, place, whole, bindings);
         if found.is_some() {
             return found;
         }

@@ -1,6 +1,6 @@
 -- What the names of statements mean, or the first fault: from left to right, inner parts before outer ones (GNU MathProg
 -- Language Reference, chapter on statements).
-use Rattle.std.specs.Prelude.{◌≡◌, ℕ, ◌+◌, codes, if◌then◌else◌, List, [], ◌∷◌, ◌++◌, map, Option, Some, None, Result, Ok, Err}
+use Rattle.std.specs.Prelude.{◌≡◌, ℕ, ◌+◌, codes, if◌then◌else◌, List, [], ◌∷◌, ◌++◌, length, map, take, Option, Some, None, Result, Ok, Err}
 use Rattle.std.specs.Str.{bytes_eq}
 use Rattle.gmpl_syntax.specs.Index.{Root}
 use Rattle.gmpl_syntax.specs.declared.fault.SyntaxFault.{SyntaxFault}
@@ -214,37 +214,77 @@ module _ (objects : List Name) where
     to ← optional_side file
     beside (printed d arguments to)
 
-  -- the indices of an outer head are in scope in the inner ones too
-  abbrev pub looped : List Indexing → List (Pass ResolvedAction) → Pass ResolvedAction
-  looped heads body = within do
-    over ← all (map (indexing objects) heads)
-    inner ← all body
-    pure (ract.For over inner)
+-- ---- the names that statements declare
 
-  abbrev pub action_step : Action-F (Pass ResolvedAction) → Pass ResolvedAction
-  action_step (Action-F.Check domain x) = check domain x
-  action_step (Action-F.Display domain xs) = display domain xs
-  action_step (Action-F.Printf domain xs file) = printf domain xs file
-  action_step (Action-F.TableOutput t) = table_output t
-  action_step (Action-F.For heads body) = looped heads body
+-- a statement's own name is declared from its name on
+abbrev pub declare : Name → List Name → Or_fault (List Name)
+declare name objects = if has name objects then Err Declared else Ok (with_name objects name)
 
-  abbrev pub action : Action → Pass ResolvedAction
-  action = fold-Action (Pass ResolvedAction) action_step
+-- a name of a table is none of an object
+abbrev pub declare_table : List Name → Name → List Name → Or_fault (List Name)
+declare_table objects name tables = if has name objects then Err Declared else declare name tables
+
+-- and a name of an object none of a table
+abbrev pub apart : Name → List Name → Or_fault (List Name)
+apart name tables = if has name tables then Err Declared else Ok tables
+
+abbrev pub then_names : {A : Type 0} → Or_fault (List Name) → (List Name → Or_fault A) → Or_fault A
+then_names (Ok names) go = go names
+then_names (Err fault) go = Err fault
+
+-- ---- what is resolved, with the indices in scope, or the objects, and the names of tables behind it
+
+abbrev pub JudgedBoth : Type 0 → Type 0
+JudgedBoth A = Or_fault (A × (List Name × List Name))
+
+abbrev pub TablePass : Type 0 → Type 0
+TablePass A = List Name → List Name → JudgedBoth A
+
+abbrev pub with_tables : {A : Type 0} → List Name → Outcome A → JudgedBoth A
+with_tables tables (Ok r) = Ok (r.0, (r.1, tables))
+with_tables tables (Err fault) = Err fault
+
+abbrev pub both_then : {A B : Type 0} → JudgedBoth A → (A → TablePass B) → JudgedBoth B
+both_then (Ok r) f = f r.0 r.1.0 r.1.1
+both_then (Err fault) f = Err fault
+
+-- parts from the left, behind those that were gone over
+abbrev pub in_turn_from : {A : Type 0} → List A → List (TablePass A) → TablePass (List A)
+in_turn_from before [] scope tables = Ok (before, (scope, tables))
+in_turn_from before (p ∷ ps) scope tables = both_then (p scope tables) (λ x. in_turn_from (before ++ x ∷ []) ps)
+
+module _ (objects : List Name) where
+  -- a table is declared at its name, before what stands behind it
+  abbrev pub tabled : TableOutput → TablePass ResolvedAction
+  tabled t scope tables = then_names (declare_table objects t.name tables) (λ ts. with_tables ts (table_output objects t scope))
+
+  abbrev pub for_body : ℕ → List (TablePass ResolvedAction) → List ResolvedIndexing → TablePass ResolvedAction
+  for_body before body heads scope tables = both_then (in_turn_from [] body scope tables) (λ inner after ts. Ok (ract.For heads inner, (take before after, ts)))
+
+  -- the indices of an outer head are in scope in the inner ones and in the body, and the names of its tables behind it too
+  abbrev pub looped : List Indexing → List (TablePass ResolvedAction) → TablePass ResolvedAction
+  looped heads body scope tables = both_then (with_tables tables (all (map (indexing objects) heads) scope)) (for_body (length scope) body)
+
+  abbrev pub action_step : Action-F (TablePass ResolvedAction) → TablePass ResolvedAction
+  action_step (Action-F.Check domain x) scope tables = with_tables tables (check objects domain x scope)
+  action_step (Action-F.Display domain xs) scope tables = with_tables tables (display objects domain xs scope)
+  action_step (Action-F.Printf domain xs file) scope tables = with_tables tables (printf objects domain xs file scope)
+  action_step (Action-F.TableOutput t) scope tables = tabled t scope tables
+  action_step (Action-F.For heads body) scope tables = looped heads body scope tables
+
+  abbrev pub action : Action → TablePass ResolvedAction
+  action = fold-Action (TablePass ResolvedAction) action_step
 
   abbrev pub indexings : List Indexing → Pass (List ResolvedIndexing)
   indexings xs = all (map (indexing objects) xs)
 
-  abbrev pub actions : List Action → Pass (List ResolvedAction)
-  actions xs = all (map action xs)
+  abbrev pub actions : List Action → TablePass (List ResolvedAction)
+  actions xs = in_turn_from [] (map action xs)
 
 -- ---- a statement, and the objects that are declared behind it
 
 abbrev pub Judged : Type 0 → Type 0
 Judged A = Or_fault (A × List Name)
-
--- a statement's own name is declared from its name on
-abbrev pub declare : Name → List Name → Or_fault (List Name)
-declare name objects = if has name objects then Err Declared else Ok (with_name objects name)
 
 -- a statement begins with no index in scope
 abbrev pub alone : {A : Type 0} → List Name → Outcome A → Judged A
@@ -267,81 +307,32 @@ declared_constraint x = declaring x.head.name (λ os. constraint os x)
 abbrev pub declared_objective : Objective → List Name → Judged ResolvedObjective
 declared_objective x = declaring x.head.name (λ os. objective os x)
 
-abbrev pub read : TableInput → List Name → Judged Resolved
-read t objects = alone objects (((λ x. made.Step (step.TableInput x)) <$> table_input objects t) [])
-
-abbrev pub executed : Action → List Name → Judged Resolved
-executed x objects = alone objects (((λ a. made.Step (step.Action a)) <$> action objects x) [])
-
 abbrev pub told_as : {A : Type 0} → (A → ResolvedStatement) → Judged A → Judged Resolved
 told_as make (Ok r) = Ok (made.Declaration (make r.0), r.1)
 told_as make (Err fault) = Err fault
 
-abbrev pub statement : Statement → List Name → Judged Resolved
-statement (s.Set d) objects = told_as rs.Set (declared d objects)
-statement (s.Param d) objects = told_as rs.Param (declared d objects)
-statement (s.Var d) objects = told_as rs.Var (declared d objects)
-statement (s.Constraint x) objects = told_as rs.Constraint (declared_constraint x objects)
-statement (s.Objective x) objects = told_as rs.Objective (declared_objective x objects)
-statement (s.TableInput t) objects = read t objects
-statement s.Solve objects = Ok (made.Step step.Solve, objects)
-statement (s.Action x) objects = executed x objects
-statement s.Data objects = Ok (made.Nothing, objects)
+-- ---- a statement, with the names of objects and of tables behind it
 
--- ---- the names of tables, which have no place among the objects
+abbrev pub apart_from : Name → List Name → Judged Resolved → JudgedBoth Resolved
+apart_from name tables outcome = then_names (apart name tables) (λ ts. with_tables ts outcome)
 
--- a name of a table is none of an object
-abbrev pub declare_table : List Name → Name → List Name → Or_fault (List Name)
-declare_table objects name tables = if has name objects then Err Declared else declare name tables
+abbrev pub read : TableInput → List Name → List Name → JudgedBoth Resolved
+read t objects tables =
+    then_names (declare_table objects t.name tables) (λ ts. with_tables ts (alone objects (((λ x. made.Step (step.TableInput x)) <$> table_input objects t) [])))
 
--- and a name of an object none of a table
-abbrev pub apart : Name → List Name → Or_fault (List Name)
-apart name tables = if has name tables then Err Declared else Ok tables
+abbrev pub executed : Action → List Name → List Name → JudgedBoth Resolved
+executed x objects tables = both_then (action objects x [] tables) (λ a scope ts. Ok (made.Step (step.Action a), (objects, ts)))
 
-abbrev pub then_names : {A : Type 0} → Or_fault (List Name) → (List Name → Or_fault A) → Or_fault A
-then_names (Ok names) go = go names
-then_names (Err fault) go = Err fault
-
-abbrev pub in_turn : List (List Name → Or_fault (List Name)) → List Name → Or_fault (List Name)
-in_turn [] tables = Ok tables
-in_turn (p ∷ ps) tables = then_names (p tables) (in_turn ps)
-
-module _ (objects : List Name) where
-  abbrev pub written_step : Action-F (List Name → Or_fault (List Name)) → List Name → Or_fault (List Name)
-  written_step (Action-F.TableOutput t) = declare_table objects t.name
-  written_step (Action-F.For heads body) = in_turn body
-  written_step _ = Ok
-
-  -- of the tables that an action writes, those in a `for` in order
-  abbrev pub written : Action → List Name → Or_fault (List Name)
-  written = fold-Action (List Name → Or_fault (List Name)) written_step
-
-  abbrev pub written_all : List Action → List Name → Or_fault (List Name)
-  written_all xs = in_turn (map written xs)
-
-  -- the names of tables behind a statement
-  abbrev pub tables_behind : Statement → List Name → Or_fault (List Name)
-  tables_behind (s.Set d) = apart d.head.name
-  tables_behind (s.Param d) = apart d.head.name
-  tables_behind (s.Var d) = apart d.head.name
-  tables_behind (s.Constraint x) = apart x.head.name
-  tables_behind (s.Objective x) = apart x.head.name
-  tables_behind (s.TableInput t) = declare_table objects t.name
-  tables_behind s.Solve = Ok
-  tables_behind (s.Action x) = written x
-  tables_behind s.Data = Ok
-
--- what becomes of a statement, with the names of objects and of tables behind it
-abbrev pub JudgedBoth : Type 0 → Type 0
-JudgedBoth A = Or_fault (A × (List Name × List Name))
-
-abbrev pub with_tables : {A : Type 0} → List Name → Judged A → JudgedBoth A
-with_tables tables (Ok r) = Ok (r.0, (r.1, tables))
-with_tables tables (Err fault) = Err fault
-
--- the names of its tables come first
 abbrev pub judged : Statement → List Name → List Name → JudgedBoth Resolved
-judged x objects tables = then_names (tables_behind objects x tables) (λ ts. with_tables ts (statement x objects))
+judged (s.Set d) objects tables = apart_from d.head.name tables (told_as rs.Set (declared d objects))
+judged (s.Param d) objects tables = apart_from d.head.name tables (told_as rs.Param (declared d objects))
+judged (s.Var d) objects tables = apart_from d.head.name tables (told_as rs.Var (declared d objects))
+judged (s.Constraint x) objects tables = apart_from x.head.name tables (told_as rs.Constraint (declared_constraint x objects))
+judged (s.Objective x) objects tables = apart_from x.head.name tables (told_as rs.Objective (declared_objective x objects))
+judged (s.TableInput t) objects tables = read t objects tables
+judged s.Solve objects tables = Ok (made.Step step.Solve, (objects, tables))
+judged (s.Action x) objects tables = executed x objects tables
+judged s.Data objects tables = Ok (made.Nothing, (objects, tables))
 
 -- ---- the statements before the first bad one, and its fault
 

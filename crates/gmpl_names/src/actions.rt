@@ -2,12 +2,14 @@
 ghost use Rattle.std.specs.Prelude.{◌≡◌};
 ghost use Rattle.gmpl_names.specs.Expressions.{Follows, Gives};
 ghost use Rattle.gmpl_names.specs.Statements as spec;
+ghost use Rattle.gmpl_names.specs.Statements.{JudgesBoth};
 
 use crate::parts::{optional_indexing, optional_side};
+use crate::table_names::declare_table;
 use crate::tables::table_output;
 use crate::{Names, NamesError, resolve_expr, resolve_exprs, resolve_indexing, room_for};
 use gmpl_resolved as resolved;
-use gmpl_syntax::{Action, Expr, Indexing, SyntaxFaultKind};
+use gmpl_syntax::{Action, Expr, Indexing, SyntaxFaultKind, TableOutput};
 use sqlite_items::Items;
 use std::alloc::Global;
 
@@ -103,15 +105,30 @@ fn indexings(
     Ok(made)
 }
 
-/// A statement that may stand in a `for`. The indices of its domain are in scope within it alone.
+// A table that is written, behind its name.
+fn tabled(
+    alloc: Global,
+    objects: &Names,
+    scope: &mut Names,
+    tables: &mut Names,
+    whole: &TableOutput,
+) -> Result<resolved::Action, NamesError>
+    ensures { JudgesBoth (spec.tabled objects.now whole.now scope.old tables.old) result scope.new tables.new }
+{
+    declare_table(alloc, objects, tables, &whole.name)?;
+    table_output(alloc, objects, scope, whole)
+}
+
+/// A statement that may stand in a `for`. The indices of its domain are in scope within it alone; the names of its tables are added.
 #[cycle(actions)]
 pub(crate) fn action(
     alloc: Global,
     objects: &Names,
     scope: &mut Names,
+    tables: &mut Names,
     whole: &Action,
 ) -> Result<resolved::Action, NamesError>
-    ensures { Follows (spec.action objects.now whole.now scope.old) result scope.new }
+    ensures { JudgesBoth (spec.action objects.now whole.now scope.old tables.old) result scope.new tables.new }
 {
     match whole {
         Action::Check(domain, condition) => check(alloc, objects, scope, domain, condition),
@@ -119,11 +136,11 @@ pub(crate) fn action(
         Action::Printf(domain, arguments, file) => {
             printf(alloc, objects, scope, domain, arguments.as_slice(), file)
         }
-        Action::TableOutput(table) => table_output(alloc, objects, scope, table),
+        Action::TableOutput(table) => tabled(alloc, objects, scope, tables, table),
         Action::For(heads, body) => {
             let before = scope.len();
             let heads = indexings(alloc, objects, scope, heads.as_slice())?;
-            let body = actions(alloc, objects, scope, body.as_slice())?;
+            let body = actions(alloc, objects, scope, tables, body.as_slice())?;
             scope.truncate(before);
             Ok(resolved::Action::For(heads, body))
         }
@@ -135,13 +152,14 @@ fn actions(
     alloc: Global,
     objects: &Names,
     scope: &mut Names,
+    tables: &mut Names,
     all: &[Action],
 ) -> Result<Items<resolved::Action>, NamesError>
-    ensures { Follows (spec.actions objects.now all.now scope.old) result scope.new }
+    ensures { JudgesBoth (spec.actions objects.now all.now scope.old tables.old) result scope.new tables.new }
 {
     let mut made = room_for(alloc, all.len())?;
     for one in all {
-        made.push(action(alloc, objects, scope, one)?)?;
+        made.push(action(alloc, objects, scope, tables, one)?)?;
     }
     Ok(made)
 }

@@ -5,7 +5,7 @@ ghost use Rattle.gmpl_names.specs.Statements.{Judges, JudgesBoth};
 use crate::actions::action;
 use crate::parts::{constraint, declaration, objective};
 use crate::resolved::Resolved;
-use crate::table_names::{declare, tables_behind};
+use crate::table_names::{apart, declare, declare_table};
 use crate::tables::table_input;
 use crate::{Names, NamesError};
 use gmpl_resolved as resolved;
@@ -51,46 +51,31 @@ fn declared_objective(
     Ok(Boxed::new(alloc, made)?)
 }
 
-fn read(alloc: Global, objects: &Names, whole: &TableInput) -> Result<Resolved, NamesError>
-    ensures { Judges (spec.read whole.now objects.now) result objects.now }
+fn read(
+    alloc: Global,
+    objects: &Names,
+    tables: &mut Names,
+    whole: &TableInput,
+) -> Result<Resolved, NamesError>
+    ensures { JudgesBoth (spec.read whole.now objects.now tables.old) result objects.now tables.new }
 {
+    declare_table(alloc, objects, tables, &whole.name)?;
     let mut scope = Names::new(alloc);
     let made = table_input(alloc, objects, &mut scope, whole)?;
     Ok(Resolved::Step(resolved::Step::TableInput(made)))
 }
 
-fn executed(alloc: Global, objects: &Names, whole: &Action) -> Result<Resolved, NamesError>
-    ensures { Judges (spec.executed whole.now objects.now) result objects.now }
+fn executed(
+    alloc: Global,
+    objects: &Names,
+    tables: &mut Names,
+    whole: &Action,
+) -> Result<Resolved, NamesError>
+    ensures { JudgesBoth (spec.executed whole.now objects.now tables.old) result objects.now tables.new }
 {
     let mut scope = Names::new(alloc);
-    let made = action(alloc, objects, &mut scope, whole)?;
+    let made = action(alloc, objects, &mut scope, tables, whole)?;
     Ok(Resolved::Step(resolved::Step::Action(made)))
-}
-
-fn statement(alloc: Global, objects: &mut Names, whole: &Statement) -> Result<Resolved, NamesError>
-    ensures { Judges (spec.statement whole.now objects.old) result objects.new }
-{
-    match whole {
-        Statement::Set(whole) => Ok(Resolved::Declaration(resolved::Statement::Set(declared(
-            alloc, objects, whole,
-        )?))),
-        Statement::Param(whole) => Ok(Resolved::Declaration(resolved::Statement::Param(declared(
-            alloc, objects, whole,
-        )?))),
-        Statement::Var(whole) => Ok(Resolved::Declaration(resolved::Statement::Var(declared(
-            alloc, objects, whole,
-        )?))),
-        Statement::Constraint(whole) => Ok(Resolved::Declaration(resolved::Statement::Constraint(
-            declared_constraint(alloc, objects, whole)?,
-        ))),
-        Statement::Objective(whole) => Ok(Resolved::Declaration(resolved::Statement::Objective(
-            declared_objective(alloc, objects, whole)?,
-        ))),
-        Statement::TableInput(whole) => read(alloc, objects, whole),
-        Statement::Solve => Ok(Resolved::Step(resolved::Step::Solve)),
-        Statement::Action(whole) => executed(alloc, objects, whole),
-        Statement::Data => Ok(Resolved::Nothing),
-    }
 }
 
 /// What becomes of the next statement, behind these names of objects and of tables; those that it declares are added.
@@ -102,6 +87,35 @@ pub(crate) fn judged(
 ) -> Result<Resolved, NamesError>
     ensures { JudgesBoth (spec.judged whole.now objects.old tables.old) result objects.new tables.new }
 {
-    tables_behind(alloc, objects, tables, whole)?;
-    statement(alloc, objects, whole)
+    match whole {
+        Statement::Set(whole) => {
+            apart(tables, &whole.head.name)?;
+            let made = declared(alloc, objects, whole)?;
+            Ok(Resolved::Declaration(resolved::Statement::Set(made)))
+        }
+        Statement::Param(whole) => {
+            apart(tables, &whole.head.name)?;
+            let made = declared(alloc, objects, whole)?;
+            Ok(Resolved::Declaration(resolved::Statement::Param(made)))
+        }
+        Statement::Var(whole) => {
+            apart(tables, &whole.head.name)?;
+            let made = declared(alloc, objects, whole)?;
+            Ok(Resolved::Declaration(resolved::Statement::Var(made)))
+        }
+        Statement::Constraint(whole) => {
+            apart(tables, &whole.head.name)?;
+            let made = declared_constraint(alloc, objects, whole)?;
+            Ok(Resolved::Declaration(resolved::Statement::Constraint(made)))
+        }
+        Statement::Objective(whole) => {
+            apart(tables, &whole.head.name)?;
+            let made = declared_objective(alloc, objects, whole)?;
+            Ok(Resolved::Declaration(resolved::Statement::Objective(made)))
+        }
+        Statement::TableInput(whole) => read(alloc, objects, tables, whole),
+        Statement::Solve => Ok(Resolved::Step(resolved::Step::Solve)),
+        Statement::Action(whole) => executed(alloc, objects, tables, whole),
+        Statement::Data => Ok(Resolved::Nothing),
+    }
 }

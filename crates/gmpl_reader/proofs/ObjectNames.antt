@@ -13,7 +13,7 @@ use Rattle.gmpl_statements.specs.Statements.{statements_of}
 use Rattle.gmpl_resolved.specs.declared.statement.Statement.{Statement as ResolvedStatement}
 use Rattle.gmpl_names.specs.Names.{Name}
 use Rattle.gmpl_names.specs.declared.resolved.Resolved.TheVariants as made
-use Rattle.gmpl_names.specs.Statements.{statement, statements}
+use Rattle.gmpl_names.specs.Statements.{judged, statements}
 use Rattle.gmpl_statement_kinds.specs.StatementKinds.{judgement}
 use Rattle.gmpl_parse.specs.declared.model.Model.{Model}
 use Rattle.gmpl_parse.specs.Models.{unless_bad, model_of, parsed}
@@ -57,8 +57,9 @@ any_heads [] = tt
 any_heads (x ∷ xs) = any_head x.statement (HeadsThen IsAny xs (Unit {0})) (any_heads xs)
 
 -- the object of a statement comes last
-pub comes_last : (x : Statement) (objects : List Name) (declared : ResolvedStatement) (after : List Name) → statement x objects ≡ Ok (made.Declaration declared, after) → after ≡ objects ++ (head_of declared).name ∷ []
-comes_last x objects declared after is = (IfOk-at_ok (Declares IsAny (Unit {0}) objects) is (statement_declares IsAny (Unit {0}) objects x (any_head x (Unit {0}) tt))).names
+pub comes_last : (x : Statement) (objects tables : List Name) (declared : ResolvedStatement) (after behind : List Name) → judged x objects tables ≡ Ok (made.Declaration declared, (after, behind)) → after ≡ objects ++ (head_of declared).name ∷ []
+comes_last x objects tables declared after behind is =
+    (IfOk-at_ok (λ r. Declares IsAny (Unit {0}) objects (r.0, r.1.0)) is (statement_declares IsAny (Unit {0}) objects x tables (any_head x (Unit {0}) tt))).names
 
 pub differ : (tokens : Tokens) (model : Model) → parsed tokens ≡ Ok model → AreDifferent (names_of model.statements)
 differ tokens model is = (model_names IsAny (statements_of tokens) model (any_heads (statements_of tokens).items) is).differ

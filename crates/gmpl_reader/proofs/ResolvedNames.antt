@@ -24,7 +24,7 @@ use Rattle.gmpl_names.specs.Meanings.{Or_fault}
 use Rattle.gmpl_names.specs.Expressions.{Outcome, Pass, pure, and_then, expr}
 use Rattle.gmpl_names.specs.declared.resolved.Resolved.{Resolved}
 use Rattle.gmpl_names.specs.declared.resolved.Resolved.TheVariants as made
-use Rattle.gmpl_names.specs.Statements.{Judged, JudgedBoth, optional_indexing, optional_side, head, attributes, declaration, constraint, objective, table_input, action, alone, declaring, declaring_by, told_as, statement, then_names, tables_behind, with_tables, judged, none, with_statement, behind, statements_from}
+use Rattle.gmpl_names.specs.Statements.{Judged, JudgedBoth, optional_indexing, optional_side, head, attributes, declaration, declared, constraint, declared_constraint, objective, declared_objective, table_input, declare_table, apart, action, alone, declaring, declaring_by, told_as, then_names, with_tables, both_then, judged, none, with_statement, behind, statements_from}
 use Rattle.gmpl_rows.specs.Premises.{AreDifferent}
 use Rattle.gmpl_reader.specs.Names.{head_of, object_name, names_of}
 use Rattle.gmpl_reader.proofs.Heads.{HeadThen, HeadsThen}
@@ -58,6 +58,17 @@ objective_kept : (os : List Name) (x : Objective) (scope : List Name) → IfOk (
 objective_kept os x scope =
     then_of (λ made. made.name ≡ x.head.name) (head os x.head scope) _ _ (head_kept os x.head scope)
     (λ made after same. then_any (expr os x.form after) _ _ (λ _ _. same))
+
+-- ---- names of tables are no names of objects
+
+module _ {A : Type 0} (Q : A × List Name → Type 0) where
+  judged_alone : (tables : List Name) (found : Judged A) → IfOk found Q → IfOk (with_tables tables found) (λ r. Q (r.0, r.1.0))
+  judged_alone tables (Ok r) h = h
+  judged_alone tables (Err fault) h = tt
+
+  judged_behind : (found : Judged A) (tables : Or_fault (List Name)) → IfOk found Q → IfOk (then_names tables (λ ts. with_tables ts found)) (λ r. Q (r.0, r.1.0))
+  judged_behind found (Ok tables) h = judged_alone tables found h
+  judged_behind found (Err fault) h = tt
 
 -- ---- what a statement declares is a new name, which is the last one from then on
 
@@ -103,27 +114,26 @@ module _ (P : List ℕ → Type 0) (rest : Type 0) (objects : List Name) where
   executed_alone make (Ok r) h = record { names = refl; left = h }
   executed_alone make (Err fault) h = tt
 
-  pub statement_declares : (x : Statement) → HeadThen P x rest → IfOk (statement x objects) Declares
-  statement_declares (s.Set d) h = told rs.Set d.head.name (λ os. declaration os d) h (λ os. declaration_kept os d [])
-  statement_declares (s.Param d) h = told rs.Param d.head.name (λ os. declaration os d) h (λ os. declaration_kept os d [])
-  statement_declares (s.Var d) h = told rs.Var d.head.name (λ os. declaration os d) h (λ os. declaration_kept os d [])
-  statement_declares (s.Constraint x) h = told rs.Constraint x.head.name (λ os. constraint os x) h (λ os. constraint_kept os x [])
-  statement_declares (s.Objective x) h = told rs.Objective x.head.name (λ os. objective os x) h (λ os. objective_kept os x [])
-  statement_declares (s.TableInput t) h = executed_alone step.TableInput (table_input objects t []) h
-  statement_declares s.Solve h = record { names = refl; left = h }
-  statement_declares (s.Action x) h = executed_alone step.Action (action objects x []) h
-  statement_declares s.Data h = record { names = refl; left = h }
+  executed_beside : {A : Type 0} (make : A → Step) (outcome : JudgedBoth A) → rest → IfOk (both_then outcome (λ x scope ts. Ok (made.Step (make x), (objects, ts)))) (λ r. Declares (r.0, r.1.0))
+  executed_beside make (Ok r) h = record { names = refl; left = h }
+  executed_beside make (Err fault) h = tt
 
--- ---- names of tables are no names of objects
-
-module _ (Q : Resolved × List Name → Type 0) where
-  judged_alone : (tables : List Name) (found : Judged Resolved) → IfOk found Q → IfOk (with_tables tables found) (λ r. Q (r.0, r.1.0))
-  judged_alone tables (Ok r) h = h
-  judged_alone tables (Err fault) h = tt
-
-  judged_behind : (found : Judged Resolved) (tables : Or_fault (List Name)) → IfOk found Q → IfOk (then_names tables (λ ts. with_tables ts found)) (λ r. Q (r.0, r.1.0))
-  judged_behind found (Ok tables) h = judged_alone tables found h
-  judged_behind found (Err fault) h = tt
+  pub statement_declares : (x : Statement) (tables : List Name) → HeadThen P x rest → IfOk (judged x objects tables) (λ r. Declares (r.0, r.1.0))
+  statement_declares (s.Set d) tables h =
+      judged_behind Declares (told_as rs.Set (declared d objects)) (apart d.head.name tables) (told rs.Set d.head.name (λ os. declaration os d) h (λ os. declaration_kept os d []))
+  statement_declares (s.Param d) tables h =
+      judged_behind Declares (told_as rs.Param (declared d objects)) (apart d.head.name tables) (told rs.Param d.head.name (λ os. declaration os d) h (λ os. declaration_kept os d []))
+  statement_declares (s.Var d) tables h =
+      judged_behind Declares (told_as rs.Var (declared d objects)) (apart d.head.name tables) (told rs.Var d.head.name (λ os. declaration os d) h (λ os. declaration_kept os d []))
+  statement_declares (s.Constraint x) tables h =
+      judged_behind Declares (told_as rs.Constraint (declared_constraint x objects)) (apart x.head.name tables) (told rs.Constraint x.head.name (λ os. constraint os x) h (λ os. constraint_kept os x []))
+  statement_declares (s.Objective x) tables h =
+      judged_behind Declares (told_as rs.Objective (declared_objective x objects)) (apart x.head.name tables) (told rs.Objective x.head.name (λ os. objective os x) h (λ os. objective_kept os x []))
+  statement_declares (s.TableInput t) tables h =
+      judged_behind Declares (alone objects (and_then (table_input objects t []) (λ x. pure (made.Step (step.TableInput x))))) (declare_table objects t.name tables) (executed_alone step.TableInput (table_input objects t []) h)
+  statement_declares s.Solve tables h = record { names = refl; left = h }
+  statement_declares (s.Action x) tables h = executed_beside step.Action (action objects x [] tables) h
+  statement_declares s.Data tables h = record { names = refl; left = h }
 
 -- ---- one more name that is new
 
@@ -190,7 +200,7 @@ module _ (P : List ℕ → Type 0) where
   all_named found number objects tables [] fault same named heads = named
   all_named found number objects tables (x ∷ xs) fault same named heads =
       one_more found objects number x.line (HeadsThen P xs (Unit {0})) (judged x.statement objects tables) (λ more os ts. statements_from more (number + 1) os ts xs fault) same named
-      (judged_behind (Declares P (HeadsThen P xs (Unit {0})) objects) (statement x.statement objects) (tables_behind objects x.statement tables) (statement_declares P (HeadsThen P xs (Unit {0})) objects x.statement heads))
+      (statement_declares P (HeadsThen P xs (Unit {0})) objects x.statement tables heads)
       (λ more os ts same_names now left. all_named more (number + 1) os ts xs fault same_names now left)
 
   pub resolved_named : (xs : List Numbered) (fault : Option SyntaxFault) → HeadsThen P xs (Unit {0}) → HaveNames P (statements_from none 1 [] [] xs fault).items

@@ -6,7 +6,7 @@ ghost use Rattle.gmpl_lexer.specs.Tokens.{tokens_of};
 ghost use Rattle.gmpl_syntax.specs.declared.statement.Statement.{Statement};
 ghost use Rattle.gmpl_resolved.specs.declared.statement.Statement.{Statement as ResolvedStatement};
 ghost use Rattle.gmpl_names.specs.declared.resolved.Resolved.TheVariants.{Declaration};
-ghost use Rattle.gmpl_names.specs.Statements.{statement};
+ghost use Rattle.gmpl_names.specs.Statements.{judged};
 ghost use Rattle.gmpl_parse.specs.declared.model.Model.{Model};
 ghost use Rattle.gmpl_parse.specs.Models.{parsed};
 ghost use Rattle.gmpl_rows.specs.declared.declared.Declared.{Declared};
@@ -21,5 +21,5 @@ pub fn objects_have_names()
     ensures names { (text : List ℕ) (model : Model) → parsed (tokens_of text) ≡ Ok model → AllByRecursion IsName (names_of model.statements) }
     ensures differ { (tokens : Tokens) (model : Model) → parsed tokens ≡ Ok model → AreDifferent (names_of model.statements) }
     ensures objects { (text : List ℕ) (model : Model) (objects : List Declared) → parsed (tokens_of text) ≡ Ok model → map declared_name objects ≡ names_of model.statements → AreObjects objects }
-    ensures last { (x : Statement) (objects : List (List ℕ)) (declared : ResolvedStatement) (after : List (List ℕ)) → statement x objects ≡ Ok (Declaration declared, after) → after ≡ objects ++ (head_of declared).name ∷ [] }
+    ensures last { (x : Statement) (objects tables : List (List ℕ)) (declared : ResolvedStatement) (after behind : List (List ℕ)) → judged x objects tables ≡ Ok (Declaration declared, (after, behind)) → after ≡ objects ++ (head_of declared).name ∷ [] }
 {}

@@ -197,6 +197,10 @@ const TABLE_NAMES: &str = "\
 !Declared 1 1 => for {i in 1..2} { for {j in 1..2} table t {k in 1..2} OUT 'CSV' 'f': k; table t {k in 1..2} OUT 'CSV' 'g': k; }
 !Declared 2 1 => for {i in 1..2} table t {j in 1..2} OUT 'CSV' 'f': j; param t := 1;
 !Declared 2 1 => param t := 1; for {i in 1..2} { display i; table t {j in 1..2} OUT 'CSV' 'f': j; }
+!Undeclared 2 1 => param t; for {i in S} { table t {j in 1..2} OUT 'CSV' 'f': j; }
+!Undeclared 2 1 => param t := 1; for {i in 1..2} { display q; table t {j in 1..2} OUT 'CSV' 'f': j; }
+!Declared 2 1 => param t := 1; for {i in 1..2} { table t {j in S} OUT 'CSV' 'f': j; display q; }
+!Undeclared 1 1 => for {i in 1..2} { table t {j in 1..2} OUT 'CSV' 'f': x; table t {j in 1..2} OUT 'CSV' 'g': j; }
 !Declared 2 1 => table t IN 'CSV' 'f': [k]; for {i in 1..2} for {j in 1..2} table t {k in 1..2} OUT 'CSV' 'g': k;
 - => for {i in 1..2} { table t {j in 1..2} OUT 'CSV' 'f': j; table u {j in 1..2} OUT 'CSV' 'g': j; }
 - => table t IN 'CSV' 'f': [k]; table u IN 'CSV' 'f': [k];
