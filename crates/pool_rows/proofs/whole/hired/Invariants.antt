@@ -2,6 +2,7 @@ use Rattle.std.proofs.Common.{◌≡◌, ℕ, ◌⊎◌, ◌+◌, None}
 use Rattle.std.specs.List.{All}
 use Rattle.std.specs.Vec.{vec_len, vec_capacity}
 use Rattle.turn_pool.specs.Logs.{Has}
+use Rattle.turn_pool.specs.Passes.{view_of}
 use Rattle.pool_rows.specs.Ready.{IsReady, numbers, AnyHas}
 use Rattle.pool_rows.proofs.whole.hired.Given as goal
 
@@ -11,8 +12,8 @@ invariant-loop l = record {
   none : l.first.held ≡ None;
   crew : All (IsReady l.pool) l.crew.items;
   numbers : (k : ℕ) → Has (numbers l.initial.first) k → AnyHas l.crew.items k ⊎ Has (numbers l.first) k;
-  from : l.first.pass.seat.me.0.from ≡ l.initial.first.pass.seat.me.0.from + l.counter;
-  to : l.first.pass.seat.me.0.to ≡ l.initial.first.pass.seat.me.0.to;
+  from : (view_of l.first.pass).from ≡ (view_of l.initial.first.pass).from + l.counter;
+  to : (view_of l.first.pass).to ≡ (view_of l.initial.first.pass).to;
   len : vec_len l.crew ≡ l.counter;
   room : vec_capacity l.crew ≡ vec_capacity l.initial.crew;
 }
