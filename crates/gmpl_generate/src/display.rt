@@ -1,6 +1,7 @@
 // What is shown.
-ghost use Rattle.std.specs.Prelude.{◌≡◌, ◌++◌, [], string_bytes, IfOk, Ok, OnOk, length};
+ghost use Rattle.std.specs.Prelude.{◌≡◌, ◌++◌, [], codes, string_bytes, IfOk, Ok, OnOk, length};
 ghost use Rattle.gmpl_value.specs.Outcome.{GivesAs, then_do};
+ghost use Rattle.gmpl_member_names.specs.Names.{member_name};
 ghost use Rattle.gmpl_generate.specs.Shown as texts;
 ghost use Rattle.gmpl_generate.specs.Running.{Follows};
 ghost use Rattle.gmpl_generate.specs.Display as spec;
@@ -28,15 +29,14 @@ fn line(alloc: Global, name: &str, value: &str) -> Result<String, AllocError>
     format!(in alloc; "{name} = {value}\n")
 }
 
-// The line of a name and a value.
-fn value_line(alloc: Global, name: &str, value: &Value) -> Result<String, EvalFault>
-    ensures { GivesAs string_bytes result (then_do (λ text. Ok (spec.line name.now text)) (texts.shown value.now)) }
+// ---- expressions
+
+fn value_line(alloc: Global, value: &Value) -> Result<String, EvalFault>
+    ensures { GivesAs string_bytes result (then_do (λ text. Ok (spec.line (codes "display") text)) (texts.shown value.now)) }
 {
     let text = shown(alloc, value)?;
-    Ok(line(alloc, name, &text)?)
+    Ok(line(alloc, "display", &text)?)
 }
-
-// ---- expressions
 
 fn expression_line(
     alloc: Global,
@@ -50,7 +50,7 @@ fn expression_line(
     ensures value { GivesAs string_bytes result (spec.expression_line model.now whole.now bindings.now) }
 {
     let value = value_of(alloc, model, context, bindings, whole)?;
-    value_line(alloc, "display", &value)
+    value_line(alloc, &value)
 }
 
 // ---- members of objects
@@ -63,8 +63,9 @@ fn named_line(
 ) -> Result<String, EvalFault>
     ensures { GivesAs string_bytes result (then_do (λ text. Ok (spec.line (member_name name.now subscripts.now) text)) (texts.shown value.now)) }
 {
+    let text = shown(alloc, value)?;
     let name = member_name(alloc, name.as_str(), subscripts)?;
-    value_line(alloc, &name, value)
+    Ok(line(alloc, &name, &text)?)
 }
 
 fn member_line(
