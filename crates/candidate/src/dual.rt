@@ -260,13 +260,13 @@ fn best_offer(state: &State, open: &mut [Offer]) -> Result<Option<Weighed>, Stop
     for offer in open.iter() {
         match offer.ratio {
             None => {}
-            Some(ratio) => best = Some(better_of(weighed(offer, ratio), best, careful)),
+            Some(ratio) => best = Some(better_of(with_ratio(offer, ratio), best, careful)),
         }
     }
     Ok(best)
 }
 
-fn weighed(offer: &Offer, ratio: Frac) -> Weighed {
+fn with_ratio(offer: &Offer, ratio: Frac) -> Weighed {
     Weighed {
         ratio,
         key: offer.key,
