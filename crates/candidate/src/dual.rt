@@ -13,13 +13,19 @@ struct Broken {
     far: Frac,
 }
 
-// A variable that may enter: how long the price lasts, and what ranks it among equal ones.
+// A variable that may enter: how long its price lasts, about, as a logarithm, and exactly, where that was wanted; and what ranks it
+// among those with equal ratios.
 #[derive(Clone, Copy)]
 struct Offer {
-    ratio: Frac,
+    size: i32,
+    ratio: Option<Frac>,
     key: i32,
     variable: usize,
 }
+
+// A ratio whose size is larger by more than this is larger: a size is told to 47 steps, since it is made of four logarithms, each
+// of which is at most 23 steps too low.
+const ERROR: i32 = 100;
 
 // What enters, and which variables go to their other bounds before.
 #[derive(Drop)]
@@ -28,10 +34,18 @@ struct Entering {
     flips: Vec<usize>,
 }
 
+// An offer and its ratio.
+#[derive(Clone, Copy)]
+struct Weighed {
+    ratio: Frac,
+    key: i32,
+    variable: usize,
+}
+
 // The best of the offers with the least ratio, and how far the row stays broken where all of them are passed.
 #[derive(Clone, Copy)]
 struct Group {
-    best: Offer,
+    best: Weighed,
     rest: Option<Frac>,
 }
 
@@ -126,8 +140,8 @@ pub(crate) fn step_gain(
     down: bool,
     far: Frac,
 ) -> Result<Option<Frac>, Stop> {
-    let open = offers(state, alloc, down)?;
-    let best = match best_offer(state, &open) {
+    let mut open = offers(state, alloc, down)?;
+    let best = match best_offer(state, &mut open)? {
         Some(best) => best,
         None => return Ok(None),
     };
@@ -142,7 +156,7 @@ fn choice(state: &State, alloc: Global, broken: &Broken) -> Result<Option<Enteri
     let mut flips = Vec::new(alloc);
     let mut rest = product(broken.far, state.scale).ok();
     for _ in 0..open.len() {
-        let group = match first_group(state, &open, rest)? {
+        let group = match first_group(state, &mut open, rest)? {
             Some(group) => group,
             None => return Ok(None),
         };
@@ -163,7 +177,7 @@ fn offers(state: &State, alloc: Global, above: bool) -> Result<Vec<Offer>, Stop>
     for v in &state.touched {
         let entry = number_at(&state.entries, *v);
         if may_help(state, *v, entry, above) {
-            add(&mut offers, offered(state, *v, entry)?)?;
+            add(&mut offers, offered(state, *v, entry))?;
         }
     }
     Ok(offers)
@@ -182,23 +196,52 @@ fn may_help(state: &State, v: usize, entry: Frac, above: bool) -> bool {
     }
 }
 
-fn offered(state: &State, v: usize, entry: Frac) -> Result<Offer, Stop> {
+fn offered(state: &State, v: usize, entry: Frac) -> Offer {
     let price = state.price_of(v);
-    let ratio = if price.is_zero() {
-        price
+    let (size, ratio) = if price.is_zero() {
+        (i32::MIN, Some(price))
     } else {
-        quotient(price, entry)?.abs()
+        (log(price).saturating_sub(log(entry)), None)
     };
-    Ok(Offer {
+    Offer {
+        size,
         ratio,
         key: state.tie_key(entry, state.unit_of(v)),
         variable: v,
-    })
+    }
+}
+
+// Finds the ratios that may be the least.
+fn weigh(state: &State, open: &mut [Offer]) -> Result<(), Stop> {
+    let mut least = i32::MAX;
+    for offer in open.iter() {
+        least = least.min(offer.size);
+    }
+    let most = least.saturating_add(ERROR);
+    for i in 0..open.len() {
+        let offer = open[i];
+        if offer.ratio.is_none() && offer.size <= most {
+            open[i] = Offer {
+                ratio: Some(ratio_of(state, offer.variable)?),
+                ..offer
+            };
+        }
+    }
+    Ok(())
+}
+
+fn ratio_of(state: &State, v: usize) -> Result<Frac, Stop> {
+    let ratio = quotient(state.price_of(v), number_at(&state.entries, v))?;
+    Ok(ratio.abs())
 }
 
 // The offers with the least ratio.
-fn first_group(state: &State, open: &[Offer], far: Option<Frac>) -> Result<Option<Group>, Stop> {
-    let best = match best_offer(state, open) {
+fn first_group(
+    state: &State,
+    open: &mut [Offer],
+    far: Option<Frac>,
+) -> Result<Option<Group>, Stop> {
+    let best = match best_offer(state, open)? {
         Some(best) => best,
         None => return Ok(None),
     };
@@ -210,20 +253,32 @@ fn first_group(state: &State, open: &[Offer], far: Option<Frac>) -> Result<Optio
 }
 
 // The least ratio; of equal ones the highest key, and then the least index.
-fn best_offer(state: &State, open: &[Offer]) -> Option<Offer> {
+fn best_offer(state: &State, open: &mut [Offer]) -> Result<Option<Weighed>, Stop> {
+    weigh(state, open)?;
     let careful = state.is_careful();
     let mut best = None;
-    for offer in open {
-        best = Some(better_of(*offer, best, careful));
+    for offer in open.iter() {
+        match offer.ratio {
+            None => {}
+            Some(ratio) => best = Some(better_of(with_ratio(offer, ratio), best, careful)),
+        }
     }
-    best
+    Ok(best)
+}
+
+fn with_ratio(offer: &Offer, ratio: Frac) -> Weighed {
+    Weighed {
+        ratio,
+        key: offer.key,
+        variable: offer.variable,
+    }
 }
 
 // How far the row stays broken where all of them with this ratio go to their other bounds, if they can and it does.
 fn rest_after(state: &State, open: &[Offer], ratio: Frac, far: Frac) -> Result<Option<Frac>, Stop> {
     let mut rest = far;
     for offer in open {
-        if offer.ratio == ratio {
+        if has_ratio(offer, ratio) {
             rest = match flip_length(state, offer.variable)? {
                 None => return Ok(None),
                 Some(length) => {
@@ -237,6 +292,13 @@ fn rest_after(state: &State, open: &[Offer], ratio: Frac, far: Frac) -> Result<O
         }
     }
     Ok(Some(rest))
+}
+
+fn has_ratio(offer: &Offer, ratio: Frac) -> bool {
+    match offer.ratio {
+        None => false,
+        Some(own) => own == ratio,
+    }
 }
 
 fn flip_length(state: &State, v: usize) -> Result<Option<Frac>, Stop> {
@@ -263,7 +325,7 @@ fn enter(
     state.count_stall(state.price_of(q).is_zero());
     let out = state.variable_at(slot);
     let far = difference(state.value_of(out), broken.bound)?;
-    let t = quotient(far, number_at(&column.numbers, slot))?;
+    let t = quotient(far, column.at(slot))?;
     state.move_by(&column, t, q)?;
     put(&mut state.values, out, broken.bound);
     update_weights(state, &column, slot, q);
@@ -283,16 +345,15 @@ fn flip_first(state: &mut State, alloc: Global, flips: &[usize]) -> Result<(), S
 
 // The weights of rows, as logarithms.
 fn update_weights(state: &mut State, column: &Solved, slot: usize, q: usize) {
-    let pivot = log(number_at(&column.numbers, slot)).saturating_sub(state.unit_of(
-        state.variable_at(slot),
-    ));
+    let unit = state.unit_of(state.variable_at(slot));
+    let pivot = log(column.at(slot)).saturating_sub(unit);
     let weight = at(&state.weights, slot, 0);
-    for other in &column.used {
-        let unit = state.unit_of(state.variable_at(*other));
-        let size = log(number_at(&column.numbers, *other)).saturating_sub(unit);
+    for other in &column.entries {
+        let unit = state.unit_of(state.variable_at(other.at));
+        let size = log(other.number).saturating_sub(unit);
         raise_weight(
             &mut state.weights,
-            *other,
+            other.at,
             size.saturating_sub(pivot),
             weight,
         );
@@ -321,19 +382,19 @@ pub(crate) fn lowered_weight(weight: i32, size: i32) -> i32 {
     weight.saturating_sub(size.saturating_mul(2)).max(0)
 }
 
-fn better_of(offer: Offer, best: Option<Offer>, careful: bool) -> Offer {
+fn better_of(offer: Weighed, best: Option<Weighed>, careful: bool) -> Weighed {
     match best {
         Some(old) => better_one(offer, old, careful),
         None => offer,
     }
 }
 
-fn better_one(offer: Offer, old: Offer, careful: bool) -> Offer {
+fn better_one(offer: Weighed, old: Weighed, careful: bool) -> Weighed {
     let is_better = is_better(&offer, &old, careful);
     if is_better { offer } else { old }
 }
 
-fn is_better(offer: &Offer, old: &Offer, careful: bool) -> bool {
+fn is_better(offer: &Weighed, old: &Weighed, careful: bool) -> bool {
     if offer.ratio == old.ratio {
         if careful || offer.key == old.key {
             offer.variable < old.variable
@@ -354,7 +415,7 @@ fn pass(
 ) -> Result<Vec<Offer>, Stop> {
     let mut left = Vec::new(alloc);
     for offer in open {
-        if offer.ratio == ratio {
+        if has_ratio(offer, ratio) {
             add(flips, offer.variable)?;
         } else {
             add(&mut left, *offer)?;

@@ -13,11 +13,12 @@ enum Stopping {
     Slot(usize, bool),
 }
 
-// How long a step may be, and what stops it.
+// How long a step may be, and what stops it, with its number in the column.
 #[derive(Clone, Copy)]
 struct Reach {
     length: Frac,
     by: Stopping,
+    number: Frac,
 }
 
 /// One step of the primal phase. The weights are those of variables.
@@ -82,35 +83,29 @@ fn first_reach(
     rises: bool,
 ) -> Result<Option<Reach>, Stop> {
     let mut first = own_reach(state, q)?;
-    for slot in &column.used {
-        let number = number_at(&column.numbers, *slot);
-        let reach = reach_of(state, *slot, number, rises)?;
-        first = sooner(state, first, reach, column);
+    for entry in &column.entries {
+        let reach = reach_of(state, entry.at, entry.number, rises)?;
+        first = sooner(state, first, reach);
     }
     Ok(first)
 }
 
-fn sooner(
-    state: &State,
-    first: Option<Reach>,
-    other: Option<Reach>,
-    column: &Solved,
-) -> Option<Reach> {
+fn sooner(state: &State, first: Option<Reach>, other: Option<Reach>) -> Option<Reach> {
     match other {
         None => first,
-        Some(reach) => Some(sooner_reach(state, first, reach, column)),
+        Some(reach) => Some(sooner_reach(state, first, reach)),
     }
 }
 
-fn sooner_reach(state: &State, first: Option<Reach>, reach: Reach, column: &Solved) -> Reach {
+fn sooner_reach(state: &State, first: Option<Reach>, reach: Reach) -> Reach {
     match first {
         None => reach,
-        Some(old) => sooner_one(state, old, reach, column),
+        Some(old) => sooner_one(state, old, reach),
     }
 }
 
-fn sooner_one(state: &State, old: Reach, reach: Reach, column: &Solved) -> Reach {
-    let comes_before = comes_before(state, &reach, &old, column);
+fn sooner_one(state: &State, old: Reach, reach: Reach) -> Reach {
+    let comes_before = comes_before(state, &reach, &old);
     if comes_before { reach } else { old }
 }
 
@@ -120,6 +115,7 @@ fn own_reach(state: &State, q: usize) -> Result<Option<Reach>, Stop> {
         (Some(lower), Some(upper)) => Ok(Some(Reach {
             length: difference(upper, lower)?,
             by: Stopping::Own,
+            number: Frac::zero(),
         })),
         _ => Ok(None),
     }
@@ -140,36 +136,36 @@ fn reach_of(state: &State, slot: usize, number: Frac, rises: bool) -> Result<Opt
             let room = if is_beyond { Frac::zero() } else { room };
             let length = quotient(room, number)?.abs();
             let by = Stopping::Slot(slot, goes_up);
-            Ok(Some(Reach { length, by }))
+            Ok(Some(Reach { length, by, number }))
         }
     }
 }
 
 // The shorter one comes first; of equal ones its own bound, then the largest entry.
-fn comes_before(state: &State, reach: &Reach, old: &Reach, column: &Solved) -> bool {
+fn comes_before(state: &State, reach: &Reach, old: &Reach) -> bool {
     if reach.length == old.length {
-        ranks_before(state, reach.by, old.by, column)
+        ranks_before(state, reach, old)
     } else {
         reach.length < old.length
     }
 }
 
-fn ranks_before(state: &State, by: Stopping, old: Stopping, column: &Solved) -> bool {
-    match (by, old) {
+fn ranks_before(state: &State, reach: &Reach, old: &Reach) -> bool {
+    match (reach.by, old.by) {
         (Stopping::Slot(slot, _), Stopping::Slot(other, _)) => {
             if state.is_careful() {
                 state.variable_at(slot) < state.variable_at(other)
             } else {
-                slot_key(state, slot, column) > slot_key(state, other, column)
+                slot_key(state, slot, reach.number) > slot_key(state, other, old.number)
             }
         }
         _ => false,
     }
 }
 
-fn slot_key(state: &State, slot: usize, column: &Solved) -> i32 {
+fn slot_key(state: &State, slot: usize, number: Frac) -> i32 {
     let unit = state.unit_of(state.variable_at(slot));
-    state.tie_key(number_at(&column.numbers, slot), 0i32.saturating_sub(unit))
+    state.tie_key(number, 0i32.saturating_sub(unit))
 }
 
 // ---- the step itself

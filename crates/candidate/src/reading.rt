@@ -10,7 +10,7 @@ use certificate::{Item, Items, Weights};
 use fraction::Frac;
 use instance::{Column, Point};
 use search_node::Basis;
-use sparse_factors::{Stop, add, number_at, put, zeros};
+use sparse_factors::{Entry, Stop, add, number_at, put, zeros};
 use std::alloc::{AllocError, Global};
 use tableau::{Model, State, places_of, prices_at};
 
@@ -20,8 +20,7 @@ pub(crate) fn bound(alloc: Global, state: &State) -> Result<Candidate, Stop> {
 }
 
 fn cost_weights(alloc: Global, state: &State) -> Result<Weights, Stop> {
-    let y = state.row_weights(alloc, &state.model.costs)?;
-    let prices = prices_at(alloc, &state.model, &y, &state.model.costs)?;
+    let prices = state.true_prices(alloc)?;
     weights(alloc, &state.model, &prices)
 }
 
@@ -65,8 +64,7 @@ fn row_of(alloc: Global, state: &State, column: usize) -> Result<Weights, Stop> 
     put(&mut unit, column, Frac::one());
     let y = state.row_weights(alloc, &unit)?;
     let none = zeros(alloc, state.model.size())?;
-    let mut prices = prices_at(alloc, &state.model, &y, &none)?;
-    put(&mut prices, column, Frac::zero());
+    let prices = state.resting_prices(alloc, &y, &none)?;
     weights(alloc, &state.model, &prices)
 }
 
@@ -76,7 +74,8 @@ pub(crate) fn contradiction(
     state: &State,
     blocked: &Blocked,
 ) -> Result<Candidate, Stop> {
-    let y = turned(alloc, &blocked.row.numbers, blocked.above)?;
+    let row = &blocked.row.entries;
+    let y = row_weights(alloc, row, state.model.matrix.rows, blocked.above)?;
     let none = zeros(alloc, state.model.size())?;
     let prices = prices_at(alloc, &state.model, &y, &none)?;
     Ok(Candidate::Infeasible(weights(alloc, &state.model, &prices)?))
@@ -104,10 +103,10 @@ pub(crate) fn endless_ray(
 
 // The basic columns move along.
 fn follow(ray: &mut [Frac], state: &State, endless: &Endless) {
-    for slot in &endless.column.used {
-        let number = number_at(&endless.column.numbers, *slot);
+    for entry in &endless.column.entries {
+        let number = entry.number;
         let way = if endless.rises { number.neg() } else { number };
-        put(ray, state.variable_at(*slot), way);
+        put(ray, state.variable_at(entry.at), way);
     }
 }
 
@@ -119,13 +118,18 @@ fn point(alloc: Global, state: &State) -> Result<Point, Stop> {
     Ok(Point::from_vec(numbers))
 }
 
-// The numbers, or all of them with the sign turned.
-fn turned(alloc: Global, row: &[Frac], keep: bool) -> Result<Vec<Frac>, Stop> {
-    let mut numbers = Vec::with_capacity(alloc, row.len())?;
-    for number in row {
-        add(&mut numbers, if keep { *number } else { number.neg() })?;
+// The numbers of a row as weights of all rows, or all of them with the sign turned.
+fn row_weights(alloc: Global, row: &[Entry], rows: usize, keep: bool) -> Result<Vec<Frac>, Stop> {
+    let mut weights = zeros(alloc, rows)?;
+    for entry in row {
+        let number = entry.number;
+        put(
+            &mut weights,
+            entry.at,
+            if keep { number } else { number.neg() },
+        );
     }
-    Ok(numbers)
+    Ok(weights)
 }
 
 // The weights that the prices of all variables are: of a row minus the price, since its variable is minus its value.

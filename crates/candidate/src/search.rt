@@ -79,6 +79,7 @@ fn begin(state: &mut State, alloc: Global) -> Result<(), Stop> {
             shift_costs(state, &wrong)?;
         }
     }
+    state.objective = objective(state).ok();
     Ok(())
 }
 
@@ -88,6 +89,7 @@ fn finish(state: &mut State, alloc: Global) -> Result<End, Stop> {
         state.costs = copied(alloc, &state.model.costs)?;
         state.costs_are_shifted = false;
         state.find_prices(alloc)?;
+        state.objective = objective(state).ok();
         state.stalls = 0;
     }
     primal_phase(state, alloc)
@@ -178,6 +180,13 @@ fn is_at_least(state: &State, least: &Frac) -> bool {
 
 /// The objective's value at the basis, for the true costs.
 pub(crate) fn objective(state: &State) -> Result<Frac, Stop> {
+    match state.objective {
+        Some(value) => Ok(value),
+        None => sum_of_costs(state),
+    }
+}
+
+fn sum_of_costs(state: &State) -> Result<Frac, Stop> {
     let mut value = Frac::zero();
     for v in 0..state.model.matrix.columns {
         value = fused(state.model.cost_of(v), state.value_of(v), value)?;

@@ -1,14 +1,15 @@
 // Small costs for a start from the rows.
-use sparse_factors::{Stop, number_at, put, quotient, sum, whole};
+use sparse_factors::{Stop, number_at, put, sum, whole};
 use tableau::State;
 
 /// Adds a small cost to each resting variable, in the direction that keeps its price right, so that hardly a step of the dual phase
-/// has length 0. The true costs are taken again behind the phase.
+/// has length 0. The true costs, all of which are 0, are taken again behind the phase, so the small ones are whole numbers, from 64 to
+/// 127.
 pub(crate) fn spread_costs(state: &mut State) -> Result<(), Stop> {
     state.costs_are_shifted = true;
     for v in 0..state.prices.len() {
         if may_move(state, v) {
-            let small = quotient(whole(spread(v).saturating_add(64))?, whole(64)?)?;
+            let small = whole(spread(v).saturating_add(64))?;
             let small = if state.rests_above(v) {
                 small.neg()
             } else {

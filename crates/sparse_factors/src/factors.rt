@@ -1,7 +1,7 @@
 // Factors of a basis, B = L U, with a list of the columns that were exchanged since. Slots are named by the rows of
 // their pivots; the rows' own variables are unit columns and cost nothing.
 use crate::elimination::Elimination;
-use crate::lists::{Entry, Lists};
+use crate::lists::{Entry, Lists, number_in};
 use crate::matrix::Matrix;
 use crate::numbers::quotient;
 use crate::stop::Stop;
@@ -26,9 +26,19 @@ pub struct Factors {
     lower_rows: Lists,
     upper_columns: Lists,
     upper_rows: Lists,
-    slack_rows: Vec<usize>,
+    passes: Passes,
     changes: Vec<Change>,
     change_entries: Lists,
+}
+
+// The places in `order`, or the rows there, at which a pass has something to do: most lists are empty, and most pivots are 1.
+#[derive(Drop)]
+struct Passes {
+    lower_places: Vec<usize>,
+    lower_rows: Vec<usize>,
+    upper_places: Vec<usize>,
+    upper_rows: Vec<usize>,
+    slack_rows: Vec<usize>,
 }
 
 /// The factors of a basis, and the variable of each slot.
@@ -56,6 +66,13 @@ pub fn factorise(alloc: Global, matrix: &Matrix, basic: &[usize]) -> Result<Fact
     let lower_rows = lower.turned(alloc, &order, matrix.rows)?;
     let upper_rows = upper.turned(alloc, &order, matrix.rows)?;
     let slots = all_slots(alloc, matrix, &slots)?;
+    let passes = Passes {
+        lower_places: filled_lists(alloc, &lower)?,
+        lower_rows: with_lists(alloc, &order, &lower_rows)?,
+        upper_places: dividing_places(alloc, &order, &inverses, &upper)?,
+        upper_rows: dividing_rows(alloc, &order, &inverses, &upper_rows)?,
+        slack_rows: with_lists(alloc, &slack_rows, &upper_rows)?,
+    };
     let factors = Factors {
         order,
         inverses,
@@ -63,7 +80,7 @@ pub fn factorise(alloc: Global, matrix: &Matrix, basic: &[usize]) -> Result<Fact
         lower_rows,
         upper_columns: upper,
         upper_rows,
-        slack_rows,
+        passes,
         changes: Vec::new(alloc),
         change_entries: Lists::new(alloc),
     };
@@ -91,6 +108,60 @@ fn all_slots(alloc: Global, matrix: &Matrix, slots: &[Option<usize>]) -> Result<
     Ok(all)
 }
 
+// The lists that have entries.
+fn filled_lists(alloc: Global, lists: &Lists) -> Result<Vec<usize>, Stop> {
+    let mut places = Vec::new(alloc);
+    for k in 0..lists.count() {
+        if !lists.list(k).is_empty() {
+            add(&mut places, k)?;
+        }
+    }
+    Ok(places)
+}
+
+// Those of these rows whose lists have entries.
+fn with_lists(alloc: Global, rows: &[usize], lists: &Lists) -> Result<Vec<usize>, Stop> {
+    let mut kept = Vec::new(alloc);
+    for row in rows {
+        if !lists.list(*row).is_empty() {
+            add(&mut kept, *row)?;
+        }
+    }
+    Ok(kept)
+}
+
+// The places whose pivots are not 1 or whose lists have entries.
+fn dividing_places(
+    alloc: Global,
+    order: &[usize],
+    inverses: &[Frac],
+    lists: &Lists,
+) -> Result<Vec<usize>, Stop> {
+    let mut places = Vec::new(alloc);
+    for k in 0..order.len() {
+        if number_at(inverses, order[k]) != Frac::one() || !lists.list(k).is_empty() {
+            add(&mut places, k)?;
+        }
+    }
+    Ok(places)
+}
+
+// The rows whose pivots are not 1 or whose lists have entries.
+fn dividing_rows(
+    alloc: Global,
+    order: &[usize],
+    inverses: &[Frac],
+    lists: &Lists,
+) -> Result<Vec<usize>, Stop> {
+    let mut rows = Vec::new(alloc);
+    for row in order {
+        if number_at(inverses, *row) != Frac::one() || !lists.list(*row).is_empty() {
+            add(&mut rows, *row)?;
+        }
+    }
+    Ok(rows)
+}
+
 impl Factors {
     /// No change came since the basis was factored.
     pub fn is_fresh(&self) -> bool {
@@ -107,16 +178,13 @@ impl Factors {
         self.changes.len() >= most || self.change_entries.entry_count() / 2 > room
     }
 
-    /// A column takes a slot: its numbers as slots give them, and the places of those that are not 0.
-    pub fn exchange(&mut self, slot: usize, x: &[Frac], used: &[usize]) -> Result<(), Stop> {
-        let inverse = quotient(Frac::one(), number_at(x, slot))?;
+    /// A column takes a slot: its numbers other than 0, by slots.
+    pub fn exchange(&mut self, slot: usize, column: &[Entry]) -> Result<(), Stop> {
+        let inverse = quotient(Frac::one(), number_in(column, slot))?;
         add(&mut self.changes, Change { slot, inverse })?;
-        for place in used {
-            if *place != slot {
-                self.change_entries.put(Entry {
-                    at: *place,
-                    number: number_at(x, *place),
-                })?;
+        for entry in column {
+            if entry.at != slot {
+                self.change_entries.put(*entry)?;
             }
         }
         self.change_entries.close()
@@ -132,17 +200,18 @@ impl Factors {
     }
 
     fn lower_forward<U: Unknowns>(&self, x: &mut U) -> Result<(), Stop> {
-        for k in 0..self.order.len() {
-            let row = self.order[k];
+        for k in &self.passes.lower_places {
+            let row = at(&self.order, *k, 0);
             if !x.is_zero(row) {
-                x.subtract_multiple(self.lower_columns.list(k), row)?;
+                x.subtract_multiple(self.lower_columns.list(*k), row)?;
             }
         }
         Ok(())
     }
 
     fn upper_backward<U: Unknowns>(&self, x: &mut U) -> Result<(), Stop> {
-        for k in (0..self.order.len()).rev() {
+        for i in (0..self.passes.upper_places.len()).rev() {
+            let k = at(&self.passes.upper_places, i, 0);
             let row = at(&self.order, k, 0);
             if !x.is_zero(row) {
                 x.multiply(row, number_at(&self.inverses, row))?;
@@ -187,7 +256,7 @@ impl Factors {
     }
 
     fn slacks_forward<U: Unknowns>(&self, y: &mut U) -> Result<(), Stop> {
-        for row in &self.slack_rows {
+        for row in &self.passes.slack_rows {
             if !y.is_zero(*row) {
                 y.subtract_multiple(self.upper_rows.list(*row), *row)?;
             }
@@ -196,7 +265,7 @@ impl Factors {
     }
 
     fn upper_forward<U: Unknowns>(&self, y: &mut U) -> Result<(), Stop> {
-        for row in &self.order {
+        for row in &self.passes.upper_rows {
             if !y.is_zero(*row) {
                 y.multiply(*row, number_at(&self.inverses, *row))?;
                 y.subtract_multiple(self.upper_rows.list(*row), *row)?;
@@ -206,8 +275,8 @@ impl Factors {
     }
 
     fn lower_backward<U: Unknowns>(&self, y: &mut U) -> Result<(), Stop> {
-        for k in (0..self.order.len()).rev() {
-            let row = at(&self.order, k, 0);
+        for i in (0..self.passes.lower_rows.len()).rev() {
+            let row = at(&self.passes.lower_rows, i, 0);
             if !y.is_zero(row) {
                 y.subtract_multiple(self.lower_rows.list(row), row)?;
             }

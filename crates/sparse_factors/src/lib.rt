@@ -17,12 +17,10 @@ mod vectors;
 
 pub use factors::{Factored, Factors, factorise};
 pub use fractions::Fractions;
-pub use lists::{Entry, Lists};
+pub use lists::{Entry, Lists, entries_of, number_in};
 pub use matrix::Matrix;
 pub use numbers::{difference, digits, fused, log, product, quotient, sum, whole};
 pub use scaled::Scaled;
 pub use stop::Stop;
 pub use unknowns::Unknowns;
-pub use vectors::{
-    add, add_to, at, copied, empty_lists, filled, nonzero_places, number_at, put, zeros,
-};
+pub use vectors::{add, add_to, at, copied, empty_lists, filled, number_at, put, zeros};

@@ -11,6 +11,28 @@ pub struct Entry {
     pub number: Frac,
 }
 
+/// The number that belongs to a place, or 0.
+pub fn number_in(entries: &[Entry], place: usize) -> Frac {
+    for entry in entries {
+        if entry.at == place {
+            return entry.number;
+        }
+    }
+    Frac::zero()
+}
+
+/// The numbers of a list that are not 0, with their places.
+pub fn entries_of(alloc: Global, list: &[Frac]) -> Result<Vec<Entry>, Stop> {
+    let mut entries = Vec::new(alloc);
+    for at in 0..list.len() {
+        let number = list[at];
+        if !number.is_zero() {
+            add(&mut entries, Entry { at, number })?;
+        }
+    }
+    Ok(entries)
+}
+
 /// Lists of entries, one after the other.
 #[derive(Drop)]
 pub struct Lists {

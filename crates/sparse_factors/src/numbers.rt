@@ -48,6 +48,7 @@ fn fraction_product(a: Frac, b: Frac) -> Result<Frac, Stop> {
 }
 
 /// t a + b, exact where the value fits.
+#[inline]
 pub fn fused(t: Frac, a: Frac, b: Frac) -> Result<Frac, Stop> {
     if t.is_zero() || a.is_zero() {
         return Ok(b);

@@ -3,7 +3,7 @@ use crate::lists::Entry;
 use crate::numbers::{checked_times, product, quotient, whole};
 use crate::stop::Stop;
 use crate::unknowns::Unknowns;
-use crate::vectors::{add, at, filled, put};
+use crate::vectors::{add, at, filled, put, zeros};
 use fraction::Frac;
 use std::alloc::Global;
 
@@ -32,38 +32,81 @@ impl Scaled {
         })
     }
 
-    /// These numbers.
-    pub fn of(alloc: Global, numbers: &[Frac]) -> Result<Scaled, Stop> {
-        let scale = common_denominator(numbers)?;
-        let factor = whole(scale)?;
-        let mut all = Vec::with_capacity(alloc, numbers.len())?;
-        for number in numbers {
-            add(&mut all, product(*number, factor)?.parts().0)?;
-        }
+    // So many zeros.
+    fn zeros(alloc: Global, count: usize, scale: i128) -> Result<Scaled, Stop> {
         Ok(Scaled {
-            numbers: all,
+            numbers: filled(alloc, count, 0)?,
             scale,
             room: ROOM,
         })
     }
 
+    /// These numbers.
+    pub fn of(alloc: Global, numbers: &[Frac]) -> Result<Scaled, Stop> {
+        let mut scaled = Scaled::zeros(alloc, numbers.len(), denominator_of(numbers)?)?;
+        for place in 0..numbers.len() {
+            scaled.set(place, numbers[place])?;
+        }
+        Ok(scaled)
+    }
+
+    /// So many numbers, of which the entries are the ones other than 0.
+    pub fn of_entries(alloc: Global, count: usize, entries: &[Entry]) -> Result<Scaled, Stop> {
+        let mut scaled = Scaled::zeros(alloc, count, denominator_in(entries)?)?;
+        for entry in entries {
+            scaled.set(entry.at, entry.number)?;
+        }
+        Ok(scaled)
+    }
+
+    // Sets the number at a place. The scale is a multiple of its denominator.
+    fn set(&mut self, place: usize, number: Frac) -> Result<(), Stop> {
+        let (numerator, denominator) = number.parts();
+        let scaled = if denominator == self.scale {
+            numerator
+        } else {
+            product(number, whole(self.scale)?)?.parts().0
+        };
+        put(&mut self.numbers, place, scaled);
+        Ok(())
+    }
+
     /// The numbers as fractions.
     pub fn fractions(&self, alloc: Global) -> Result<Vec<Frac>, Stop> {
         let scale = whole(self.scale)?;
-        let mut fractions = Vec::with_capacity(alloc, self.numbers.len())?;
-        for number in &self.numbers {
-            add(&mut fractions, over(*number, scale)?)?;
+        let mut fractions = zeros(alloc, self.numbers.len())?;
+        for place in 0..self.numbers.len() {
+            let number = self.numbers[place];
+            if number != 0 {
+                put(&mut fractions, place, quotient(whole(number)?, scale)?);
+            }
         }
         Ok(fractions)
     }
 
-    /// The whole numbers.
-    pub fn whole_numbers(&self, alloc: Global) -> Result<Vec<Frac>, Stop> {
-        let mut numbers = Vec::with_capacity(alloc, self.numbers.len())?;
-        for number in &self.numbers {
-            add(&mut numbers, whole(*number)?)?;
+    /// The numbers other than 0, as fractions.
+    pub fn entries(&self, alloc: Global) -> Result<Vec<Entry>, Stop> {
+        let scale = whole(self.scale)?;
+        let mut entries = Vec::new(alloc);
+        for at in 0..self.numbers.len() {
+            if self.numbers[at] != 0 {
+                let number = quotient(whole(self.numbers[at])?, scale)?;
+                add(&mut entries, Entry { at, number })?;
+            }
         }
-        Ok(numbers)
+        Ok(entries)
+    }
+
+    /// The same, times the scale.
+    pub fn whole_entries(&self, alloc: Global) -> Result<Vec<Entry>, Stop> {
+        let mut entries = Vec::new(alloc);
+        for at in 0..self.numbers.len() {
+            if self.numbers[at] != 0 {
+                let number = whole(self.numbers[at])?;
+                add(&mut entries, Entry { at, number })?;
+            }
+        }
+        Ok(entries)
     }
 
     // The number at a place, divided; all are scaled where it is not whole.
@@ -162,32 +205,54 @@ impl Unknowns for Scaled {
     }
 }
 
-/// The least common denominator of the numbers.
-pub fn common_denominator(numbers: &[Frac]) -> Result<i128, Stop> {
+// The least common denominator of the numbers.
+fn denominator_of(numbers: &[Frac]) -> Result<i128, Stop> {
     let mut common = 1;
     for number in numbers {
-        let denominator = number.parts().1;
-        if denominator != 1 {
-            let (factor, _) = quotient(whole(denominator)?, whole(common)?)?.parts();
-            common = times(common, factor)?;
-        }
+        common = joined(common, *number)?;
     }
     Ok(common)
 }
 
+// That of the entries' numbers.
+fn denominator_in(entries: &[Entry]) -> Result<i128, Stop> {
+    let mut common = 1;
+    for entry in entries {
+        common = joined(common, entry.number)?;
+    }
+    Ok(common)
+}
+
+// The least multiple that a number's denominator has with another one.
+fn joined(common: i128, number: Frac) -> Result<i128, Stop> {
+    let denominator = number.parts().1;
+    if denominator == 1 {
+        return Ok(common);
+    }
+    let (factor, _) = quotient(whole(denominator)?, whole(common)?)?.parts();
+    times(common, factor)
+}
+
 // The quotient's numerator and denominator in lowest terms.
 fn lowest(number: i128, divisor: i128) -> Result<(i128, i128), Stop> {
-    match (number.checked_rem(divisor), number.checked_div(divisor)) {
-        (Some(0), Some(share)) => Ok((share, 1)),
-        _ => Ok(quotient(whole(number)?, whole(divisor)?)?.parts()),
+    match whole_share(number, divisor) {
+        Some(share) => Ok((share, 1)),
+        None => Ok(quotient(whole(number)?, whole(divisor)?)?.parts()),
     }
 }
 
-fn over(number: i128, scale: Frac) -> Result<Frac, Stop> {
-    if number == 0 {
-        return Ok(Frac::zero());
+// The quotient, where it is whole: by words where both are such.
+fn whole_share(number: i128, divisor: i128) -> Option<i128> {
+    match (i64::try_from(number), i64::try_from(divisor)) {
+        (Ok(n), Ok(d)) => match n.checked_rem(d) {
+            Some(0) => Some(i128::from(n.checked_div(d)?)),
+            _ => None,
+        },
+        _ => match number.checked_rem(divisor) {
+            Some(0) => number.checked_div(divisor),
+            _ => None,
+        },
     }
-    quotient(whole(number)?, scale)
 }
 
 fn times(a: i128, b: i128) -> Result<i128, Stop> {

@@ -104,14 +104,3 @@ pub(crate) fn count_down(counts: &mut [usize], place: usize) -> usize {
     put(counts, place, left);
     left
 }
-
-/// The places of the numbers that are not 0.
-pub fn nonzero_places(alloc: Global, list: &[Frac]) -> Result<Vec<usize>, Stop> {
-    let mut places = Vec::new(alloc);
-    for place in 0..list.len() {
-        if !list[place].is_zero() {
-            add(&mut places, place)?;
-        }
-    }
-    Ok(places)
-}

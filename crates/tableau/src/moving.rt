@@ -1,25 +1,31 @@
 // Values, prices and the basis, as steps change them.
 use crate::model::Model;
-use crate::state::State;
+use crate::state::{Mark, State};
 use fraction::Frac;
 use lifted_systems::{lifted_columns, lifted_rows};
 use sparse_factors::{
-    Entry, Fractions, Scaled, Stop, add, at, copied, difference, fused, nonzero_places, number_at,
-    product, put, quotient, sum, whole, zeros,
+    Entry, Fractions, Scaled, Stop, add, at, copied, difference, entries_of, fused, number_at,
+    number_in, product, put, quotient, sum, whole, zeros,
 };
 use std::alloc::Global;
 
-/// A column by slots: how the basic variables fall where its variable rises by 1.
+/// A column's numbers other than 0, by slots: how the basic variables fall where its variable rises by 1.
 #[derive(Drop)]
 pub struct Solved {
-    pub numbers: Vec<Frac>,
-    pub used: Vec<usize>,
+    pub entries: Vec<Entry>,
 }
 
-/// A slot's row of the inverse, times a scale that is above 0.
+impl Solved {
+    /// The number at a slot.
+    pub fn at(&self, slot: usize) -> Frac {
+        number_in(&self.entries, slot)
+    }
+}
+
+/// The numbers other than 0 of a slot's row of the inverse, times a scale that is above 0.
 #[derive(Drop)]
 pub struct Row {
-    pub numbers: Vec<Frac>,
+    pub entries: Vec<Entry>,
     pub scale: Frac,
 }
 
@@ -75,6 +81,19 @@ pub fn prices_at(
         add(&mut prices, reduced(model, y, v, costs[v])?)?;
     }
     Ok(prices)
+}
+
+// Whether the variable may have a number in the row, which is noted.
+fn is_open(v: usize, marks: &mut [Mark], touched: &mut Vec<usize>) -> Result<bool, Stop> {
+    match at(marks, v, Mark::Closed) {
+        Mark::Closed => Ok(false),
+        Mark::Touched => Ok(true),
+        Mark::Open => {
+            put(marks, v, Mark::Touched);
+            add(touched, v)?;
+            Ok(true)
+        }
+    }
 }
 
 impl State {
@@ -134,6 +153,7 @@ impl State {
 
     /// Finds the values of the basic variables anew.
     pub fn find_values(&mut self, alloc: Global) -> Result<(), Stop> {
+        self.objective = None;
         let mut x = zeros(alloc, self.model.matrix.rows)?;
         for v in 0..self.values.len() {
             let value = self.values[v];
@@ -176,15 +196,65 @@ impl State {
         Ok(())
     }
 
+    /// The prices of the variables that rest, and 0 for the others, at these weights of rows and for these costs.
+    pub fn resting_prices(
+        &self,
+        alloc: Global,
+        y: &[Frac],
+        costs: &[Frac],
+    ) -> Result<Vec<Frac>, Stop> {
+        let mut prices = zeros(alloc, costs.len())?;
+        for v in 0..costs.len() {
+            if !self.is_basic(v) {
+                put(&mut prices, v, reduced(&self.model, y, v, costs[v])?);
+            }
+        }
+        Ok(prices)
+    }
+
+    /// The prices of all variables, for the true costs: steps keep them up to date but for those of fixed variables, and where costs
+    /// are shifted.
+    pub fn true_prices(&self, alloc: Global) -> Result<Vec<Frac>, Stop> {
+        let y = self.row_weights(alloc, &self.model.costs)?;
+        if self.costs_are_shifted {
+            return self.resting_prices(alloc, &y, &self.model.costs);
+        }
+        let mut prices = copied(alloc, &self.prices)?;
+        for v in 0..prices.len() {
+            if self.is_fixed(v) && !self.is_basic(v) {
+                prices[v] = reduced(&self.model, &y, v, self.model.cost_of(v))?;
+            }
+        }
+        Ok(prices)
+    }
+
     // ---- rows and columns of the table
 
     /// The column of a variable by slots.
     pub fn solved_column(&self, alloc: Global, v: usize) -> Result<Solved, Stop> {
-        let mut numbers = zeros(alloc, self.model.matrix.rows)?;
-        add_column(&mut numbers, &self.model, v, Frac::one())?;
-        let numbers = self.solve_columns(alloc, &numbers)?;
-        let used = nonzero_places(alloc, &numbers)?;
-        Ok(Solved { numbers, used })
+        match self.column_over_one(alloc, v) {
+            Err(Stop::NoFit) => self.column_in_fractions(alloc, v),
+            outcome => outcome,
+        }
+    }
+
+    fn column_over_one(&self, alloc: Global, v: usize) -> Result<Solved, Stop> {
+        let matrix = &self.model.matrix;
+        let mut x = match matrix.row_of(v) {
+            Some(row) => Scaled::unit(alloc, matrix.rows, row)?,
+            None => Scaled::of_entries(alloc, matrix.rows, matrix.by_column.list(v))?,
+        };
+        self.factors.solve_columns(&mut x)?;
+        let entries = x.entries(alloc)?;
+        Ok(Solved { entries })
+    }
+
+    fn column_in_fractions(&self, alloc: Global, v: usize) -> Result<Solved, Stop> {
+        let mut column = zeros(alloc, self.model.matrix.rows)?;
+        add_column(&mut column, &self.model, v, Frac::one())?;
+        let numbers = self.columns_in_fractions(alloc, &column)?;
+        let entries = entries_of(alloc, &numbers)?;
+        Ok(Solved { entries })
     }
 
     /// Finds a slot's row of the inverse, and from it the numbers of its row of the table, for the resting variables that
@@ -205,7 +275,7 @@ impl State {
     fn find_scaled_entries(&mut self, alloc: Global, y: &Scaled) -> Result<Row, Stop> {
         let row = Row {
             scale: whole(y.scale)?,
-            numbers: y.whole_numbers(alloc)?,
+            entries: y.whole_entries(alloc)?,
         };
         self.find_entries(&row)?;
         Ok(row)
@@ -220,7 +290,7 @@ impl State {
         }
         let row = Row {
             scale: Frac::one(),
-            numbers,
+            entries: entries_of(alloc, &numbers)?,
         };
         self.find_entries(&row)?;
         Ok(row)
@@ -240,10 +310,8 @@ impl State {
     fn find_entries(&mut self, row: &Row) -> Result<(), Stop> {
         self.clear_entries();
         self.scale = row.scale;
-        for place in 0..row.numbers.len() {
-            if !row.numbers[place].is_zero() {
-                self.touch_row(place, row.numbers[place])?;
-            }
+        for entry in &row.entries {
+            self.touch_row(entry.at, entry.number)?;
         }
         Ok(())
     }
@@ -252,45 +320,30 @@ impl State {
         for i in 0..self.touched.len() {
             let v = at(&self.touched, i, 0);
             put(&mut self.entries, v, Frac::zero());
-            put(&mut self.is_touched, v, false);
+            if at(&self.marks, v, Mark::Closed) == Mark::Touched {
+                put(&mut self.marks, v, Mark::Open);
+            }
         }
         self.touched.clear();
     }
 
     fn touch_row(&mut self, row: usize, y: Frac) -> Result<(), Stop> {
-        let own = self.model.matrix.variable_of(row);
-        self.touch(own, y, Frac::one())?;
         let State {
             model,
-            places,
-            is_fixed,
             entries,
             touched,
-            is_touched,
+            marks,
             ..
         } = self;
+        let own = model.matrix.variable_of(row);
+        if is_open(own, marks, touched)? {
+            put(entries, own, y);
+        }
         for entry in model.matrix.by_row.list(row) {
             let v = entry.at;
-            if v < entries.len() && at(places, v, None).is_none() && !at(is_fixed, v, false) {
+            if v < entries.len() && is_open(v, marks, touched)? {
                 entries[v] = fused(y, entry.number, entries[v])?;
-                if !at(is_touched, v, true) {
-                    put(is_touched, v, true);
-                    add(touched, v)?;
-                }
             }
-        }
-        Ok(())
-    }
-
-    fn touch(&mut self, v: usize, y: Frac, number: Frac) -> Result<(), Stop> {
-        if self.is_basic(v) || self.is_fixed(v) {
-            return Ok(());
-        }
-        let old = number_at(&self.entries, v);
-        put(&mut self.entries, v, fused(y, number, old)?);
-        if !at(&self.is_touched, v, true) {
-            put(&mut self.is_touched, v, true);
-            add(&mut self.touched, v)?;
         }
         Ok(())
     }
@@ -302,16 +355,25 @@ impl State {
         if t.is_zero() {
             return Ok(());
         }
+        self.follow_objective(t, q);
         let back = t.neg();
-        for slot in &column.used {
-            let v = self.variable_at(*slot);
-            let value = fused(back, number_at(&column.numbers, *slot), self.value_of(v))?;
+        for entry in &column.entries {
+            let v = self.variable_at(entry.at);
+            let value = fused(back, entry.number, self.value_of(v))?;
             put(&mut self.values, v, value);
-            self.look_at(*slot);
+            self.look_at(entry.at);
         }
         let value = sum(self.value_of(q), t)?;
         put(&mut self.values, q, value);
         Ok(())
+    }
+
+    // The objective's value, where a resting variable rises by t.
+    fn follow_objective(&mut self, t: Frac, v: usize) {
+        self.objective = match self.objective {
+            Some(value) if !self.costs_are_shifted => fused(t, self.price_of(v), value).ok(),
+            _ => None,
+        };
     }
 
     /// Changes the prices where q becomes basic and the variable `out` rests.
@@ -378,7 +440,9 @@ impl State {
         put(&mut self.places, out, None);
         put(&mut self.places, q, Some(slot));
         put(&mut self.slots, slot, q);
-        self.factors.exchange(slot, &column.numbers, &column.used)?;
+        self.mark(out);
+        self.mark(q);
+        self.factors.exchange(slot, &column.entries)?;
         self.look_at(slot);
         if self.is_worn() {
             self.try_to_refactor(alloc)?;
@@ -394,6 +458,7 @@ impl State {
             let old = self.value_of(*v);
             self.flip(*v);
             let way = difference(old, self.value_of(*v))?;
+            self.follow_objective(way.neg(), *v);
             add_column(&mut x, &self.model, *v, way)?;
         }
         let x = self.solve_columns(alloc, &x)?;

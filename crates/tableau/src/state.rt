@@ -19,11 +19,23 @@ pub enum TieRule {
     Ones,
 }
 
+/// What a row of the table may have of a variable.
+#[derive(Clone, Copy, PartialEq, Eq)]
+pub(crate) enum Mark {
+    /// Nothing: it is basic, or can't move.
+    Closed,
+    Open,
+    /// A number, in the row that was found last.
+    Touched,
+}
+
 // After so many steps of length 0 in a row, and twice as many as there are rows, the least index is taken.
 const PATIENCE: usize = 1000;
 
-// The basis is factored anew after so many steps.
+// The basis is factored anew after so many steps, or a part of the rows, since factoring goes over all of them.
 const STEPS_BETWEEN: usize = 12;
+
+const PART: usize = 200;
 
 /// A basis on the way, and what is known of it.
 #[derive(Drop)]
@@ -46,12 +58,14 @@ pub struct State {
     pub scale: Frac,
     pub entries: Vec<Frac>,
     pub touched: Vec<usize>,
-    pub is_touched: Vec<bool>,
+    pub(crate) marks: Vec<Mark>,
     pub ties: TieRule,
     pub steps_between: usize,
     pub steps_left: u32,
     pub stalls: usize,
     pub costs_are_shifted: bool,
+    // the objective's value for the true costs, where it is known
+    pub objective: Option<Frac>,
 }
 
 impl State {
@@ -73,12 +87,13 @@ impl State {
             scale: Frac::one(),
             entries: zeros(alloc, size)?,
             touched: Vec::new(alloc),
-            is_touched: filled(alloc, size, false)?,
+            marks: filled(alloc, size, Mark::Closed)?,
             ties: TieRule::Largest,
-            steps_between: STEPS_BETWEEN,
+            steps_between: STEPS_BETWEEN.max(model.matrix.rows / PART),
             steps_left: steps,
             stalls: 0,
             costs_are_shifted: false,
+            objective: None,
             model,
         };
         state.mark_fixed();
@@ -214,10 +229,21 @@ impl State {
             put(&mut self.places, v, Some(slot));
         }
         for v in 0..self.values.len() {
+            self.mark(v);
             if !self.is_basic(v) {
                 self.rest(v);
             }
         }
+    }
+
+    // Marks a variable by whether it is basic or fixed. In a row that was found before, it has no number any more.
+    pub(crate) fn mark(&mut self, v: usize) {
+        let mark = if self.is_basic(v) || self.is_fixed(v) {
+            Mark::Closed
+        } else {
+            Mark::Open
+        };
+        put(&mut self.marks, v, mark);
     }
 
     /// Lets a variable rest at its bound, or at 0 where it has none.
