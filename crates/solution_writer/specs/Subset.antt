@@ -4,7 +4,10 @@ use Rattle.std.specs.Fmt.{decimal}
 use Rattle.rational.specs.Rational.{Rational}
 use Rattle.fraction.specs.Text.{text_of}
 use Rattle.milp.specs.Problem.{Column, Row, Problem}
-use Rattle.infeasible_subset.specs.Members.{Side, Lower, Upper, Member, OfRow, OfColumn}
+use Rattle.infeasible_subset.specs.declared.member.Side.{Side}
+use Rattle.infeasible_subset.specs.declared.member.Side.TheVariants.{Lower, Upper}
+use Rattle.infeasible_subset.specs.declared.member.Member.{Member}
+use Rattle.infeasible_subset.specs.declared.member.Member.TheVariants.{OfRow, OfColumn}
 use Rattle.infeasible_subset.specs.declared.witness.Witness.{Witness}
 
 abbrev pub side_text : Side → List ℕ
