@@ -11,9 +11,9 @@ const SUBSETS: &str = "\
 0 INFEASIBLE$iis 1$row a lower$ <- --freemps f --iis <- ROWS$ N cost$ G a$COLUMNS$ x cost 1$RHS$ R a 1$ENDATA$
 0 INFEASIBLE$iis 2$row r.1 upper$column x lower$ <- --lp f --iis <- max$ x + y$st$ 1 <= x <= 2$ x + y <= 9$bounds$ x >= 3$end$
 0 INFEASIBLE$iis 2$row r.1 lower$column x upper$ <- --lp f --iis --nomip <- max$ x$st$ x >= 2.5$bounds$ x <= 2$general$ x$end$
-0 INFEASIBLE$iis 3$row light upper$row heavy upper$row petrol lower$ <- --lp f --iis <- min$ cost: 3 l + 2 h$st$ light: l <= 40$ heavy: h <= 30$ petrol: 0.6 l + 0.4 h >= 37$ diesel: 0.3 l + 0.5 h >= 25$end$
+0 INFEASIBLE$iis 3$row light_supply upper$row heavy_supply upper$row petrol lower$ <- --lp f --iis <- min$ cost: 3 light + 2 heavy$st$ light_supply: light <= 40$ heavy_supply: heavy <= 30$ petrol: 0.6 light + 0.4 heavy >= 37$ diesel: 0.3 light + 0.5 heavy >= 25$end$
 0 INFEASIBLE$iis 5$row send lower$row a upper$row b upper$column at upper$column bt upper$ <- --lp f --iis <- min$ 0 sa$st$ send: sa + sb = 10$ a: sa - ab - at = 0$ b: sb + ab - bt = 0$bounds$ sa <= 8$ sb <= 6$ ab <= 2$ at <= 4$ bt <= 5$end$
-0 INFEASIBLE$iis 5$row need[early] lower$row need[late] lower$row need[night] lower$row most[ann] upper$row most[bob] upper$ <- --math f --iis <- set W; set S; var x{W, S} >= 0, <= 1; s.t. need{s in S}: sum{w in W} x[w,s] >= 1; s.t. most{w in W}: sum{s in S} x[w,s] <= 1; data; set W := ann bob; set S := early late night; end;
+0 INFEASIBLE$iis 5$row need[early] lower$row need[late] lower$row need[night] lower$row most[ann] upper$row most[bob] upper$ <- --math f --iis <- set W; set S; var x{W, S} >= 0; s.t. need{s in S}: sum{w in W} x[w,s] >= 1; s.t. most{w in W}: sum{s in S} x[w,s] <= 1; data; set W := ann bob; set S := early late night; end;
 ";
 
 #[test]
