@@ -133,7 +133,7 @@ module _ (s : Settings) (texts : List (List ℕ)) (p : Problem) (asks : IsAsked 
   unsearched SearchNoMemory h = tt
 
   module _ (wanted : Bool) (wants : wants_subset s.task ≡ wanted) where
-    refuted : (r : IsRefuted p) → IsProved r.certificate s texts
+    abbrev refuted : (r : IsRefuted p) → IsProved r.certificate s texts
     refuted r = record { problem = p; asked = asks; solves = solves; proves = r.proves; accepted = r.accepted }
 
     pub unsolved : (u : Unfound) → IsUnsolved p s wanted u → IsUnfound u s texts
