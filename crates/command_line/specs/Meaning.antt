@@ -71,17 +71,18 @@ direction_by false false = Some None
 abbrev pub direction_in : List Row → Option (Option Direction)
 direction_in rows = direction_by (stands (codes "min") rows) (stands (codes "max") rows)
 
--- the files to be written
+-- the files to be written, and whether a subset is to be found
 abbrev pub outputs_in : List Row → Outputs
 outputs_in rows = record {
   report = first_of (codes "output") rows;
   solution = first_of (codes "write") rows;
   certificate = first_of (codes "cert") rows;
+  subset = stands (codes "iis") rows;
 }
 
--- the task, where no file is to be written
+-- the task, where no file is to be written, and no subset to be found
 abbrev pub alone : Outputs → Task → Option Task
-alone outputs task = option_map_or (λ _. None) outputs.report (option_map_or (λ _. None) outputs.solution (option_map_or (λ _. None) outputs.certificate (Some task)))
+alone outputs task = option_map_or (λ _. None) outputs.report (option_map_or (λ _. None) outputs.solution (option_map_or (λ _. None) outputs.certificate (if outputs.subset then None else Some task)))
 
 abbrev pub task_by : Bool → Option Text → Outputs → Option Task
 task_by false None outputs = Some (Solve outputs)
@@ -89,7 +90,7 @@ task_by false (Some file) outputs = alone outputs (CheckCertificate file)
 task_by true None outputs = alone outputs Translate
 task_by true (Some file) outputs = None
 
--- `--check` and `--checkcert` stand with no file to be written, and not together
+-- `--check` and `--checkcert` stand with no file to be written, without `--iis`, and not together
 abbrev pub task_in : List Row → Option Task
 task_in rows = task_by (stands (codes "check") rows) (first_of (codes "checkcert") rows) (outputs_in rows)
 

@@ -45,7 +45,8 @@ fn command<'a>(alloc: Global) -> Result<Command<'a>, AllocError>
         .arg(option(alloc, "cert"))?
         .arg(option(alloc, "checkcert"))?
         .arg(option(alloc, "nodlim"))?
-        .arg(option(alloc, "pivlim"))
+        .arg(option(alloc, "pivlim"))?
+        .arg(flag(alloc, "iis"))
 }
 
 /// `--name`.

@@ -171,12 +171,17 @@ fn task_by(translates: bool, certificate: Option<Name>, outputs: Outputs) -> Opt
     }
 }
 
-// The task, where no file is to be written.
+// The task, where no file is to be written, and no subset to be found.
 fn alone(outputs: Outputs, task: Task) -> Option<Task>
     ensures { result ≡ alone outputs task }
 {
-    match (outputs.report, outputs.solution, outputs.certificate) {
-        (None, None, None) => Some(task),
+    match (
+        outputs.report,
+        outputs.solution,
+        outputs.certificate,
+        outputs.subset,
+    ) {
+        (None, None, None, false) => Some(task),
         _ => None,
     }
 }
@@ -257,6 +262,7 @@ fn outputs_in(alloc: Global, matches: &ArgMatches<'_>) -> Result<Outputs, AllocE
         report: name_in(alloc, matches, "output")?,
         solution: name_in(alloc, matches, "write")?,
         certificate: name_in(alloc, matches, "cert")?,
+        subset: stands(matches, "iis"),
     })
 }
 

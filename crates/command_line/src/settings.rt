@@ -52,7 +52,7 @@ pub enum Task {
     CheckCertificate(Name),
 }
 
-/// The files that are written when a model is solved.
+/// What is written when a model is solved, beside the report that is printed.
 #[derive(Drop)]
 pub struct Outputs {
     /// The file of the report, which is printed too.
@@ -61,6 +61,8 @@ pub struct Outputs {
     pub solution: Option<Name>,
     /// The file of the certificate.
     pub certificate: Option<Name>,
+    /// Where no point is feasible, the report goes on with an irreducible infeasible subset.
+    pub subset: bool,
 }
 
 /// Why words gave no settings.

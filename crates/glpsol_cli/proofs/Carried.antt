@@ -10,32 +10,34 @@ use Rattle.verdicts.specs.Certificate as kind
 use Rattle.gmpl_generate.specs.declared.fault.ModelFault.{ModelFault}
 use Rattle.outside.specs.Told.{AppendsPrefix}
 use Rattle.branch_search.specs.declared.whole_fault.VerdictFault.TheVariants.{NoFit as SearchNoFit, PivotLimit, SplitLimit, NoMemory as SearchNoMemory}
+use Rattle.infeasible_subset.specs.declared.fault.SubsetFault.TheVariants.{NoFit as SubsetNoFit, PivotLimit as SubsetPivotLimit, NoMemory as SubsetNoMemory}
+use Rattle.infeasible_subset.specs.declared.witness.Subset.{Subset as FoundSubset}
 use Rattle.solution_writer.specs.Report.{IsShownPoint}
 use Rattle.command_line.specs.declared.settings.Settings.{Settings}
 use Rattle.glpsol_cli.specs.Asked.{ToldNames, names_read}
 use Rattle.glpsol_cli.specs.Pieces.{Piece, Outside, SameNames, AllWritten, WrittenUpTo, Whole}
 use Rattle.glpsol_cli.specs.Meaning.{Behind, Declared, IsAsked, Meaning, behind_at, behind_of, found_pieces, meaning_in, meaning_of}
-use Rattle.glpsol_cli.specs.Cause.{Cause, EndsBehind, IsProved, IsTranslated, reached_of}
+use Rattle.glpsol_cli.specs.Cause.{Cause, EndsBehind, HasSubset, IsProved, IsTranslated, reached_of}
 use Rattle.glpsol_cli.specs.Written.{Written, ThenLine, extent_of, line_of}
 use Rattle.glpsol_cli.specs.Stages.{EndsWriting, HasFailed, IsEndBehind, IsEndIn, IsFinding, IsKept, IsPublished, IsStop, IsSubject, IsUnfound, LeftIn, LeftWritten, RestWritten, TellsBehind, behind_in, best_answer, pieces_of, reached_by, stop_answer, unfound_answer, unwritten_answer}
 use Rattle.glpsol_cli.specs.Together.{CauseIn, PiecesIn, ReachedIn}
 use Rattle.glpsol_cli.specs.declared.answer.Answer.{Answer}
-use Rattle.glpsol_cli.specs.declared.answer.Answer.TheVariants.{Infeasible, Unbounded, Translated, Accepted, BadText, NoMemory}
+use Rattle.glpsol_cli.specs.declared.answer.Answer.TheVariants.{Infeasible, Irreducible, Unbounded, Translated, Accepted, BadText, NoMemory}
 use Rattle.glpsol_cli.specs.declared.answer.Reached.{Reached}
-use Rattle.glpsol_cli.specs.declared.answer.Reached.TheVariants.{Nothing, Executed, Size, Acceptance, Verdict}
+use Rattle.glpsol_cli.specs.declared.answer.Reached.TheVariants.{Nothing, Executed, Size, Acceptance, Verdict, Subset}
 use Rattle.glpsol_cli.specs.declared.answer.TextFault.{TextFault}
 use Rattle.glpsol_cli.specs.declared.behind.Behind.{Behind as BehindHeld}
 use Rattle.glpsol_cli.specs.declared.execution.ExecutionEnd.TheVariants.{Problem as AtProblem, Fault as AtFault}
 use Rattle.glpsol_cli.specs.declared.execution.Later.{Later}
 use Rattle.glpsol_cli.specs.declared.found.Finding.{Finding}
-use Rattle.glpsol_cli.specs.declared.found.Finding.TheVariants.{Size as SizeFound, Acceptance as AcceptanceFound, Verdict as VerdictFound}
+use Rattle.glpsol_cli.specs.declared.found.Finding.TheVariants.{Size as SizeFound, Acceptance as AcceptanceFound, Verdict as VerdictFound, Subset as SubsetFound}
 use Rattle.glpsol_cli.specs.declared.answer.Target.TheVariants.{Out}
 use Rattle.glpsol_cli.specs.declared.publish.PublishFault.{PublishFault}
 use Rattle.glpsol_cli.specs.declared.publish.PublishFault.TheVariants.{Write, CutOutput, NoMemory as PublishNoMemory}
 use Rattle.glpsol_cli.specs.declared.stop.CheckStop.TheVariants.{BadText as CheckBadText, Refused as CheckRefused, NoFit as CheckNoFit, NoMemory as CheckNoMemory}
 use Rattle.glpsol_cli.specs.declared.stop.Stop.{Stop}
 use Rattle.glpsol_cli.specs.declared.stop.Unfound.{Unfound}
-use Rattle.glpsol_cli.specs.declared.stop.Unfound.TheVariants.{Solve, Check}
+use Rattle.glpsol_cli.specs.declared.stop.Unfound.TheVariants.{Solve, Check, Subset as SubsetStop, NotLinear as NotLinearStop}
 use Rattle.glpsol_cli.proofs.Writing.{nothing, none_written, line_after, line_alone, no_line, ends_of_more}
 use Rattle.glpsol_cli.proofs.Reports.{best_shown}
 use Rattle.glpsol_cli.proofs.Parts.{enough_read, means_of}
@@ -109,6 +111,15 @@ module _ (s : Settings) (texts : List (List ℕ)) where
     are = h.are;
     has = subst (λ (n : Meaning). Q (n.done ++ (h.found ++ (behind_of h.meaning.behind (Verdict c)).pieces))) (some_same (sym means ∙ h.means)) (f (h.found ++ (behind_of h.meaning.behind (Verdict c)).pieces) h.has);
   }
+  left_in m means (Subset c w) P Q f h = record {
+    meaning = h.meaning;
+    means = h.means;
+    problem = h.problem;
+    end = h.end;
+    found = h.found;
+    are = h.are;
+    has = subst (λ (n : Meaning). Q (n.done ++ (h.found ++ (behind_of h.meaning.behind (Subset c w)).pieces))) (some_same (sym means ∙ h.means)) (f (h.found ++ (behind_of h.meaning.behind (Subset c w)).pieces) h.has);
+  }
 
   -- the end is a fault
   pub refused_cause : (fault : TextFault) (files_rose out_rose : Type 0) (answer : Answer) → IsEndIn s texts (AtFault fault) → answer ≡ BadText fault → CauseIn s texts files_rose out_rose answer
@@ -153,6 +164,10 @@ module _ (s : Settings) (texts : List (List ℕ)) (p : Problem) (later : Option 
   unfound_is files_rose out_rose (Check (CheckRefused part)) h = h
   unfound_is files_rose out_rose (Check (CheckNoFit f)) h = h
   unfound_is files_rose out_rose (Check CheckNoMemory) h = executed
+  unfound_is files_rose out_rose (SubsetStop (SubsetNoFit stuck)) h = h
+  unfound_is files_rose out_rose (SubsetStop (SubsetPivotLimit long)) h = h
+  unfound_is files_rose out_rose (SubsetStop SubsetNoMemory) h = executed
+  unfound_is files_rose out_rose NotLinearStop h = h
 
   unfound_line : (taken taken' : Option (List ℕ)) (told : ToldNames) (unfound : Unfound) → AppendsPrefix taken taken' (line_of (unfound_answer unfound))
       → LeftWritten s texts (record { taken = taken; told = told }) (record { taken = taken'; told = told }) (unfound_answer unfound)
@@ -164,6 +179,10 @@ module _ (s : Settings) (texts : List (List ℕ)) (p : Problem) (later : Option 
   unfound_line taken taken' told (Check (CheckRefused part)) line = line_alone _ taken taken' told line
   unfound_line taken taken' told (Check (CheckNoFit f)) line = line_alone _ taken taken' told line
   unfound_line taken taken' told (Check CheckNoMemory) line = inl (line_alone _ taken taken' told line)
+  unfound_line taken taken' told (SubsetStop (SubsetNoFit stuck)) line = line_alone _ taken taken' told line
+  unfound_line taken taken' told (SubsetStop (SubsetPivotLimit long)) line = line_alone _ taken taken' told line
+  unfound_line taken taken' told (SubsetStop SubsetNoMemory) line = inl (line_alone _ taken taken' told line)
+  unfound_line taken taken' told NotLinearStop line = line_alone _ taken taken' told line
 
   module _ (unfound : Unfound) (made answer : Answer) (means : made ≡ unfound_answer unfound) (told_is : answer ≡ made) where
     pub unfound_cause : (files_rose out_rose : Type 0) → IsUnfound unfound s texts → CauseIn s texts files_rose out_rose answer
@@ -180,6 +199,7 @@ module _ (s : Settings) (texts : List (List ℕ)) (p : Problem) (later : Option 
   reached SizeFound h = record { problem = p; asked = subject_asked; translates = h }
   reached AcceptanceFound h = h
   reached (VerdictFound c) h = record { problem = p; asked = subject_asked; solves = h.0; proves = h.1; accepted = h.2 }
+  reached (SubsetFound c w) h = h
 
   ends_at : (m : Meaning) → meaning_of s texts ≡ Some m → m.end ≡ Declared p
   ends_at m means = ap (λ (n : Meaning). n.end) (some_same (sym means ∙ subject.means)) ∙ subject.declares
@@ -189,6 +209,7 @@ module _ (s : Settings) (texts : List (List ℕ)) (p : Problem) (later : Option 
   left_of SizeFound P m pieces means are has = record { meaning = m; means = means; problem = p; end = ends_at m means; found = pieces; are = are; has = has }
   left_of AcceptanceFound P m pieces means are has = record { meaning = m; means = means; problem = p; end = ends_at m means; found = pieces; are = are; has = has }
   left_of (VerdictFound c) P m pieces means are has = record { meaning = m; means = means; problem = p; end = ends_at m means; found = pieces; are = are; has = has }
+  left_of (SubsetFound c w) P m pieces means are has = record { meaning = m; means = means; problem = p; end = ends_at m means; found = pieces; are = are; has = has }
 
   module _ (f : Finding) (old middle : Outside) where
     pub reported_written : (new : Outside) (answer : Answer) → IsPublished {T = Unit {0}} s.task p f old middle (Ok tt) → RestWritten (reached_by f) s texts middle new answer → LeftWritten s texts old new answer
@@ -240,6 +261,13 @@ module _ (s : Settings) (texts : List (List ℕ)) (p : Problem) (later : Option 
 
     pub acceptance_written : f ≡ AcceptanceFound → (o : Outside) → RestWritten (reached_by f) s texts o o Accepted
     acceptance_written is o = subst (λ g. RestWritten (reached_by g) s texts o o Accepted) (sym is) (none_left Acceptance o Accepted refl refl refl refl)
+
+    module _ (c : Certificate) (w : FoundSubset) (is : f ≡ SubsetFound c w) where
+      pub subset_cause : IsFinding p s texts f → HasSubset c w s texts
+      subset_cause h = subst (IsFinding p s texts) is h
+
+      pub subset_written : (o : Outside) → RestWritten (reached_by f) s texts o o (Irreducible c w)
+      subset_written o = subst (λ g. RestWritten (reached_by g) s texts o o (Irreducible c w)) (sym is) (none_left (Subset c w) o (Irreducible c w) refl refl refl refl)
 
   module _ (c : Certificate) (h : IsFinding p s texts (VerdictFound c)) where
     proved : IsProved c s texts

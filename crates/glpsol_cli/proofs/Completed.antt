@@ -1,5 +1,5 @@
 -- Where a problem's search is not hindered, nothing stands in the way of the verdict of a text that declares it.
-use Rattle.std.proofs.Common.{◌≡◌, ◌∙◌, ℕ, ◌<◌, ◌≤◌, List, [], ◌∷◌, length, Some, None, Ok, refl, sym, ap, subst, arith}
+use Rattle.std.proofs.Common.{◌≡◌, ◌∙◌, ℕ, ◌<◌, ◌≤◌, true, false, List, [], ◌∷◌, length, Some, None, Ok, refl, sym, ap, subst, arith}
 use Rattle.std.specs.Prelude.{codes}
 use Rattle.rational.specs.Rational.{Rational}
 use Rattle.milp.specs.Problem.{Problem}
@@ -9,6 +9,7 @@ use Rattle.search_tree.specs.Board.{Board}
 use Rattle.search_tree.specs.Kept.{IsKept}
 use Rattle.search_tree.specs.Steps.{IsReplay}
 use Rattle.search_tree.specs.Tree.{made}
+use Rattle.branch_search.specs.Plain.{NoneInteger}
 use Rattle.branch_search.specs.Faults.{IsStuckAt, IsRunTooLong, IsOutOfSplits}
 use Rattle.branch_search.specs.WholeFaults.{IsWanted, searched}
 use Rattle.branch_search.specs.declared.whole_fault.Wanted.{Wanted}
@@ -18,16 +19,16 @@ use Rattle.outside.specs.Told.{Has}
 use Rattle.command_line.proofs.Laws.{plain_settings, plain_words}
 use Rattle.command_line.specs.declared.settings.Settings.{Settings}
 use Rattle.command_line.specs.declared.settings.Task.TheVariants.{CheckCertificate}
-use Rattle.glpsol_cli.specs.Asked.{ToldNames}
+use Rattle.glpsol_cli.specs.Asked.{ToldNames, wants_subset}
 use Rattle.glpsol_cli.specs.Meaning.{Meaning, end_of, IsAsked, meaning_of}
 use Rattle.glpsol_cli.specs.Cause.{OfSearch, IsOverflow, IsUndecided}
 use Rattle.glpsol_cli.specs.Complete.{IsComplete}
 use Rattle.glpsol_cli.specs.WorkedExample.{example_words}
 use Rattle.glpsol_cli.proofs.Completes.{declared_same}
 use Rattle.glpsol_cli.specs.declared.answer.Limit.{Limit}
-use Rattle.glpsol_cli.specs.declared.answer.Limit.TheVariants.{Pivots, Splits}
+use Rattle.glpsol_cli.specs.declared.answer.Limit.TheVariants.{Pivots, Splits, SubsetPivots}
 use Rattle.glpsol_cli.specs.declared.answer.OverflowSite.{OverflowSite}
-use Rattle.glpsol_cli.specs.declared.answer.OverflowSite.TheVariants.{AtNode, InPart}
+use Rattle.glpsol_cli.specs.declared.answer.OverflowSite.TheVariants.{AtNode, InPart, InSubset}
 
 module _ (text : List ℕ) (p : Problem) (count : ℕ) (declares : declared text ≡ Ok p) (free : AreUnhindered p count) (few : count < 10000) (replays : (b : Board) → IsReplay b → IsKept b) where
   asked : IsAsked plain_settings (text ∷ []) p
@@ -36,6 +37,16 @@ module _ (text : List ℕ) (p : Problem) (count : ℕ) (declares : declared text
   -- what holds of a problem that is searched holds of what is searched of this one
   of_this : (wanted : Wanted) (P : Problem → Settings → Type 0) → OfSearch wanted P plain_settings (text ∷ []) → IsWanted p wanted × P (searched p wanted) plain_settings
   of_this wanted P h = subst (λ q. IsWanted q wanted × P (searched q wanted) plain_settings) (declared_same h.problem p (sym h.asked ∙ asked)) (h.is_wanted, h.holds)
+
+  -- no subset is wanted
+  none_wanted : wants_subset plain_settings.task ≡ true → ⊥
+  none_wanted e = no_truth e
+    where
+      no_truth : false ≡ true → ⊥
+      no_truth e = cc
+
+  linear : wants_subset plain_settings.task ≡ true → NoneInteger p.columns
+  linear e = absurd (none_wanted e)
 
   fits : (at : OverflowSite) (e : NoFit) → ¬ (IsOverflow at e plain_settings (text ∷ []))
   fits (AtNode wanted node) e h =
@@ -46,6 +57,7 @@ module _ (text : List ℕ) (p : Problem) (count : ℕ) (declares : declared text
     where
       solves_only : (name : List ℕ) → plain_settings.task ≡ CheckCertificate name → ⊥
       solves_only name e = cc
+  fits (InSubset members) e h = none_wanted h.wanted
 
   never_all_made : (q : Problem) → IsUnhindered q count → (board : Board) → ¬ (IsOutOfSplits q [] 10000 100000 board)
   never_all_made q search board h =
@@ -58,6 +70,7 @@ module _ (text : List ℕ) (p : Problem) (count : ℕ) (declares : declared text
       let long = of_this wanted (λ p settings. IsRunTooLong p [] settings.split_limit settings.pivot_limit bases) h in
       let search = free wanted long.0 in
       search.ends 10000 100000 bases long.1
+  ends (SubsetPivots members bases) h = none_wanted h.wanted
   ends (Splits wanted board) h =
       let out = of_this wanted (λ p settings. IsOutOfSplits p [] settings.split_limit settings.pivot_limit board) h in
       never_all_made (searched p wanted) (free wanted out.0) board out.1
@@ -80,6 +93,7 @@ module _ (text : List ℕ) (p : Problem) (count : ℕ) (declares : declared text
     has = (has, short, tt);
     tables_told = tt;
     asked = asked;
+    linear = linear;
     fits = fits;
     ends = ends;
     behind = behind;

@@ -17,6 +17,8 @@ use Rattle.certificate_lines.specs.declared.fault.CertFault.{CertFault}
 use Rattle.cert_check.specs.Outcome.{Acceptance as Accepting, Fault, outcome, trials, part_of}
 use Rattle.cert_check.specs.declared.part.Part.{Part}
 use Rattle.glpsol_cli.specs.declared.answer.TextFault.{TextFault}
+use Rattle.branch_search.specs.Plain.{NoneInteger}
+use Rattle.infeasible_subset.specs.declared.witness.Subset.{Subset as FoundSubset}
 use Rattle.outside.specs.Told.{Has, Lacks}
 use Rattle.command_line.specs.Meaning.{settings_of}
 use Rattle.command_line.specs.declared.settings.Settings.{Settings}
@@ -26,16 +28,16 @@ use Rattle.glpsol_cli.specs.Asked.{ToldNames, AreTexts, IsInTurn, IsTextOf, Solv
 use Rattle.glpsol_cli.specs.Pieces.{told_behind}
 use Rattle.glpsol_cli.specs.Meaning.{Declared, Faulty, Wanting, Meaning, end_in, ends_in, files_behind, meaning_in, meaning_of, IsAsked, IsRefused}
 use Rattle.glpsol_cli.specs.Texts.{AreTables, IsTableInTurn, OfFile, OfTexts}
-use Rattle.glpsol_cli.specs.Cause.{Cause, EndsBehind, OfCertificate, IsAccepted, IsNoCertificate, IsRefusedAt, IsCheckOverflow, IsUndecided, IsTranslated, IsProved, IsOverflow, RoseAt}
+use Rattle.glpsol_cli.specs.Cause.{Cause, EndsBehind, HasSubset, IsNotLinear, OfCertificate, IsAccepted, IsNoCertificate, IsRefusedAt, IsCheckOverflow, IsUndecided, IsTranslated, IsProved, IsOverflow, RoseAt}
 use Rattle.glpsol_cli.specs.Complete.{AreTablesTold, AreTold, IsComplete, IsTableTold, IsToldShort, IsVerdictOrNoMemory, IsRecheck, IsAcceptedOrFault}
 use Rattle.glpsol_cli.specs.declared.answer.Answer.{Answer}
-use Rattle.glpsol_cli.specs.declared.answer.Answer.TheVariants.{Optimal, Infeasible, Unbounded, Translated, Accepted, Usage, Missing, OpenFault, ReadFault, WriteFault, TooLong, BadText, FaultBehindSolve, BadCertificate, Overflow, Undecided, Refused, NoMemory}
+use Rattle.glpsol_cli.specs.declared.answer.Answer.TheVariants.{Optimal, Infeasible, Irreducible, Unbounded, Translated, Accepted, Usage, Missing, OpenFault, ReadFault, WriteFault, TooLong, BadText, FaultBehindSolve, BadCertificate, NotLinear, Overflow, Undecided, Refused, NoMemory}
 use Rattle.glpsol_cli.specs.declared.answer.Limit.{Limit}
-use Rattle.glpsol_cli.specs.declared.answer.Limit.TheVariants.{Pivots, Splits}
-use Rattle.glpsol_cli.specs.declared.answer.OverflowSite.TheVariants.{AtNode, InPart}
+use Rattle.glpsol_cli.specs.declared.answer.Limit.TheVariants.{Pivots, Splits, SubsetPivots}
+use Rattle.glpsol_cli.specs.declared.answer.OverflowSite.TheVariants.{AtNode, InPart, InSubset}
 use Rattle.glpsol_cli.specs.declared.answer.OverflowSite.{OverflowSite}
 use Rattle.glpsol_cli.specs.declared.answer.Reached.{Reached}
-use Rattle.glpsol_cli.specs.declared.answer.Reached.TheVariants.{Nothing, Executed, Size, Acceptance, Verdict as VerdictReached}
+use Rattle.glpsol_cli.specs.declared.answer.Reached.TheVariants.{Nothing, Executed, Size, Acceptance, Verdict as VerdictReached, Subset as SubsetReached}
 use Rattle.glpsol_cli.specs.declared.answer.Target.{Target}
 use Rattle.glpsol_cli.specs.declared.answer.Target.TheVariants.{Out, File}
 use Rattle.glpsol_cli.proofs.Verdicts.{AreRight}
@@ -181,6 +183,7 @@ module _ (words : List (List ℕ)) (told : ToldNames) (settings : Settings) (tex
   file_told name Size P h = absurd h
   file_told name Acceptance P h = absurd h
   file_told name (VerdictReached c) P h = absurd h
+  file_told name (SubsetReached c w) P h = absurd h
 
   not_missing : (name : List ℕ) (r : Reached) → OfFile words told name r (λ now. (text : List ℕ) → Has now text → ⊥) → ⊥
   not_missing name r h = let found = file_told name r (λ now. (text : List ℕ) → Has now text → ⊥) h in found.said.first found.text found.said.second.0
@@ -238,15 +241,23 @@ translated_over s ts h = declared_over s ts h.problem h.asked
 proved_over : (c : Certificate) (s : Settings) (ts : List (List ℕ)) → IsProved c s ts → IsOver s ts
 proved_over c s ts h = declared_over s ts h.problem h.asked
 
+subset_over : (c : Certificate) (w : FoundSubset) (s : Settings) (ts : List (List ℕ)) → HasSubset c w s ts → IsOver s ts
+subset_over c w s ts h = proved_over c s ts h.proved
+
+not_linear_over : (s : Settings) (ts : List (List ℕ)) → IsNotLinear s ts → IsOver s ts
+not_linear_over s ts h = declared_over s ts h.problem h.asked
+
 behind_over : (fault : Option ModelFault) (c : Certificate) (s : Settings) (ts : List (List ℕ)) → EndsBehind fault c s ts → IsOver s ts
 behind_over fault c s ts h = proved_over c s ts h.proved
 
 overflow_over : (at : OverflowSite) (e : NoFit) (s : Settings) (ts : List (List ℕ)) → IsOverflow at e s ts → IsOver s ts
 overflow_over (AtNode wanted node) e s ts h = declared_over s ts h.problem h.asked
 overflow_over (InPart part) e s ts h = declared_over s ts h.problem h.asked
+overflow_over (InSubset members) e s ts h = proved_over h.certificate s ts h.proved
 
 undecided_over : (limit : Limit) (s : Settings) (ts : List (List ℕ)) → IsUndecided limit s ts → IsOver s ts
 undecided_over (Pivots wanted bases) s ts h = declared_over s ts h.problem h.asked
+undecided_over (SubsetPivots members bases) s ts h = proved_over h.certificate s ts h.proved
 undecided_over (Splits wanted board) s ts h = declared_over s ts h.problem h.asked
 
 module _ (words : List (List ℕ)) (told : ToldNames) (files_rose out_rose : Type 0) (right : AreRight) (k : IsComplete words told files_rose out_rose) where
@@ -271,9 +282,15 @@ module _ (words : List (List ℕ)) (told : ToldNames) (files_rose out_rose : Typ
       let point : h.point ≡ holds.0 = some_same h.point holds.0 (sym h.has_point ∙ holds.1) in
       none_some fault (sym (k.behind h.meaning h.means h.point (subst (λ p. IsOptimal p h.point) same (subst (IsOptimal h.proved.problem) (sym point) holds.3))) ∙ h.ends)
 
+  all_linear : IsNotLinear k.settings (k.texts ++ k.tables) → ⊥
+  all_linear h =
+      let same : h.problem ≡ k.problem = declared_same h.problem k.problem (sym h.asked ∙ k.asked) in
+      h.integer (subst (λ (p : Problem). NoneInteger p.columns) (sym same) (k.linear h.wanted))
+
   pub complete : (answer : Answer) → Cause words told files_rose out_rose answer → IsVerdictOrNoMemory answer
   complete (Optimal c) h = tt
   complete (Infeasible c) h = tt
+  complete (Irreducible c w) h = tt
   complete (Unbounded c) h = tt
   complete Translated h = solve_translates k.settings.task k.solves (said IsTranslated translated_over h).translates
   complete Accepted h = checks_none IsAccepted h
@@ -286,6 +303,7 @@ module _ (words : List (List ℕ)) (told : ToldNames) (files_rose out_rose : Typ
   complete (BadText fault) h = not_refused words told k.settings k.texts k.tables k.asks k.has k.tables_told over k.problem fault k.asked (said (IsRefused fault) (refused_over fault) h)
   complete (FaultBehindSolve fault c) h = no_fault_behind fault c h.0 (said (EndsBehind (Some fault) c) (behind_over (Some fault) c) h.1)
   complete (BadCertificate fault) h = checks_none (IsNoCertificate fault) h
+  complete NotLinear h = all_linear (said IsNotLinear not_linear_over h)
   complete (Overflow at e) h = k.fits at e (said (IsOverflow at e) (overflow_over at e) h)
   complete (Undecided limit) h = k.ends limit (said (IsUndecided limit) (undecided_over limit) h)
   complete (Refused part) h = checks_none (IsRefusedAt part) h
@@ -340,6 +358,7 @@ behind_them (t ∷ texts) more text = behind_them texts more text
 
 undecided_solves : (limit : Limit) (s : Settings) (texts : List (List ℕ)) → IsUndecided limit s texts → Solves s
 undecided_solves (Pivots wanted bases) s texts h = h.solves
+undecided_solves (SubsetPivots members bases) s texts h = h.proved.solves
 undecided_solves (Splits wanted board) s texts h = h.solves
 
 module _ (c : Certificate) (again : List (List ℕ)) (told : ToldNames) (files_rose out_rose : Type 0) (k : IsRecheck c again told) (read_back : read_of (certificate_text c) ≡ Ok c) where
@@ -385,11 +404,13 @@ module _ (c : Certificate) (again : List (List ℕ)) (told : ToldNames) (files_r
 
   overflow_where : (at : OverflowSite) (e : NoFit) → IsOverflow at e (record k.settings { task = CheckCertificate k.name }) ((k.texts ++ certificate_text c ∷ []) ++ k.tables) → ⊥
   overflow_where (AtNode wanted node) e h = h.solves
+  overflow_where (InSubset members) e h = h.proved.solves
   overflow_where (InPart part) e h = overflows part e (of_text (IsCheckOverflow part e) h)
 
   pub rechecked : (answer : Answer) → Cause again told files_rose out_rose answer → IsAcceptedOrFault answer
   rechecked (Optimal d) h = (says (EndsBehind None d) (behind_over None d) h.1).proved.solves
   rechecked (Infeasible d) h = (says (IsProved d) (proved_over d) h.1).solves
+  rechecked (Irreducible d w) h = (says (HasSubset d w) (subset_over d w) h).proved.solves
   rechecked (Unbounded d) h = (says (IsProved d) (proved_over d) h.1).solves
   rechecked Translated h = check_translates k.name (says IsTranslated translated_over h).translates
   rechecked Accepted h = tt
@@ -402,6 +423,7 @@ module _ (c : Certificate) (again : List (List ℕ)) (told : ToldNames) (files_r
   rechecked (BadText fault) h = not_refused again told (record k.settings { task = CheckCertificate k.name }) (k.texts ++ certificate_text c ∷ []) k.tables k.asks k.has k.tables_told over_again k.found.problem fault asked (says (IsRefused fault) (refused_over fault) h)
   rechecked (FaultBehindSolve fault d) h = (says (EndsBehind (Some fault) d) (behind_over (Some fault) d) h.1).proved.solves
   rechecked (BadCertificate fault) h = bad_text fault (of_text (IsNoCertificate fault) (says (OfCertificate (IsNoCertificate fault)) (certificate_over (IsNoCertificate fault)) h))
+  rechecked NotLinear h = (says IsNotLinear not_linear_over h).solves
   rechecked (Overflow at e) h = overflow_where at e (says (IsOverflow at e) (overflow_over at e) h)
   rechecked (Undecided limit) h = undecided_solves limit (record k.settings { task = CheckCertificate k.name }) ((k.texts ++ certificate_text c ∷ []) ++ k.tables) (says (IsUndecided limit) (undecided_over limit) h)
   rechecked (Refused part) h = refused part (of_text (IsRefusedAt part) (says (OfCertificate (IsRefusedAt part)) (certificate_over (IsRefusedAt part)) h))

@@ -15,3 +15,4 @@ pub mod Stories
 pub mod Completes
 mod Completed
 mod WorkedExample
+pub mod Wanted

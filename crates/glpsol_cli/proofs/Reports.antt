@@ -1,5 +1,5 @@
 -- What the checker's acceptance gives of a certificate: the parts that its report shows.
-use Rattle.std.proofs.Common.{◌≡◌, ℕ, suc, Bool, true, false, cond, not, ◌&&◌, ◌||◌, ◌==◌, List, [], ◌∷◌, length, Some, None, Option, refl, ap, subst}
+use Rattle.std.proofs.Common.{◌≡◌, ℕ, suc, Bool, true, false, cond, not, ◌&&◌, ◌||◌, ◌==◌, List, [], ◌∷◌, length, Some, None, Option, refl, ap, subst, ◌∙◌}
 use Rattle.std.specs.Prelude.{Result, Ok, Err, IsOk, IsSome, IsSomeAnd, codes}
 use Rattle.rational.specs.Rational.{Rational, zero_ℚ, ◌*ℚ◌}
 use Rattle.milp.specs.Points.{sign_of}
@@ -14,15 +14,17 @@ use Rattle.cert_check.specs.Sums.{and_also}
 use Rattle.cert_check.specs.Parts.{point_answer, value_answer, ray_rows_answer, ray_answer}
 use Rattle.cert_check.specs.Outcome.{Outcome, Acceptance, Refusal, Fault, judged, outcome, trials, verdict_trials, value_trials, ray_trials, tree_trials, form_goal}
 use Rattle.gmpl_generate.specs.Solved.{RowsFit}
+use Rattle.solution_writer.specs.Subset.{subset_report}
 use Rattle.solution_writer.specs.Report.{IsShownPoint, HasParts, IsReportable, solved_report, verdict_report, optimal_at, unbounded_at, optimal_report, unbounded_report, translated_report, accepted_report}
 use Rattle.std.specs.Option.{option_map}
 use Rattle.command_line.specs.declared.settings.Settings.{Settings}
 use Rattle.command_line.specs.declared.settings.Task.{Task}
 use Rattle.glpsol_cli.specs.Pieces.{Piece}
-use Rattle.glpsol_cli.specs.Meaning.{found_pieces, printed, solved_pieces}
+use Rattle.glpsol_cli.specs.Asked.{wants_subset}
+use Rattle.glpsol_cli.specs.Meaning.{found_pieces, lacks_subset, printed, solved_pieces, whole_report}
 use Rattle.glpsol_cli.specs.Stages.{IsFinding, IsShown, reached_by}
 use Rattle.glpsol_cli.specs.declared.found.Finding.{Finding}
-use Rattle.glpsol_cli.specs.declared.found.Finding.TheVariants.{Size, Acceptance as AcceptanceFound, Verdict as VerdictFound}
+use Rattle.glpsol_cli.specs.declared.found.Finding.TheVariants.{Size, Acceptance as AcceptanceFound, Verdict as VerdictFound, Subset as SubsetFound}
 
 -- ---- tests that passed
 
@@ -144,12 +146,16 @@ has_report p c h = report_there p c c.verdict h
 
 -- ---- what is found has pieces
 
-pub shown : (p : Problem) (s : Settings) (texts : List (List ℕ)) (f : Finding) → IsFinding p s texts f → IsShown p f
+pub shown : (p : Problem) (s : Settings) (texts : List (List ℕ)) (f : Finding) → IsFinding p s texts f → IsShown s.task p f
 shown p s texts Size h = tt
 shown p s texts AcceptanceFound h = tt
-shown p s texts (VerdictFound c) h = reportable p c h.2
+shown p s texts (VerdictFound c) h = (reportable p c h.2, h.3)
+shown p s texts (SubsetFound c w) h = h.infeasible
 
-pub shown_pieces : (task : Task) (p : Problem) (f : Finding) → IsShown p f → (pieces : List Piece) × (found_pieces task p (reached_by f) ≡ Some pieces)
+pub shown_pieces : (task : Task) (p : Problem) (f : Finding) → IsShown task p f → (pieces : List Piece) × (found_pieces task p (reached_by f) ≡ Some pieces)
 shown_pieces task p Size h = (printed (translated_report p), refl)
 shown_pieces task p AcceptanceFound h = (printed accepted_report, refl)
-shown_pieces task p (VerdictFound c) h = let report = has_report p c h in (solved_pieces task p c report.0, ap (option_map (solved_pieces task p c)) report.1)
+shown_pieces task p (VerdictFound c) h =
+    let report = has_report p c h.0 in
+    (solved_pieces task p c report.0, ap (λ lacks. option_map (solved_pieces task p c) (whole_report lacks p c)) h.1 ∙ ap (option_map (solved_pieces task p c)) report.1)
+shown_pieces task p (SubsetFound c w) h = (solved_pieces task p c (subset_report p w.witnesses), refl)

@@ -6,14 +6,15 @@ use Rattle.milp.specs.Problem.{Problem}
 use Rattle.verdicts.specs.Certificate.{Certificate}
 use Rattle.verdicts.specs.Certificate as kind
 use Rattle.verdicts.specs.Proves.{Proves, Holds}
+use Rattle.infeasible_subset.specs.declared.witness.Subset.{Subset as FoundSubset}
 use Rattle.command_line.specs.declared.settings.Settings.{Settings}
 use Rattle.glpsol_cli.specs.Asked.{ToldNames}
 use Rattle.glpsol_cli.specs.Texts.{OfFile, OfTexts}
-use Rattle.glpsol_cli.specs.Cause.{Cause, EndsBehind, IsReached, reached_of, IsProved, IsTrueOf, IsBest, HasNoPoint, HasRay}
+use Rattle.glpsol_cli.specs.Cause.{Cause, EndsBehind, IsReached, reached_of, IsProved, IsTrueOf, IsBest, HasNoPoint, HasRay, HasSubset, IsIrreducibleSubset}
 use Rattle.glpsol_cli.specs.declared.answer.Answer.{Answer}
-use Rattle.glpsol_cli.specs.declared.answer.Answer.TheVariants.{Optimal, Infeasible, Unbounded, Translated, Accepted, Usage, Missing, OpenFault, ReadFault, WriteFault, TooLong, BadText, FaultBehindSolve, BadCertificate, Overflow, Undecided, Refused, NoMemory}
+use Rattle.glpsol_cli.specs.declared.answer.Answer.TheVariants.{Optimal, Infeasible, Irreducible, Unbounded, Translated, Accepted, Usage, Missing, OpenFault, ReadFault, WriteFault, TooLong, BadText, FaultBehindSolve, BadCertificate, NotLinear, Overflow, Undecided, Refused, NoMemory}
 use Rattle.glpsol_cli.specs.declared.answer.Reached.{Reached}
-use Rattle.glpsol_cli.specs.declared.answer.Reached.TheVariants.{Nothing, Executed, Size, Acceptance, Verdict as VerdictReached}
+use Rattle.glpsol_cli.specs.declared.answer.Reached.TheVariants.{Nothing, Executed, Size, Acceptance, Verdict as VerdictReached, Subset as SubsetReached}
 use Rattle.glpsol_cli.proofs.Answers.{of_texts}
 
 -- a certificate that proves its verdict is right
@@ -38,6 +39,9 @@ module _ (words : List (List ℕ)) (told : ToldNames) (c : Certificate) (right :
   acceptance_carried : Acceptance ≡ VerdictReached c → ⊥
   acceptance_carried e = cc
 
+  subset_carried : (d : Certificate) (w : FoundSubset) → SubsetReached d w ≡ VerdictReached c → ⊥
+  subset_carried d w e = cc
+
   of_reached : (r : Reached) → r ≡ VerdictReached c → IsReached words told r → OfTexts words told (IsTrueOf c)
   of_reached r e h = of_texts words told (IsProved c) (IsTrueOf c) true_of (subst (IsReached words told) e h)
 
@@ -47,6 +51,7 @@ module _ (words : List (List ℕ)) (told : ToldNames) (c : Certificate) (right :
   file_carried name P Size e h = h
   file_carried name P Acceptance e h = h
   file_carried name P (VerdictReached d) e h = h
+  file_carried name P (SubsetReached d w) e h = h
 
   of_ended : (fault : Option ModelFault) (d : Certificate) → VerdictReached d ≡ VerdictReached c → OfTexts words told (EndsBehind fault d) → OfTexts words told (IsTrueOf c)
   of_ended fault d e h = of_reached (VerdictReached d) e (of_texts words told (EndsBehind fault d) (IsProved d) (λ s texts ended. ended.proved) h)
@@ -54,6 +59,7 @@ module _ (words : List (List ℕ)) (told : ToldNames) (c : Certificate) (right :
   pub carried : (files_rose out_rose : Type 0) (answer : Answer) → reached_of answer ≡ VerdictReached c → Cause words told files_rose out_rose answer → OfTexts words told (IsTrueOf c)
   carried files_rose out_rose (Optimal d) e h = of_ended None d e h.1
   carried files_rose out_rose (Infeasible d) e h = of_reached (VerdictReached d) e h.1
+  carried files_rose out_rose (Irreducible d w) e h = absurd (subset_carried d w e)
   carried files_rose out_rose (Unbounded d) e h = of_reached (VerdictReached d) e h.1
   carried files_rose out_rose Translated e h = absurd (size_carried e)
   carried files_rose out_rose Accepted e h = absurd (acceptance_carried e)
@@ -66,6 +72,7 @@ module _ (words : List (List ℕ)) (told : ToldNames) (c : Certificate) (right :
   carried files_rose out_rose (BadText fault) e h = absurd (executed_carried e)
   carried files_rose out_rose (FaultBehindSolve fault d) e h = of_ended (Some fault) d e h.1
   carried files_rose out_rose (BadCertificate fault) e h = absurd (executed_carried e)
+  carried files_rose out_rose NotLinear e h = absurd (executed_carried e)
   carried files_rose out_rose (Overflow at fault) e h = absurd (executed_carried e)
   carried files_rose out_rose (Undecided limit) e h = absurd (executed_carried e)
   carried files_rose out_rose (Refused part) e h = absurd (executed_carried e)
@@ -94,3 +101,62 @@ module _ (words : List (List ℕ)) (told : ToldNames) (c : Certificate) (right :
 
   pub has_ray : (files_rose out_rose : Type 0) → Cause words told files_rose out_rose (Unbounded c) → OfTexts words told (HasRay c)
   has_ray files_rose out_rose h = of_texts words told (IsProved c) (HasRay c) (λ s texts proved. ray s texts h.0 proved) h.1
+
+-- ---- subsets
+
+module _ (words : List (List ℕ)) (told : ToldNames) (c : Certificate) (w : FoundSubset) (right : AreRight) where
+  pub irreducible : (s : Settings) (texts : List (List ℕ)) → HasSubset c w s texts → IsIrreducibleSubset w s texts
+  irreducible s texts h = record {
+    problem = h.proved.problem;
+    asked = h.proved.asked;
+    none = subst (Holds h.proved.problem c) h.infeasible (right h.proved.problem c h.proved.proves);
+    is = h.is;
+  }
+
+  verdict_differs : (d : Certificate) → VerdictReached d ≡ SubsetReached c w → ⊥
+  verdict_differs d e = cc
+
+  nothing_differs : Nothing ≡ SubsetReached c w → ⊥
+  nothing_differs e = cc
+
+  executed_differs : Executed ≡ SubsetReached c w → ⊥
+  executed_differs e = cc
+
+  size_differs : Size ≡ SubsetReached c w → ⊥
+  size_differs e = cc
+
+  acceptance_differs : Acceptance ≡ SubsetReached c w → ⊥
+  acceptance_differs e = cc
+
+  by_reached : (r : Reached) → r ≡ SubsetReached c w → IsReached words told r → OfTexts words told (IsIrreducibleSubset w)
+  by_reached r e h = of_texts words told (HasSubset c w) (IsIrreducibleSubset w) irreducible (subst (IsReached words told) e h)
+
+  file_differs : (name : List ℕ) (P : Option (Option (List ℕ)) → Type 0) (r : Reached) → r ≡ SubsetReached c w → OfFile words told name r P → ⊥
+  file_differs name P Nothing e h = nothing_differs e
+  file_differs name P Executed e h = executed_differs e
+  file_differs name P Size e h = h
+  file_differs name P Acceptance e h = h
+  file_differs name P (VerdictReached d) e h = h
+  file_differs name P (SubsetReached d v) e h = h
+
+  pub is_irreducible : (files_rose out_rose : Type 0) (answer : Answer) → reached_of answer ≡ SubsetReached c w → Cause words told files_rose out_rose answer → OfTexts words told (IsIrreducibleSubset w)
+  is_irreducible files_rose out_rose (Optimal d) e h = absurd (verdict_differs d e)
+  is_irreducible files_rose out_rose (Infeasible d) e h = absurd (verdict_differs d e)
+  is_irreducible files_rose out_rose (Irreducible d v) e h = by_reached (SubsetReached d v) e h
+  is_irreducible files_rose out_rose (Unbounded d) e h = absurd (verdict_differs d e)
+  is_irreducible files_rose out_rose Translated e h = absurd (size_differs e)
+  is_irreducible files_rose out_rose Accepted e h = absurd (acceptance_differs e)
+  is_irreducible files_rose out_rose Usage e h = absurd (nothing_differs e)
+  is_irreducible files_rose out_rose (Missing name r) e h = absurd (file_differs name (λ now. (text : List ℕ) → Has now text → ⊥) r e h)
+  is_irreducible files_rose out_rose (OpenFault name r) e h = absurd (file_differs name (λ now. files_rose) r e h)
+  is_irreducible files_rose out_rose (ReadFault name r) e h = absurd (file_differs name (λ now. (Lacks now → ⊥) × files_rose) r e h)
+  is_irreducible files_rose out_rose (WriteFault target r) e h = by_reached r e h.0
+  is_irreducible files_rose out_rose (TooLong name r) e h = absurd (file_differs name (λ now. (Lacks now → ⊥) × ((text : List ℕ) → Has now text → 67108864 < length text)) r e h)
+  is_irreducible files_rose out_rose (BadText fault) e h = absurd (executed_differs e)
+  is_irreducible files_rose out_rose (FaultBehindSolve fault d) e h = absurd (verdict_differs d e)
+  is_irreducible files_rose out_rose (BadCertificate fault) e h = absurd (executed_differs e)
+  is_irreducible files_rose out_rose NotLinear e h = absurd (executed_differs e)
+  is_irreducible files_rose out_rose (Overflow at fault) e h = absurd (executed_differs e)
+  is_irreducible files_rose out_rose (Undecided limit) e h = absurd (executed_differs e)
+  is_irreducible files_rose out_rose (Refused part) e h = absurd (executed_differs e)
+  is_irreducible files_rose out_rose (NoMemory r) e h = by_reached r e h

@@ -14,23 +14,27 @@ use Rattle.gmpl_reader.specs.declared.read.ReadingEnd.TheVariants as reading_end
 use Rattle.branch_search.specs.WholeFaults.{IsFault}
 use Rattle.branch_search.specs.declared.whole_fault.VerdictFault.{VerdictFault}
 use Rattle.branch_search.specs.declared.whole_fault.VerdictFault.TheVariants.{NoFit as SearchNoFit, PivotLimit, SplitLimit, NoMemory as SearchNoMemory}
+use Rattle.infeasible_subset.specs.declared.fault.SubsetFault.TheVariants.{NoFit as SubsetNoFit, PivotLimit as SubsetPivotLimit, NoMemory as SubsetNoMemory}
 use Rattle.command_line.specs.declared.settings.Language.{Language}
 use Rattle.command_line.specs.declared.settings.Language.TheVariants.{MathProg}
 use Rattle.command_line.specs.declared.settings.Outputs.{Outputs}
 use Rattle.command_line.specs.declared.settings.Settings.{Settings}
 use Rattle.command_line.specs.declared.settings.Task.{Task}
 use Rattle.command_line.specs.declared.settings.Task.TheVariants.{Solve, CheckCertificate}
-use Rattle.glpsol_cli.specs.Asked.{Solves, IsSolve, names_checked, names_read}
-use Rattle.glpsol_cli.specs.Meaning.{Declared, Faulty, Wanting, IsAsked, asked_of, directed, end_of_ending, ends_in, file_piece, file_pieces, files_by, made_in, relaxed, shown_by}
-use Rattle.glpsol_cli.specs.Cause.{OfCertificate, IsNoCertificate, IsRefusedAt, IsCheckOverflow}
-use Rattle.glpsol_cli.specs.Stages.{IsUnfound, IsExecution, IsExecutionOf, IsHalt, IsOfReading, IsOfReadingEnd, IsCheckStop, OfNext}
+use Rattle.glpsol_cli.specs.Asked.{Solves, IsSolve, names_checked, names_read, wants_subset}
+use Rattle.glpsol_cli.specs.Meaning.{Declared, Faulty, Wanting, IsAsked, asked_of, directed, end_of_ending, ends_in, file_piece, file_pieces, files_by, lacks_subset, made_in, relaxed, shown_by}
+use Rattle.glpsol_cli.specs.Cause.{IsProved, OfCertificate, IsNoCertificate, IsRefusedAt, IsCheckOverflow}
+use Rattle.glpsol_cli.specs.Stages.{IsFinding, IsRefuted, IsSolution, IsUnfound, IsUnsolved, IsExecution, IsExecutionOf, IsHalt, IsOfReading, IsOfReadingEnd, IsCheckStop, OfNext}
 use Rattle.glpsol_cli.specs.declared.execution.Executed.{Executed}
 use Rattle.glpsol_cli.specs.declared.execution.ExecutionEnd.TheVariants.{Problem as AtProblem, Fault as AtFault}
 use Rattle.glpsol_cli.specs.declared.execution.Halt.{Halt}
 use Rattle.glpsol_cli.specs.declared.execution.Halt.TheVariants as halts
 use Rattle.glpsol_cli.specs.declared.stop.CheckStop.{CheckStop}
 use Rattle.glpsol_cli.specs.declared.stop.CheckStop.TheVariants.{BadText, Refused, NoFit as CheckNoFit, NoMemory as CheckNoMemory}
-use Rattle.glpsol_cli.specs.declared.stop.Unfound.TheVariants.{Solve as SolveStop, Check}
+use Rattle.glpsol_cli.specs.declared.stop.Unfound.{Unfound}
+use Rattle.glpsol_cli.specs.declared.stop.Unfound.TheVariants.{Solve as SolveStop, Check, Subset as SubsetStop, NotLinear as NotLinearStop}
+use Rattle.glpsol_cli.specs.declared.found.Finding.{Finding}
+use Rattle.glpsol_cli.specs.declared.found.Finding.TheVariants.{Size as SizeFound, Acceptance as AcceptanceFound, Verdict as VerdictFound, Subset as SubsetFound}
 
 -- ---- the execution of a MathProg text
 
@@ -122,14 +126,42 @@ module _ {X : Type 0} (f : X → List ℕ) (s : Settings) (xs others taken : Lis
 -- ---- solving
 
 module _ (s : Settings) (texts : List (List ℕ)) (p : Problem) (asks : IsAsked s texts p) (solves : Solves s) where
-  pub unsolved : (fault : VerdictFault) → IsFault p s.split_limit s.pivot_limit fault → IsUnfound (SolveStop fault) s texts
-  unsolved (SearchNoFit wanted site) h = record { problem = p; asked = asks; solves = solves; is_wanted = h.0; holds = h.1 }
-  unsolved (PivotLimit wanted bases) h = record { problem = p; asked = asks; solves = solves; is_wanted = h.0; holds = h.1 }
-  unsolved (SplitLimit wanted board) h = record { problem = p; asked = asks; solves = solves; is_wanted = h.0; holds = h.1 }
-  unsolved SearchNoMemory h = tt
+  unsearched : (fault : VerdictFault) → IsFault p s.split_limit s.pivot_limit fault → IsUnfound (SolveStop fault) s texts
+  unsearched (SearchNoFit wanted site) h = record { problem = p; asked = asks; solves = solves; is_wanted = h.0; holds = h.1 }
+  unsearched (PivotLimit wanted bases) h = record { problem = p; asked = asks; solves = solves; is_wanted = h.0; holds = h.1 }
+  unsearched (SplitLimit wanted board) h = record { problem = p; asked = asks; solves = solves; is_wanted = h.0; holds = h.1 }
+  unsearched SearchNoMemory h = tt
+
+  module _ (wanted : Bool) (wants : wants_subset s.task ≡ wanted) where
+    abbrev refuted : (r : IsRefuted p) → IsProved r.certificate s texts
+    refuted r = record { problem = p; asked = asks; solves = solves; proves = r.proves; accepted = r.accepted }
+
+    pub unsolved : (u : Unfound) → IsUnsolved p s wanted u → IsUnfound u s texts
+    unsolved (SolveStop fault) h = unsearched fault h
+    unsolved (Check stop) h = absurd h
+    unsolved (SubsetStop (SubsetNoFit stuck)) h =
+        record { certificate = h.1.certificate; infeasible = h.1.infeasible; proved = refuted h.1; wanted = wants ∙ h.0; holds = h.2 }
+    unsolved (SubsetStop (SubsetPivotLimit long)) h =
+        record { certificate = h.1.certificate; infeasible = h.1.infeasible; proved = refuted h.1; wanted = wants ∙ h.0; holds = h.2 }
+    unsolved (SubsetStop SubsetNoMemory) h = tt
+    unsolved NotLinearStop h = record { problem = p; asked = asks; solves = solves; wanted = wants ∙ h.0; integer = h.1 }
+
+    pub solution_found : (f : Finding) → IsSolution p wanted f → IsFinding p s texts f
+    solution_found SizeFound h = absurd h
+    solution_found AcceptanceFound h = absurd h
+    solution_found (VerdictFound c) h = (solves, h.0, h.1, subst (λ w. lacks_subset w c.verdict ≡ false) (sym wants) h.2)
+    solution_found (SubsetFound c w) h = record {
+      proved = record { problem = p; asked = asks; solves = solves; proves = h.0; accepted = h.1 };
+      wanted = wants ∙ h.3;
+      infeasible = h.2;
+      is = h.4;
+    }
 
 pub solves_by : (task : Task) (outputs : Outputs) → task ≡ Solve outputs → IsSolve task
 solves_by task outputs e = subst IsSolve (sym e) tt
+
+pub wants_by : (task : Task) (outputs : Outputs) → task ≡ Solve outputs → wants_subset task ≡ outputs.subset
+wants_by task outputs e = ap wants_subset e
 
 -- ---- checking
 

@@ -1,5 +1,5 @@
 -- What a command asks for, by its words alone, and the files that it reads.
-use Rattle.std.specs.Prelude.{◌≡◌, ◌≤◌, ℕ, List, [], ◌∷◌, ◌++◌, length, Some, None}
+use Rattle.std.specs.Prelude.{◌≡◌, ◌≤◌, ℕ, Bool, false, List, [], ◌∷◌, ◌++◌, length, Some, None}
 use Rattle.std.specs.declared.option.Option.{Option}
 use Rattle.outside.specs.Told.{Lacks, Has}
 use Rattle.command_line.specs.Meaning.{settings_of}
@@ -36,6 +36,12 @@ abbrev pub outputs_of : Task → Option Outputs
 outputs_of (Solve outputs) = Some outputs
 outputs_of Translate = None
 outputs_of (CheckCertificate name) = None
+
+-- an irreducible infeasible subset is wanted where no point is feasible
+abbrev pub wants_subset : Task → Bool
+wants_subset (Solve outputs) = outputs.subset
+wants_subset Translate = false
+wants_subset (CheckCertificate name) = false
 
 -- ---- the files that are read
 

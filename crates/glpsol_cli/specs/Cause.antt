@@ -1,5 +1,5 @@
 -- What each answer of a run says of the words, of what is told of the files, and of the faults that rose.
-use Rattle.std.specs.Prelude.{◌≡◌, ◌<◌, ℕ, suc, List, [], length, slice_get, Some, None, Ok, Err}
+use Rattle.std.specs.Prelude.{◌≡◌, ◌<◌, ℕ, suc, true, List, [], length, slice_get, Some, None, Ok, Err}
 use Rattle.milp.specs.Problem.{Problem}
 use Rattle.milp.specs.Points.{IsOptimal, Feasible, IsUnbounded, objective_value}
 use Rattle.rational.specs.Rational.{Rational}
@@ -10,6 +10,7 @@ use Rattle.verdicts.specs.Certificate as kind
 use Rattle.verdicts.specs.Proves.{Proves, Holds, tests, first_failing}
 use Rattle.search_node.specs.declared.node.Node.{Node}
 use Rattle.branch_search.specs.Faults.{IsStuckAt, IsRunTooLong, IsOutOfSplits}
+use Rattle.branch_search.specs.Plain.{NoneInteger}
 use Rattle.gmpl_generate.specs.declared.fault.ModelFault.{ModelFault}
 use Rattle.branch_search.specs.WholeFaults.{IsWanted, searched}
 use Rattle.branch_search.specs.declared.whole_fault.Wanted.{Wanted}
@@ -18,20 +19,26 @@ use Rattle.certificate_lines.specs.declared.fault.CertFault.{CertFault}
 use Rattle.cert_check.specs.Outcome.{Acceptance as Accepting, Fault, outcome, trials, part_of}
 use Rattle.cert_check.specs.declared.part.Part.{Part}
 use Rattle.std.specs.declared.option.Option.{Option}
+use Rattle.infeasible_subset.specs.Members.{has}
+use Rattle.infeasible_subset.specs.Subsets.{IsIrreducible, UsesOnly, Refutes}
+use Rattle.infeasible_subset.specs.Listed.{AreAmong, all_bounds}
+use Rattle.infeasible_subset.specs.Underway.{members_of, AllMeet}
+use Rattle.infeasible_subset.specs.Faults.{IsStuckAt as IsSubsetStuck, IsTooLong as IsSubsetTooLong}
+use Rattle.infeasible_subset.specs.declared.witness.Subset.{Subset as FoundSubset}
 use Rattle.outside.specs.Told.{Lacks, Has}
 use Rattle.command_line.specs.Meaning.{settings_of}
 use Rattle.command_line.specs.declared.settings.Settings.{Settings}
-use Rattle.glpsol_cli.specs.Asked.{ToldNames, Solves, Translates, Checks}
+use Rattle.glpsol_cli.specs.Asked.{ToldNames, Solves, Translates, Checks, wants_subset}
 use Rattle.glpsol_cli.specs.Meaning.{Meaning, IsAsked, IsRefused, HasDone, meaning_of}
 use Rattle.glpsol_cli.specs.Texts.{OfFile, OfTexts}
 use Rattle.glpsol_cli.specs.declared.answer.Answer.{Answer}
-use Rattle.glpsol_cli.specs.declared.answer.Answer.TheVariants.{Optimal, Infeasible, Unbounded, Translated, Accepted, Usage, Missing, OpenFault, ReadFault, WriteFault, TooLong, BadText, FaultBehindSolve, BadCertificate, Overflow, Undecided, Refused, NoMemory}
+use Rattle.glpsol_cli.specs.declared.answer.Answer.TheVariants.{Optimal, Infeasible, Irreducible, Unbounded, Translated, Accepted, Usage, Missing, OpenFault, ReadFault, WriteFault, TooLong, BadText, FaultBehindSolve, BadCertificate, NotLinear, Overflow, Undecided, Refused, NoMemory}
 use Rattle.glpsol_cli.specs.declared.answer.Limit.{Limit}
-use Rattle.glpsol_cli.specs.declared.answer.Limit.TheVariants.{Pivots, Splits}
+use Rattle.glpsol_cli.specs.declared.answer.Limit.TheVariants.{Pivots, Splits, SubsetPivots}
 use Rattle.glpsol_cli.specs.declared.answer.OverflowSite.{OverflowSite}
-use Rattle.glpsol_cli.specs.declared.answer.OverflowSite.TheVariants.{AtNode, InPart}
+use Rattle.glpsol_cli.specs.declared.answer.OverflowSite.TheVariants.{AtNode, InPart, InSubset}
 use Rattle.glpsol_cli.specs.declared.answer.Reached.{Reached}
-use Rattle.glpsol_cli.specs.declared.answer.Reached.TheVariants.{Nothing, Executed, Size, Acceptance, Verdict}
+use Rattle.glpsol_cli.specs.declared.answer.Reached.TheVariants.{Nothing, Executed, Size, Acceptance, Verdict, Subset}
 use Rattle.glpsol_cli.specs.declared.answer.Target.{Target}
 use Rattle.glpsol_cli.specs.declared.answer.Target.TheVariants.{Out, File}
 
@@ -65,6 +72,30 @@ pub record HasNoPoint (s : Settings) (texts : List (List ℕ)) : Type 0 where
   pub problem : Problem
   pub asked : IsAsked s texts problem
   pub none : (x : List Rational) → ¬ (Feasible problem x)
+
+-- some bounds of the problem, in order, that no point meets, while without any one of them a point does, which stands beside it; and
+-- weights that refute the problem by these bounds alone
+pub record IsSubsetOf (p : Problem) (w : FoundSubset) : Type 0 where
+  pub irreducible : IsIrreducible p (members_of w.witnesses)
+  pub listed : AreAmong (members_of w.witnesses) (all_bounds p)
+  pub points : AllMeet p (members_of w.witnesses) w.witnesses
+  pub uses : UsesOnly (has (members_of w.witnesses)) w.weights
+  pub refutes : Refutes p w.weights
+
+-- a subset is wanted, c proves that no point is feasible for the problem that is asked about, the checker accepts it, and w is a subset
+-- of this problem's bounds
+pub record HasSubset (c : Certificate) (w : FoundSubset) (s : Settings) (texts : List (List ℕ)) : Type 0 where
+  pub proved : IsProved c s texts
+  pub wanted : wants_subset s.task ≡ true
+  pub infeasible : c.verdict ≡ kind.Infeasible
+  pub is : IsSubsetOf proved.problem w
+
+-- no point is feasible, and w is a subset of the problem's bounds
+pub record IsIrreducibleSubset (w : FoundSubset) (s : Settings) (texts : List (List ℕ)) : Type 0 where
+  pub problem : Problem
+  pub asked : IsAsked s texts problem
+  pub none : (x : List Rational) → ¬ (Feasible problem x)
+  pub is : IsSubsetOf problem w
 
 -- the point of c is feasible, and its ray improves without end
 pub record HasRay (c : Certificate) (s : Settings) (texts : List (List ℕ)) : Type 0 where
@@ -143,15 +174,33 @@ pub record OfSearch (wanted : Wanted) (P : Problem → Settings → Type 0) (s :
 abbrev pub IsNodeOverflow : Wanted → Node → NoFit → Settings → List (List ℕ) → Type 0
 IsNodeOverflow wanted node e s texts = OfSearch wanted (λ p settings. IsStuckAt p [] settings.split_limit (record { node = node; fault = e })) s texts
 
+-- P of a problem that a certificate proves infeasible and of which a subset is wanted, and of the settings
+pub record OfInfeasible (P : Problem → Settings → Type 0) (s : Settings) (texts : List (List ℕ)) : Type 0 where
+  pub certificate : Certificate
+  pub infeasible : certificate.verdict ≡ kind.Infeasible
+  pub proved : IsProved certificate s texts
+  pub wanted : wants_subset s.task ≡ true
+  pub holds : P proved.problem s
+
+-- a subset is wanted, and a column of the problem takes whole numbers alone
+pub record IsNotLinear (s : Settings) (texts : List (List ℕ)) : Type 0 where
+  pub problem : Problem
+  pub asked : IsAsked s texts problem
+  pub solves : Solves s
+  pub wanted : wants_subset s.task ≡ true
+  pub integer : ¬ (NoneInteger problem.columns)
+
 abbrev pub IsOverflow : OverflowSite → NoFit → Settings → List (List ℕ) → Type 0
 IsOverflow (AtNode wanted node) e s texts = IsNodeOverflow wanted node e s texts
 IsOverflow (InPart part) e s texts = OfCertificate (IsCheckOverflow part e) s texts
+IsOverflow (InSubset members) e s texts = OfInfeasible (λ p settings. IsSubsetStuck p members e) s texts
 
 -- the limit is too small: the bases are the first of the simplex method's run at a node to which honest splits lead, as many
 -- steps as are allowed, and there is one more step; or the board is that of a search with these limits, as many splits are made
 -- on it as are allowed, all honest, and each leaf that is not closed is of a node that would have to be split
 abbrev pub IsUndecided : Limit → Settings → List (List ℕ) → Type 0
 IsUndecided (Pivots wanted bases) s texts = OfSearch wanted (λ p settings. IsRunTooLong p [] settings.split_limit settings.pivot_limit bases) s texts
+IsUndecided (SubsetPivots members bases) s texts = OfInfeasible (λ p settings. IsSubsetTooLong p settings.pivot_limit members bases) s texts
 IsUndecided (Splits wanted board) s texts = OfSearch wanted (λ p settings. IsOutOfSplits p [] settings.split_limit settings.pivot_limit board) s texts
 
 -- ---- how far a run has come
@@ -162,11 +211,13 @@ IsReached words told Executed = OfTexts words told (HasDone (λ done. Unit {0}))
 IsReached words told Size = OfTexts words told IsTranslated
 IsReached words told Acceptance = OfTexts words told (OfCertificate IsAccepted)
 IsReached words told (Verdict c) = OfTexts words told (IsProved c)
+IsReached words told (Subset c w) = OfTexts words told (HasSubset c w)
 
 -- what the answer says was reached
 abbrev pub reached_of : Answer → Reached
 reached_of (Optimal c) = Verdict c
 reached_of (Infeasible c) = Verdict c
+reached_of (Irreducible c w) = Subset c w
 reached_of (Unbounded c) = Verdict c
 reached_of Translated = Size
 reached_of Accepted = Acceptance
@@ -179,6 +230,7 @@ reached_of (TooLong name reached) = reached
 reached_of (BadText fault) = Executed
 reached_of (FaultBehindSolve fault c) = Verdict c
 reached_of (BadCertificate fault) = Executed
+reached_of NotLinear = Executed
 reached_of (Overflow at fault) = Executed
 reached_of (Undecided limit) = Executed
 reached_of (Refused part) = Executed
@@ -187,7 +239,13 @@ reached_of (NoMemory reached) = reached
 -- the answer is not that the limit of steps was met
 abbrev pub IsNotByPivots : Answer → Type 0
 IsNotByPivots (Undecided (Pivots wanted bases)) = ⊥
+IsNotByPivots (Undecided (SubsetPivots members bases)) = ⊥
 IsNotByPivots answer = Unit {0}
+
+-- the answer is not that no point is feasible, without a subset
+abbrev pub IsNotPlain : Answer → Type 0
+IsNotPlain (Infeasible c) = ⊥
+IsNotPlain answer = Unit {0}
 
 -- ---- causes
 
@@ -200,6 +258,7 @@ RoseAt (File name) files_rose out_rose = files_rose
 abbrev pub Cause : List (List ℕ) → ToldNames → Type 0 → Type 0 → Answer → Type 0
 Cause words told files_rose out_rose (Optimal c) = (c.verdict ≡ kind.Optimal) × OfTexts words told (EndsBehind None c)
 Cause words told files_rose out_rose (Infeasible c) = (c.verdict ≡ kind.Infeasible) × IsReached words told (Verdict c)
+Cause words told files_rose out_rose (Irreducible c w) = IsReached words told (Subset c w)
 Cause words told files_rose out_rose (Unbounded c) = (c.verdict ≡ kind.Unbounded) × IsReached words told (Verdict c)
 Cause words told files_rose out_rose Translated = IsReached words told Size
 Cause words told files_rose out_rose Accepted = IsReached words told Acceptance
@@ -212,6 +271,7 @@ Cause words told files_rose out_rose (TooLong name reached) = OfFile words told 
 Cause words told files_rose out_rose (BadText fault) = OfTexts words told (IsRefused fault)
 Cause words told files_rose out_rose (FaultBehindSolve fault c) = (c.verdict ≡ kind.Optimal) × OfTexts words told (EndsBehind (Some fault) c)
 Cause words told files_rose out_rose (BadCertificate fault) = OfTexts words told (OfCertificate (IsNoCertificate fault))
+Cause words told files_rose out_rose NotLinear = OfTexts words told IsNotLinear
 Cause words told files_rose out_rose (Overflow at e) = OfTexts words told (IsOverflow at e)
 Cause words told files_rose out_rose (Undecided limit) = OfTexts words told (IsUndecided limit)
 Cause words told files_rose out_rose (Refused part) = OfTexts words told (OfCertificate (IsRefusedAt part))

@@ -1,22 +1,23 @@
 -- When a run gives a verdict, and when a certificate that it wrote is accepted: where no cause of another answer is there.
-use Rattle.std.specs.Prelude.{◌≡◌, ◌≤◌, ℕ, List, [], ◌∷◌, ◌++◌, length, Some, None}
+use Rattle.std.specs.Prelude.{◌≡◌, ◌≤◌, ℕ, true, List, [], ◌∷◌, ◌++◌, length, Some, None}
 use Rattle.std.specs.declared.option.Option.{Option}
 use Rattle.rational.specs.Rational.{Rational}
 use Rattle.milp.specs.Problem.{Problem}
 use Rattle.milp.specs.Points.{IsOptimal}
 use Rattle.fraction.specs.declared.frac.NoFit.{NoFit}
+use Rattle.branch_search.specs.Plain.{NoneInteger}
 use Rattle.verdicts.specs.Certificate.{Certificate}
 use Rattle.certificate.specs.Text.{certificate_text}
 use Rattle.outside.specs.Told.{Has}
 use Rattle.command_line.specs.Meaning.{settings_of}
 use Rattle.command_line.specs.declared.settings.Settings.{Settings}
 use Rattle.command_line.specs.declared.settings.Task.TheVariants.{CheckCertificate}
-use Rattle.glpsol_cli.specs.Asked.{ToldNames, Solves, names_read}
+use Rattle.glpsol_cli.specs.Asked.{ToldNames, Solves, names_read, wants_subset}
 use Rattle.glpsol_cli.specs.Meaning.{Meaning, IsAsked, meaning_of}
 use Rattle.glpsol_cli.specs.Texts.{IsTableInTurn}
 use Rattle.glpsol_cli.specs.Cause.{IsOverflow, IsUndecided, IsProved}
 use Rattle.glpsol_cli.specs.declared.answer.Answer.{Answer}
-use Rattle.glpsol_cli.specs.declared.answer.Answer.TheVariants.{Optimal, Infeasible, Unbounded, Accepted, OpenFault, ReadFault, WriteFault, NoMemory}
+use Rattle.glpsol_cli.specs.declared.answer.Answer.TheVariants.{Optimal, Infeasible, Irreducible, Unbounded, Accepted, OpenFault, ReadFault, WriteFault, NoMemory}
 use Rattle.glpsol_cli.specs.declared.answer.Limit.{Limit}
 use Rattle.glpsol_cli.specs.declared.answer.OverflowSite.{OverflowSite}
 
@@ -45,13 +46,14 @@ AreTablesTold told s texts (text ∷ tables) = IsTableTold told s texts text × 
 abbrev pub IsVerdictOrNoMemory : Answer → Type 0
 IsVerdictOrNoMemory (Optimal c) = Unit {0}
 IsVerdictOrNoMemory (Infeasible c) = Unit {0}
+IsVerdictOrNoMemory (Irreducible c w) = Unit {0}
 IsVerdictOrNoMemory (Unbounded c) = Unit {0}
 IsVerdictOrNoMemory (NoMemory reached) = Unit {0}
 IsVerdictOrNoMemory answer = ⊥
 
 -- Words that ask for a solution, told files, of the command and of tables, texts that declare a problem, no operation that doesn't
 -- fit, no run that is too long, no search that needs more splits than are allowed, no best point at which a statement behind `solve`
--- has a fault, and counts that didn't rise: then nothing but a verdict or want of memory is answered.
+-- has a fault, no integer column where a subset is wanted, and counts that didn't rise: then nothing but a verdict or want of memory is answered.
 pub record IsComplete (words : List (List ℕ)) (told : ToldNames) (files_rose out_rose : Type 0) : Type 0 where
   pub settings : Settings
   pub texts : List (List ℕ)
@@ -62,6 +64,7 @@ pub record IsComplete (words : List (List ℕ)) (told : ToldNames) (files_rose o
   pub has : AreTold told (names_read settings) texts
   pub tables_told : AreTablesTold told settings texts tables
   pub asked : IsAsked settings (texts ++ tables) problem
+  pub linear : wants_subset settings.task ≡ true → NoneInteger problem.columns
   pub fits : (at : OverflowSite) (e : NoFit) → ¬ (IsOverflow at e settings (texts ++ tables))
   pub ends : (limit : Limit) → ¬ (IsUndecided limit settings (texts ++ tables))
   pub behind : (meaning : Meaning) → meaning_of settings (texts ++ tables) ≡ Some meaning → (x : List Rational) → IsOptimal problem x → (meaning.behind x).fault ≡ None

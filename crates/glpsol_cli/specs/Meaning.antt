@@ -23,11 +23,12 @@ use Rattle.command_line.specs.declared.settings.Outputs.{Outputs}
 use Rattle.command_line.specs.declared.settings.Settings.{Settings}
 use Rattle.command_line.specs.declared.settings.Task.{Task}
 use Rattle.solution_writer.specs.Report.{solved_report, translated_report, accepted_report}
+use Rattle.solution_writer.specs.Subset.{subset_report}
 use Rattle.solution_writer.specs.Solution.{raw_solution}
-use Rattle.glpsol_cli.specs.Asked.{names_checked, outputs_of}
+use Rattle.glpsol_cli.specs.Asked.{names_checked, outputs_of, wants_subset}
 use Rattle.glpsol_cli.specs.Pieces.{Piece}
 use Rattle.glpsol_cli.specs.declared.answer.Reached.{Reached}
-use Rattle.glpsol_cli.specs.declared.answer.Reached.TheVariants.{Nothing, Executed, Size, Acceptance, Verdict as VerdictReached}
+use Rattle.glpsol_cli.specs.declared.answer.Reached.TheVariants.{Nothing, Executed, Size, Acceptance, Verdict as VerdictReached, Subset as SubsetReached}
 use Rattle.glpsol_cli.specs.declared.answer.Target.{Target}
 use Rattle.glpsol_cli.specs.declared.answer.Target.TheVariants.{Out, File}
 use Rattle.glpsol_cli.specs.declared.answer.TextFault.{TextFault}
@@ -192,13 +193,25 @@ saved_pieces (Some outputs) p c report = saved_in outputs.report report ++ (save
 abbrev pub solved_pieces : Task → Problem → Certificate → List ℕ → List Piece
 solved_pieces task p c report = printed report ++ saved_pieces (outputs_of task) p c report
 
--- what is written of a problem once this was reached; none where a certificate lacks a part that its report shows
+-- a report of this verdict lacks a subset, where one is wanted
+abbrev pub lacks_subset : Bool → Verdict → Bool
+lacks_subset wanted kind.Optimal = false
+lacks_subset wanted kind.Infeasible = wanted
+lacks_subset wanted kind.Unbounded = false
+
+abbrev pub whole_report : Bool → Problem → Certificate → Option (List ℕ)
+whole_report true p c = None
+whole_report false p c = solved_report p c
+
+-- what is written of a problem once this was reached; none where a certificate lacks a part that its report shows, or a subset is
+-- lacking that is wanted
 abbrev pub found_pieces : Task → Problem → Reached → Option (List Piece)
 found_pieces task p Nothing = Some []
 found_pieces task p Executed = Some []
 found_pieces task p Size = Some (printed (translated_report p))
 found_pieces task p Acceptance = Some (printed accepted_report)
-found_pieces task p (VerdictReached c) = option_map (solved_pieces task p c) (solved_report p c)
+found_pieces task p (VerdictReached c) = option_map (solved_pieces task p c) (whole_report (lacks_subset (wants_subset task) c.verdict) p c)
+found_pieces task p (SubsetReached c w) = Some (solved_pieces task p c (subset_report p w.witnesses))
 
 -- the statements behind `solve` are executed at a best point alone
 abbrev pub behind_at : (List Rational → Behind) → Verdict → Option (List Rational) → Behind
@@ -214,6 +227,7 @@ behind_of behind Executed = nothing_behind
 behind_of behind Size = nothing_behind
 behind_of behind Acceptance = nothing_behind
 behind_of behind (VerdictReached c) = behind_at behind c.verdict c.point
+behind_of behind (SubsetReached c w) = nothing_behind
 
 -- P holds of what is written while the texts are executed
 pub record HasDone (P : List Piece → Type 0) (s : Settings) (texts : List (List ℕ)) : Type 0 where

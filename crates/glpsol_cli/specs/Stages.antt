@@ -1,6 +1,6 @@
 -- What the stages of a run say: what is executed and found, why nothing is found, how the writing ends, and what is said of an
 -- answer by the settings and the texts that were read.
-use Rattle.std.specs.Prelude.{◌≡◌, ◌<◌, ◌≤◌, ◌⊎◌, ℕ, suc, List, [], ◌∷◌, ◌++◌, length, slice_get, take, drop, Result, Ok, Err, Some, None, map, string_bytes}
+use Rattle.std.specs.Prelude.{◌≡◌, ◌<◌, ◌≤◌, ◌⊎◌, ℕ, suc, Bool, true, false, List, [], ◌∷◌, ◌++◌, length, slice_get, take, drop, Result, Ok, Err, Some, None, map, string_bytes}
 use Rattle.std.specs.declared.option.Option.{Option}
 use Rattle.rational.specs.Rational.{Rational}
 use Rattle.milp.specs.Problem.{Problem}
@@ -13,8 +13,13 @@ use Rattle.gmpl_reader.specs.MathProg.{Declares, IsPending, IsRest, ending as en
 use Rattle.gmpl_reader.specs.declared.read.Reading.{Reading}
 use Rattle.gmpl_reader.specs.declared.read.ReadingEnd.{ReadingEnd}
 use Rattle.gmpl_reader.specs.declared.read.ReadingEnd.TheVariants as reading_end
+use Rattle.branch_search.specs.Plain.{NoneInteger}
+use Rattle.branch_search.specs.WholeFaults.{IsFault as IsSearchFault}
 use Rattle.branch_search.specs.declared.whole_fault.VerdictFault.{VerdictFault}
 use Rattle.branch_search.specs.declared.whole_fault.VerdictFault.TheVariants.{NoFit as SearchNoFit, PivotLimit, SplitLimit, NoMemory as SearchNoMemory}
+use Rattle.infeasible_subset.specs.Faults.{IsFault as IsSubsetFault}
+use Rattle.infeasible_subset.specs.declared.fault.SubsetFault.{SubsetFault}
+use Rattle.infeasible_subset.specs.declared.fault.SubsetFault.TheVariants.{NoFit as SubsetNoFit, PivotLimit as SubsetPivotLimit, NoMemory as SubsetNoMemory}
 use Rattle.cert_check.specs.Outcome.{Acceptance as Accepting, outcome, trials}
 use Rattle.outside.specs.Told.{Lacks, Has, AppendsPrefix}
 use Rattle.outside.specs.declared.store.LoadFault.{LoadFault}
@@ -27,18 +32,18 @@ use Rattle.command_line.specs.declared.settings.WordsFault.{WordsFault}
 use Rattle.command_line.specs.declared.settings.WordsFault.TheVariants.{Usage as WordsUsage, NoMemory as WordsNoMemory}
 use Rattle.solution_writer.specs.Report.{IsReportable}
 use Rattle.outside.specs.Causes.{Rose}
-use Rattle.glpsol_cli.specs.Asked.{ToldNames, AreTexts, AreThere, IsInTurn, Solves, Translates, names_read}
+use Rattle.glpsol_cli.specs.Asked.{ToldNames, AreTexts, AreThere, IsInTurn, Solves, Translates, names_read, wants_subset}
 use Rattle.glpsol_cli.specs.Pieces.{Piece, Outside, AllWritten, SameNames, Says, WrittenUpTo, SomeWritten, IsFileInPart, IsWritten, IsWrittenInPart, told_behind}
-use Rattle.glpsol_cli.specs.Meaning.{Behind, Declared, Faulty, Wanting, Meaning, IsRefused, HasDone, HasFound, asked_of, behind_of, displayed, ends_in, file_pieces, files_behind, files_by, found_pieces, made_in, meaning_in, meaning_of, nothing_behind, shown_by}
+use Rattle.glpsol_cli.specs.Meaning.{Behind, Declared, Faulty, Wanting, Meaning, IsRefused, HasDone, HasFound, asked_of, behind_of, displayed, ends_in, file_pieces, files_behind, files_by, found_pieces, lacks_subset, made_in, meaning_in, meaning_of, nothing_behind, shown_by}
 use Rattle.glpsol_cli.specs.Texts.{AreTables, OfTexts, OfPieces}
 use Rattle.glpsol_cli.specs.Written.{ThenLine, extent_of, line_of}
-use Rattle.glpsol_cli.specs.Cause.{EndsBehind, IsProved, IsTranslated, reached_of, OfCertificate, IsAccepted, IsRefusedAt, IsCheckOverflow, IsNoCertificate, IsOverflow, IsUndecided, RoseAt}
+use Rattle.glpsol_cli.specs.Cause.{EndsBehind, HasSubset, IsNotLinear, IsProved, IsSubsetOf, IsTranslated, reached_of, OfCertificate, IsAccepted, IsRefusedAt, IsCheckOverflow, IsNoCertificate, IsOverflow, IsUndecided, RoseAt}
 use Rattle.glpsol_cli.specs.declared.answer.Answer.{Answer}
-use Rattle.glpsol_cli.specs.declared.answer.Answer.TheVariants.{Optimal, Infeasible, Unbounded, Translated, Accepted, Usage, Missing, OpenFault, ReadFault, WriteFault, TooLong, BadText as TextRefused, FaultBehindSolve, BadCertificate, Overflow, Undecided, Refused, NoMemory}
-use Rattle.glpsol_cli.specs.declared.answer.Limit.TheVariants.{Pivots, Splits}
-use Rattle.glpsol_cli.specs.declared.answer.OverflowSite.TheVariants.{AtNode, InPart}
+use Rattle.glpsol_cli.specs.declared.answer.Answer.TheVariants.{Optimal, Infeasible, Unbounded, Translated, Accepted, Usage, Missing, OpenFault, ReadFault, WriteFault, TooLong, BadText as TextRefused, FaultBehindSolve, BadCertificate, NotLinear, Overflow, Undecided, Refused, NoMemory}
+use Rattle.glpsol_cli.specs.declared.answer.Limit.TheVariants.{Pivots, Splits, SubsetPivots}
+use Rattle.glpsol_cli.specs.declared.answer.OverflowSite.TheVariants.{AtNode, InPart, InSubset}
 use Rattle.glpsol_cli.specs.declared.answer.Reached.{Reached}
-use Rattle.glpsol_cli.specs.declared.answer.Reached.TheVariants.{Nothing, Executed, Size as SizeReached, Acceptance as AcceptanceReached, Verdict as VerdictReached}
+use Rattle.glpsol_cli.specs.declared.answer.Reached.TheVariants.{Nothing, Executed, Size as SizeReached, Acceptance as AcceptanceReached, Verdict as VerdictReached, Subset as SubsetReached}
 use Rattle.glpsol_cli.specs.declared.answer.TextFault.TheVariants as text_fault
 use Rattle.glpsol_cli.specs.declared.answer.Target.TheVariants.{Out}
 use Rattle.glpsol_cli.specs.declared.inputs.Inputs.{Inputs}
@@ -51,11 +56,11 @@ use Rattle.glpsol_cli.specs.declared.execution.Waiting.{Waiting}
 use Rattle.glpsol_cli.specs.declared.execution.Later.{Later}
 use Rattle.glpsol_cli.specs.declared.behind.Behind.{Behind as BehindHeld}
 use Rattle.glpsol_cli.specs.declared.found.Finding.{Finding}
-use Rattle.glpsol_cli.specs.declared.found.Finding.TheVariants.{Size, Acceptance, Verdict as VerdictFound}
+use Rattle.glpsol_cli.specs.declared.found.Finding.TheVariants.{Size, Acceptance, Verdict as VerdictFound, Subset as SubsetFound}
 use Rattle.glpsol_cli.specs.declared.stop.Stop.{Stop}
 use Rattle.glpsol_cli.specs.declared.stop.Stop.TheVariants.{Words, File, NoMemory as StopNoMemory}
 use Rattle.glpsol_cli.specs.declared.stop.Unfound.{Unfound}
-use Rattle.glpsol_cli.specs.declared.stop.Unfound.TheVariants.{Solve, Check}
+use Rattle.glpsol_cli.specs.declared.stop.Unfound.TheVariants.{Solve, Check, Subset, NotLinear as SubsetNotLinear}
 use Rattle.glpsol_cli.specs.declared.stop.Unread.{Unread}
 use Rattle.glpsol_cli.specs.declared.stop.CheckStop.{CheckStop}
 use Rattle.glpsol_cli.specs.declared.stop.CheckStop.TheVariants.{BadText, Refused as CheckRefused, NoFit as CheckNoFit, NoMemory as CheckNoMemory}
@@ -186,13 +191,22 @@ pub record IsOfReading (s : Settings) (r : Reading) (e : ExecutedHeld) : Type 0 
 abbrev pub IsFinding : Problem → Settings → List (List ℕ) → Finding → Type 0
 IsFinding p s texts Size = Translates s
 IsFinding p s texts Acceptance = OfCertificate IsAccepted s texts
-IsFinding p s texts (VerdictFound c) = Solves s × Proves p c × (outcome (trials p c) ≡ Accepting)
+IsFinding p s texts (VerdictFound c) = Solves s × Proves p c × (outcome (trials p c) ≡ Accepting) × (lacks_subset (wants_subset s.task) c.verdict ≡ false)
+IsFinding p s texts (SubsetFound c w) = HasSubset c w s texts
+
+-- what is found of a problem that is to be solved, with a subset, if one is wanted, where no point is feasible
+abbrev pub IsSolution : Problem → Bool → Finding → Type 0
+IsSolution p wanted Size = ⊥
+IsSolution p wanted Acceptance = ⊥
+IsSolution p wanted (VerdictFound c) = Proves p c × (outcome (trials p c) ≡ Accepting) × (lacks_subset wanted c.verdict ≡ false)
+IsSolution p wanted (SubsetFound c w) = Proves p c × (outcome (trials p c) ≡ Accepting) × (c.verdict ≡ kind.Infeasible) × (wanted ≡ true) × IsSubsetOf p w
 
 -- what a finding is as a part of an answer
 abbrev pub reached_by : Finding → Reached
 reached_by Size = SizeReached
 reached_by Acceptance = AcceptanceReached
 reached_by (VerdictFound c) = VerdictReached c
+reached_by (SubsetFound c w) = SubsetReached c w
 
 -- ---- why nothing is found
 
@@ -209,6 +223,20 @@ pub record OfNext (P : List ℕ → Type 0) (count : ℕ) (texts : List (List �
   pub stands : slice_get texts (suc count) ≡ Some bytes
   pub holds : P bytes
 
+-- a certificate that the checker accepts proves the problem infeasible
+pub record IsRefuted (p : Problem) : Type 0 where
+  pub certificate : Certificate
+  pub infeasible : certificate.verdict ≡ kind.Infeasible
+  pub proves : Proves p certificate
+  pub accepted : outcome (trials p certificate) ≡ Accepting
+
+-- why no solution of a problem is found, or no subset that is wanted
+abbrev pub IsUnsolved : Problem → Settings → Bool → Unfound → Type 0
+IsUnsolved p s wanted (Solve fault) = IsSearchFault p s.split_limit s.pivot_limit fault
+IsUnsolved p s wanted (Check stop) = ⊥
+IsUnsolved p s wanted (Subset fault) = (wanted ≡ true) × IsRefuted p × IsSubsetFault p s.pivot_limit fault
+IsUnsolved p s wanted SubsetNotLinear = (wanted ≡ true) × ¬ (NoneInteger p.columns)
+
 -- why nothing is found
 abbrev pub IsUnfound : Unfound → Settings → List (List ℕ) → Type 0
 IsUnfound (Solve (SearchNoFit wanted site)) s texts = IsOverflow (AtNode wanted site.node) site.fault s texts
@@ -219,6 +247,10 @@ IsUnfound (Check (BadText fault)) s texts = OfCertificate (IsNoCertificate fault
 IsUnfound (Check (CheckRefused part)) s texts = OfCertificate (IsRefusedAt part) s texts
 IsUnfound (Check (CheckNoFit f)) s texts = OfCertificate (IsCheckOverflow f.part f.fault) s texts
 IsUnfound (Check CheckNoMemory) s texts = Unit {0}
+IsUnfound (Subset (SubsetNoFit stuck)) s texts = IsOverflow (InSubset stuck.members) stuck.fault s texts
+IsUnfound (Subset (SubsetPivotLimit long)) s texts = IsUndecided (SubsetPivots long.members long.bases) s texts
+IsUnfound (Subset SubsetNoMemory) s texts = Unit {0}
+IsUnfound SubsetNotLinear s texts = IsNotLinear s texts
 
 -- why the file of a name is not read
 abbrev pub IsUnread : Option (Option (List ℕ)) → Type 0 → LoadFault → Type 0
@@ -294,9 +326,16 @@ check_answer (CheckRefused part) = Refused part
 check_answer (CheckNoFit f) = Overflow (InPart f.part) f.fault
 check_answer CheckNoMemory = NoMemory Executed
 
+abbrev pub subset_answer : SubsetFault → Answer
+subset_answer (SubsetNoFit stuck) = Overflow (InSubset stuck.members) stuck.fault
+subset_answer (SubsetPivotLimit long) = Undecided (SubsetPivots long.members long.bases)
+subset_answer SubsetNoMemory = NoMemory Executed
+
 abbrev pub unfound_answer : Unfound → Answer
 unfound_answer (Solve fault) = solve_answer fault
 unfound_answer (Check fault) = check_answer fault
+unfound_answer (Subset fault) = subset_answer fault
+unfound_answer SubsetNotLinear = NotLinear
 
 abbrev pub words_answer : WordsFault → Answer
 words_answer WordsUsage = Usage
@@ -310,10 +349,11 @@ stop_answer StopNoMemory = NoMemory Nothing
 -- ---- writing
 
 -- the report of what is found has what it shows
-abbrev pub IsShown : Problem → Finding → Type 0
-IsShown p Size = Unit {0}
-IsShown p Acceptance = Unit {0}
-IsShown p (VerdictFound c) = IsReportable p c
+abbrev pub IsShown : Task → Problem → Finding → Type 0
+IsShown task p Size = Unit {0}
+IsShown task p Acceptance = Unit {0}
+IsShown task p (VerdictFound c) = IsReportable p c × (lacks_subset (wants_subset task) c.verdict ≡ false)
+IsShown task p (SubsetFound c w) = c.verdict ≡ kind.Infeasible
 
 -- how the writing of pieces ends
 abbrev pub EndsWriting : {T : Type 0} → List Piece → Outside → Outside → Result T PublishFault → Type 0
@@ -496,6 +536,7 @@ LeftIn s texts Executed P = P []
 LeftIn s texts SizeReached P = HasLeft SizeReached P s texts
 LeftIn s texts AcceptanceReached P = HasLeft AcceptanceReached P s texts
 LeftIn s texts (VerdictReached c) P = HasLeft (VerdictReached c) P s texts
+LeftIn s texts (SubsetReached c w) P = HasLeft (SubsetReached c w) P s texts
 
 abbrev pub LeftWritten : Settings → List (List ℕ) → Outside → Outside → Answer → Type 0
 LeftWritten s texts old new answer = LeftIn s texts (reached_of answer) (ThenLine (extent_of answer) (line_of answer) old new)

@@ -9,11 +9,11 @@ use Rattle.glpsol_cli.specs.Pieces.{Piece, Outside}
 use Rattle.glpsol_cli.specs.Meaning.{IsRefused, HasDone, HasFound}
 use Rattle.glpsol_cli.specs.Texts.{IsTableInTurn, OfTexts}
 use Rattle.glpsol_cli.specs.Written.{ThenLine, extent_of, line_of}
-use Rattle.glpsol_cli.specs.Cause.{EndsBehind, IsBest, IsProved, IsTranslated, HasNoPoint, HasRay, reached_of, OfCertificate, IsAccepted, IsRefusedAt, IsNoCertificate, IsOverflow, IsUndecided, RoseAt}
+use Rattle.glpsol_cli.specs.Cause.{EndsBehind, IsBest, IsProved, IsTranslated, HasNoPoint, HasRay, HasSubset, IsIrreducibleSubset, IsNotLinear, reached_of, OfCertificate, IsAccepted, IsRefusedAt, IsNoCertificate, IsOverflow, IsUndecided, RoseAt}
 use Rattle.glpsol_cli.specs.declared.answer.Answer.{Answer}
-use Rattle.glpsol_cli.specs.declared.answer.Answer.TheVariants.{Optimal, Infeasible, Unbounded, Translated, Accepted, Usage, Missing, OpenFault, ReadFault, WriteFault, TooLong, BadText as TextRefused, FaultBehindSolve, BadCertificate, Overflow, Undecided, Refused, NoMemory}
+use Rattle.glpsol_cli.specs.declared.answer.Answer.TheVariants.{Optimal, Infeasible, Irreducible, Unbounded, Translated, Accepted, Usage, Missing, OpenFault, ReadFault, WriteFault, TooLong, BadText as TextRefused, FaultBehindSolve, BadCertificate, NotLinear, Overflow, Undecided, Refused, NoMemory}
 use Rattle.glpsol_cli.specs.declared.answer.Reached.{Reached}
-use Rattle.glpsol_cli.specs.declared.answer.Reached.TheVariants.{Nothing, Executed, Size as SizeReached, Acceptance as AcceptanceReached, Verdict as VerdictReached}
+use Rattle.glpsol_cli.specs.declared.answer.Reached.TheVariants.{Nothing, Executed, Size as SizeReached, Acceptance as AcceptanceReached, Verdict as VerdictReached, Subset as SubsetReached}
 
 abbrev pub ReachedIn : Settings → List (List ℕ) → Reached → Type 0
 ReachedIn s texts Nothing = Unit {0}
@@ -21,11 +21,13 @@ ReachedIn s texts Executed = HasDone (λ done. Unit {0}) s texts
 ReachedIn s texts SizeReached = IsTranslated s texts
 ReachedIn s texts AcceptanceReached = OfCertificate IsAccepted s texts
 ReachedIn s texts (VerdictReached c) = IsProved c s texts
+ReachedIn s texts (SubsetReached c w) = HasSubset c w s texts
 
 -- the cause of an answer that comes when they are read
 abbrev pub CauseIn : Settings → List (List ℕ) → Type 0 → Type 0 → Answer → Type 0
 CauseIn s texts files_rose out_rose (Optimal c) = (c.verdict ≡ kind.Optimal) × EndsBehind None c s texts
 CauseIn s texts files_rose out_rose (Infeasible c) = (c.verdict ≡ kind.Infeasible) × IsProved c s texts
+CauseIn s texts files_rose out_rose (Irreducible c w) = HasSubset c w s texts
 CauseIn s texts files_rose out_rose (Unbounded c) = (c.verdict ≡ kind.Unbounded) × IsProved c s texts
 CauseIn s texts files_rose out_rose Translated = IsTranslated s texts
 CauseIn s texts files_rose out_rose Accepted = OfCertificate IsAccepted s texts
@@ -38,6 +40,7 @@ CauseIn s texts files_rose out_rose (TooLong name reached) = ⊥
 CauseIn s texts files_rose out_rose (TextRefused fault) = IsRefused fault s texts
 CauseIn s texts files_rose out_rose (FaultBehindSolve fault c) = (c.verdict ≡ kind.Optimal) × EndsBehind (Some fault) c s texts
 CauseIn s texts files_rose out_rose (BadCertificate fault) = OfCertificate (IsNoCertificate fault) s texts
+CauseIn s texts files_rose out_rose NotLinear = IsNotLinear s texts
 CauseIn s texts files_rose out_rose (Overflow at e) = IsOverflow at e s texts
 CauseIn s texts files_rose out_rose (Undecided limit) = IsUndecided limit s texts
 CauseIn s texts files_rose out_rose (Refused part) = OfCertificate (IsRefusedAt part) s texts
@@ -50,6 +53,7 @@ PiecesIn s texts Executed P = HasDone P s texts
 PiecesIn s texts SizeReached P = HasFound SizeReached P s texts
 PiecesIn s texts AcceptanceReached P = HasFound AcceptanceReached P s texts
 PiecesIn s texts (VerdictReached c) P = HasFound (VerdictReached c) P s texts
+PiecesIn s texts (SubsetReached c w) P = HasFound (SubsetReached c w) P s texts
 
 -- ---- all of one run
 
@@ -65,6 +69,7 @@ CauseBy told files_rose out_rose answer s texts = CauseIn s texts files_rose out
 abbrev pub VerdictBy : Answer → Settings → List (List ℕ) → Type 0
 VerdictBy (Optimal c) s texts = IsBest c s texts
 VerdictBy (Infeasible c) s texts = HasNoPoint s texts
+VerdictBy (Irreducible c w) s texts = IsIrreducibleSubset w s texts
 VerdictBy (Unbounded c) s texts = HasRay c s texts
 VerdictBy (FaultBehindSolve fault c) s texts = IsBest c s texts
 VerdictBy answer s texts = Unit {0}
@@ -81,6 +86,7 @@ OnceExecuted Executed P = P
 OnceExecuted SizeReached P = P
 OnceExecuted AcceptanceReached P = P
 OnceExecuted (VerdictReached c) P = P
+OnceExecuted (SubsetReached c w) P = P
 
 -- the cause and all that is written are of the same texts of the files that the words name and that tables are read from
 abbrev pub Tells : List (List ℕ) → ToldNames → Outside → Outside → Type 0 → Type 0 → Answer → Type 0

@@ -1,14 +1,14 @@
 -- What a run writes with each answer: the pieces of what it reached, or the first of them, and then the line of a fault or a part of it.
 -- Behind a write on the output that fails nothing more is written there.
 use Rattle.std.specs.Prelude.{◌⊎◌, ℕ, List, [], codes}
-use Rattle.solution_writer.specs.FaultLine.{named_line, overflow_line, usage_line, syntax_line, data_line, model_line, file_line, certificate_line, undecided_nodes_line, undecided_pivots_line, refused_line, no_memory_line}
+use Rattle.solution_writer.specs.FaultLine.{named_line, overflow_line, usage_line, syntax_line, data_line, model_line, file_line, certificate_line, not_linear_line, undecided_nodes_line, undecided_pivots_line, refused_line, no_memory_line}
 use Rattle.glpsol_cli.specs.Pieces.{Piece, Outside, IsWrittenInPart, Extent, Whole, UpTo, Part, WrittenTo, WrittenUpTo}
 use Rattle.glpsol_cli.specs.Texts.{OfPieces}
 use Rattle.glpsol_cli.specs.Cause.{reached_of}
 use Rattle.glpsol_cli.specs.declared.answer.Answer.{Answer}
-use Rattle.glpsol_cli.specs.declared.answer.Answer.TheVariants.{Optimal, Infeasible, Unbounded, Translated, Accepted, Usage, Missing, OpenFault, ReadFault, WriteFault, TooLong, BadText, FaultBehindSolve, BadCertificate, Overflow, Undecided, Refused, NoMemory}
+use Rattle.glpsol_cli.specs.declared.answer.Answer.TheVariants.{Optimal, Infeasible, Irreducible, Unbounded, Translated, Accepted, Usage, Missing, OpenFault, ReadFault, WriteFault, TooLong, BadText, FaultBehindSolve, BadCertificate, NotLinear, Overflow, Undecided, Refused, NoMemory}
 use Rattle.glpsol_cli.specs.declared.answer.Limit.{Limit}
-use Rattle.glpsol_cli.specs.declared.answer.Limit.TheVariants.{Pivots, Splits}
+use Rattle.glpsol_cli.specs.declared.answer.Limit.TheVariants.{Pivots, Splits, SubsetPivots}
 use Rattle.glpsol_cli.specs.declared.answer.Target.{Target}
 use Rattle.glpsol_cli.specs.declared.answer.Target.TheVariants.{Out, File}
 use Rattle.glpsol_cli.specs.declared.answer.TextFault.{TextFault}
@@ -27,12 +27,14 @@ text_line (FileText fault) = file_line fault
 
 abbrev pub undecided_line : Limit → List ℕ
 undecided_line (Pivots wanted bases) = undecided_pivots_line
+undecided_line (SubsetPivots members bases) = undecided_pivots_line
 undecided_line (Splits wanted board) = undecided_nodes_line
 
 -- the line of a fault; an answer without a fault has none
 abbrev pub line_of : Answer → List ℕ
 line_of (Optimal c) = []
 line_of (Infeasible c) = []
+line_of (Irreducible c w) = []
 line_of (Unbounded c) = []
 line_of Translated = []
 line_of Accepted = []
@@ -45,6 +47,7 @@ line_of (TooLong name reached) = named_line (codes "too long") name
 line_of (BadText fault) = text_line fault
 line_of (FaultBehindSolve fault c) = model_line fault
 line_of (BadCertificate fault) = certificate_line fault
+line_of NotLinear = not_linear_line
 line_of (Overflow at fault) = overflow_line fault
 line_of (Undecided limit) = undecided_line limit
 line_of (Refused part) = refused_line part
@@ -54,6 +57,7 @@ line_of (NoMemory reached) = no_memory_line
 abbrev pub extent_of : Answer → Extent
 extent_of (Optimal c) = Whole
 extent_of (Infeasible c) = Whole
+extent_of (Irreducible c w) = Whole
 extent_of (Unbounded c) = Whole
 extent_of Translated = Whole
 extent_of Accepted = Whole
@@ -66,6 +70,7 @@ extent_of (TooLong name reached) = Whole
 extent_of (BadText fault) = Whole
 extent_of (FaultBehindSolve fault c) = Whole
 extent_of (BadCertificate fault) = Whole
+extent_of NotLinear = Whole
 extent_of (Overflow at fault) = Whole
 extent_of (Undecided limit) = Whole
 extent_of (Refused part) = Whole

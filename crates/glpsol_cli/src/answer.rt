@@ -9,6 +9,7 @@ use fraction::NoFit;
 use gmpl_blocks::DataFault;
 use gmpl_generate::ModelFault;
 use gmpl_syntax::SyntaxFault;
+use infeasible_subset::{Members, Subset};
 use instance::Name;
 use model_text::FileFault;
 use search_node::{Bases, Node};
@@ -44,6 +45,8 @@ pub enum OverflowSite {
     AtNode { wanted: Wanted, node: Node },
     /// In the check of this part of a certificate.
     InPart(Part),
+    /// In the search for an infeasible subset, where the problem keeps these bounds alone.
+    InSubset(Members),
 }
 
 /// A limit that a search came to.
@@ -53,6 +56,9 @@ pub enum Limit {
     Pivots(Wanted, Bases),
     /// As many splits are made as are allowed on this board, and nodes are left that would have to be split.
     Splits(Wanted, Boxed<Board>),
+    /// In the search for an infeasible subset, where the problem keeps these bounds alone, the simplex method went through these
+    /// bases, as many steps as are allowed, and has not ended.
+    SubsetPivots(Members, Bases),
 }
 
 /// How far a run has come.
@@ -68,6 +74,8 @@ pub enum Reached {
     Acceptance,
     /// This certificate proves its verdict, and the checker accepts it.
     Verdict(Boxed<Certificate>),
+    /// The certificate proves that no point is feasible, the checker accepts it, and this is an irreducible infeasible subset.
+    Subset(Boxed<Certificate>, Boxed<Subset>),
 }
 
 /// What a run comes to, with the values that show it.
@@ -75,8 +83,11 @@ pub enum Reached {
 pub enum Answer {
     /// The certificate's point is best, no statement behind `solve` has a fault there, and all was written.
     Optimal(Boxed<Certificate>),
-    /// No point is feasible, as the certificate shows, and all was written.
+    /// No point is feasible, as the certificate shows, and all was written. No subset was asked for.
     Infeasible(Boxed<Certificate>),
+    /// No point is feasible, as the certificate shows, and all was written, with this irreducible infeasible subset, which was
+    /// asked for.
+    Irreducible(Boxed<Certificate>, Boxed<Subset>),
     /// The certificate's ray improves its point without end, and all was written.
     Unbounded(Boxed<Certificate>),
     /// The problem was read, and its size written.
@@ -120,6 +131,8 @@ pub enum Answer {
     },
     /// The text of the certificate that was to be checked has this fault, and none before it.
     BadCertificate(CertFault),
+    /// An infeasible subset is asked for of a problem with integer columns.
+    NotLinear,
     /// The result of this operation does not fit.
     Overflow {
         at: OverflowSite,
@@ -145,6 +158,7 @@ impl Answer {
         match self {
             Answer::Optimal(_)
             | Answer::Infeasible(_)
+            | Answer::Irreducible(..)
             | Answer::Unbounded(_)
             | Answer::Translated
             | Answer::Accepted => 0,
@@ -156,7 +170,8 @@ impl Answer {
             Answer::TooLong { .. }
             | Answer::BadText(_)
             | Answer::FaultBehindSolve { .. }
-            | Answer::BadCertificate(_) => 2,
+            | Answer::BadCertificate(_)
+            | Answer::NotLinear => 2,
             Answer::Overflow { .. } => 3,
             Answer::Undecided(_) => 4,
             Answer::NoMemory { .. } => 5,

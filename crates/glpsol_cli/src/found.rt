@@ -4,6 +4,7 @@ ghost use Rattle.glpsol_cli.specs.Stages.{reached_by};
 
 use crate::Reached;
 use certificate::Certificate;
+use infeasible_subset::Subset;
 use sqlite_items::Boxed;
 
 // What is found of a problem, as the settings ask.
@@ -15,6 +16,8 @@ pub enum Finding {
     Acceptance,
     // this certificate proves its verdict
     Verdict(Boxed<Certificate>),
+    // the certificate proves that no point is feasible, and this is an irreducible infeasible subset
+    Subset(Boxed<Certificate>, Boxed<Subset>),
 }
 
 impl Finding {
@@ -26,6 +29,7 @@ impl Finding {
             Finding::Size => Reached::Size,
             Finding::Acceptance => Reached::Acceptance,
             Finding::Verdict(certificate) => Reached::Verdict(certificate),
+            Finding::Subset(certificate, subset) => Reached::Subset(certificate, subset),
         }
     }
 }

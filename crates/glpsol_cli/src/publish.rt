@@ -1,21 +1,25 @@
 // What is found is written: the report, and then the files that the task names.
-ghost use Rattle.std.specs.Prelude.{◌≡◌, ◌≤◌, ◌++◌, List, ℕ, IfOk, IfErr, OnOk, Some, string_bytes};
+ghost use Rattle.std.specs.Prelude.{◌≡◌, ◌≤◌, ◌++◌, List, ℕ, false, IfOk, IfErr, OnOk, Some, string_bytes};
+ghost use Rattle.verdicts.specs.Certificate.{Infeasible as is_infeasible};
 ghost use Rattle.std.specs.Option.{option_map};
 ghost use Rattle.outside.specs.Causes.{Rose};
 ghost use Rattle.solution_writer.specs.Report.{IsReportable, solved_report};
 ghost use Rattle.solution_writer.specs.Solution.{raw_solution};
 ghost use Rattle.certificate.specs.Text.{certificate_text};
-ghost use Rattle.glpsol_cli.specs.Asked.{outputs_of};
-ghost use Rattle.glpsol_cli.specs.Meaning.{found_pieces, printed, saved_in, saved_pieces, solved_pieces};
+ghost use Rattle.glpsol_cli.specs.Asked.{outputs_of, wants_subset};
+ghost use Rattle.glpsol_cli.specs.Meaning.{found_pieces, lacks_subset, printed, saved_in, saved_pieces, solved_pieces};
 ghost use Rattle.glpsol_cli.specs.Stages.{reached_by, piece_of, pieces_of, IsShown, EndsPiece, EndsWriting, HasFailed, IsPublished};
 
 use crate::Target;
 use crate::found::Finding;
 use certificate::{Certificate, text};
 use command_line::{Outputs, Task};
+use infeasible_subset::Subset;
 use instance::{Instance, Name};
 use outside::{Sink, Store, Trouble, write_all, write_file};
-use solution_writer::{accepted_report, raw_solution, solved_report, translated_report};
+use solution_writer::{
+    accepted_report, raw_solution, solved_report, subset_report, translated_report,
+};
 use std::alloc::{AllocError, Global};
 
 // A text, and where it is written.
@@ -45,7 +49,7 @@ pub fn publish<S: Store, O: Sink>(
     problem: &Instance,
     finding: &Finding,
 ) -> Result<(), PublishFault>
-    requires { IsShown problem.now finding.now }
+    requires { IsShown task.now problem.now finding.now }
     ensures published { IsPublished task.now problem.now finding.now (record { taken = O.taken out.old; told = S.told files.old }) (record { taken = O.taken out.new; told = S.told files.new }) result }
     ensures failed { IfErr result (HasFailed (Rose (S.faults files.old) (S.faults files.new)) (Rose (O.faults out.old) (O.faults out.new))) }
     ensures files_later { S.faults files.old ≤ S.faults files.new }
@@ -66,13 +70,16 @@ fn pieces(
     problem: &Instance,
     finding: &Finding,
 ) -> Result<Vec<Piece>, AllocError>
-    requires { IsShown problem.now finding.now }
+    requires { IsShown task.now problem.now finding.now }
     ensures { IfOk result (λ pieces. found_pieces task.now problem.now (reached_by finding.now) ≡ Some (pieces_of pieces.items)) }
 {
     match finding {
         Finding::Size => output(alloc, &translated_report(alloc, problem)?),
         Finding::Acceptance => output(alloc, &accepted_report(alloc)?),
         Finding::Verdict(certificate) => solved(alloc, task, problem, certificate.get()),
+        Finding::Subset(certificate, subset) => {
+            with_subset(alloc, task, problem, certificate.get(), subset.get())
+        }
     }
 }
 
@@ -83,10 +90,28 @@ fn solved(
     problem: &Instance,
     certificate: &Certificate,
 ) -> Result<Vec<Piece>, AllocError>
-    requires { IsReportable problem.now certificate.now }
+    requires parts { IsReportable problem.now certificate.now }
+    requires plain { lacks_subset (wants_subset task.now) certificate.now.verdict ≡ false }
     ensures { IfOk result (λ pieces. found_pieces task.now problem.now (reached_by (Finding.Verdict certificate.now)) ≡ Some (pieces_of pieces.items)) }
 {
     let report = solved_report(alloc, problem, certificate)?;
+    let mut pieces = output(alloc, &report)?;
+    add_files(alloc, &mut pieces, task, problem, certificate, &report)?;
+    Ok(pieces)
+}
+
+// The report with a subset on the output, and then the files that the task names.
+fn with_subset(
+    alloc: Global,
+    task: &Task,
+    problem: &Instance,
+    certificate: &Certificate,
+    subset: &Subset,
+) -> Result<Vec<Piece>, AllocError>
+    requires { certificate.now.verdict ≡ is_infeasible }
+    ensures { IfOk result (λ pieces. found_pieces task.now problem.now (reached_by (Finding.Subset certificate.now subset.now)) ≡ Some (pieces_of pieces.items)) }
+{
+    let report = subset_report(alloc, problem, &subset.witnesses)?;
     let mut pieces = output(alloc, &report)?;
     add_files(alloc, &mut pieces, task, problem, certificate, &report)?;
     Ok(pieces)

@@ -1,12 +1,13 @@
 // Why the work stops, by the stage of it that says so.
 ghost use Rattle.std.specs.Prelude.{◌≡◌};
-ghost use Rattle.glpsol_cli.specs.Stages.{words_answer, unread_answer, solve_answer, check_answer, unfound_answer, stop_answer};
+ghost use Rattle.glpsol_cli.specs.Stages.{words_answer, unread_answer, solve_answer, check_answer, subset_answer, unfound_answer, stop_answer};
 
 use crate::{Answer, Limit, OverflowSite, Reached};
 use branch_search::VerdictFault;
 use cert_check::{CheckFault, Part};
 use certificate_reader::CertFault;
 use command_line::WordsFault;
+use infeasible_subset::{StuckAt, SubsetFault, TooLong};
 use instance::Name;
 use outside::LoadFault;
 
@@ -30,6 +31,9 @@ pub struct Unread {
 pub enum Unfound {
     Solve(VerdictFault),
     Check(CheckStop),
+    Subset(SubsetFault),
+    // a subset is asked for of a problem with integer columns
+    NotLinear,
 }
 
 // Why a certificate is not accepted.
@@ -82,6 +86,8 @@ pub fn unfound_answer(unfound: Unfound) -> Answer
     match unfound {
         Unfound::Solve(fault) => solve_answer(fault),
         Unfound::Check(stop) => check_answer(stop),
+        Unfound::Subset(fault) => subset_answer(fault),
+        Unfound::NotLinear => Answer::NotLinear,
     }
 }
 
@@ -113,6 +119,21 @@ fn check_answer(stop: CheckStop) -> Answer
             fault,
         },
         CheckStop::NoMemory => no_memory(Reached::Executed),
+    }
+}
+
+fn subset_answer(fault: SubsetFault) -> Answer
+    ensures { result ≡ subset_answer fault }
+{
+    match fault {
+        SubsetFault::NoFit(StuckAt { members, fault }) => Answer::Overflow {
+            at: OverflowSite::InSubset(members),
+            fault,
+        },
+        SubsetFault::PivotLimit(TooLong { members, bases }) => {
+            Answer::Undecided(Limit::SubsetPivots(members, bases))
+        }
+        SubsetFault::NoMemory => no_memory(Reached::Executed),
     }
 }
 

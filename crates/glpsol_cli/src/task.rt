@@ -96,6 +96,7 @@ fn from_report<S: Store, O: Sink>(
         Finding::Verdict(certificate) => {
             from_verdict(alloc, inputs, problem, later, certificate, files, out)
         }
+        Finding::Subset(certificate, subset) => Answer::Irreducible(certificate, subset),
     }
 }
 

@@ -63,6 +63,7 @@ fn line(alloc: Global, answer: &Answer) -> Result<String, AllocError>
     match answer {
         Answer::Optimal(_)
         | Answer::Infeasible(_)
+        | Answer::Irreducible(..)
         | Answer::Unbounded(_)
         | Answer::Translated
         | Answer::Accepted => Ok(String::new(alloc)),
@@ -78,8 +79,10 @@ fn line(alloc: Global, answer: &Answer) -> Result<String, AllocError>
         Answer::BadText(TextFault::File(fault)) => fault_line(alloc, &Fault::File(*fault)),
         Answer::FaultBehindSolve { fault, .. } => fault_line(alloc, &Fault::Model(*fault)),
         Answer::BadCertificate(fault) => fault_line(alloc, &Fault::Certificate(*fault)),
+        Answer::NotLinear => fault_line(alloc, &Fault::NotLinear),
         Answer::Overflow { fault, .. } => fault_line(alloc, &Fault::Overflow(*fault)),
         Answer::Undecided(Limit::Pivots(..)) => fault_line(alloc, &Fault::UndecidedPivots),
+        Answer::Undecided(Limit::SubsetPivots(..)) => fault_line(alloc, &Fault::UndecidedPivots),
         Answer::Undecided(Limit::Splits(..)) => fault_line(alloc, &Fault::UndecidedNodes),
         Answer::Refused(part) => fault_line(alloc, &Fault::Refused(*part)),
         Answer::NoMemory { .. } => fault_line(alloc, &Fault::NoMemory),

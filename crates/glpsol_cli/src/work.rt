@@ -1,13 +1,14 @@
 // The whole of the program's work.
-ghost use Rattle.std.specs.Prelude.{◌≡◌, ◌≤◌, ℕ, List, false, Some, map, string_bytes};
+ghost use Rattle.std.specs.Prelude.{◌≡◌, ◌≤◌, ℕ, List, true, false, Some, map, string_bytes};
 ghost use Rattle.verdicts.specs.Certificate.{Certificate};
+ghost use Rattle.infeasible_subset.specs.declared.witness.Subset.{Subset};
 ghost use Rattle.outside.specs.Causes.{Rose};
 ghost use Rattle.command_line.specs.Meaning.{settings_of};
 ghost use Rattle.command_line.specs.declared.settings.Settings.{Settings};
-ghost use Rattle.glpsol_cli.specs.Asked.{ToldNames};
+ghost use Rattle.glpsol_cli.specs.Asked.{ToldNames, wants_subset};
 ghost use Rattle.glpsol_cli.specs.Pieces.{Outside, SameNames};
 ghost use Rattle.glpsol_cli.specs.Texts.{OfTexts};
-ghost use Rattle.glpsol_cli.specs.Cause.{Cause, IsBest, HasNoPoint, HasRay, IsNotByPivots, IsTrueOf, reached_of};
+ghost use Rattle.glpsol_cli.specs.Cause.{Cause, IsBest, HasNoPoint, HasRay, IsIrreducibleSubset, IsNotByPivots, IsNotPlain, IsTrueOf, reached_of};
 ghost use Rattle.glpsol_cli.specs.Written.{Written};
 ghost use Rattle.glpsol_cli.specs.Complete.{IsComplete, IsVerdictOrNoMemory};
 ghost use Rattle.glpsol_cli.specs.Stages.{AreInputs, AreSomeInputs, IsEndIn, IsEndOf, IsRun, IsSomeRun, IsSubject, IsWhole, LeftWritten, Moment, WrittenSince, texts_in};
@@ -44,6 +45,13 @@ pub fn run<T: Threads + Sync, S: Store, O: Sink>(
 
     // Where it answers Unbounded, the point is feasible, and the ray improves it without end.
     ensures unbounded { (c : Certificate) → result ≡ Answer.Unbounded c → OfTexts (map string_bytes words.items) (S.told files.old) (HasRay c) }
+
+    // Where a subset is asked for, and no point is feasible, no point meets the subset's bounds, and the point beside each of them meets
+    // all the others, whatever fault comes after it. These are the lines that are printed behind the verdict.
+    ensures subset { (c : Certificate) (w : Subset) → reached_of result ≡ Reached.Subset c w → OfTexts (map string_bytes words.items) (S.told files.old) (IsIrreducibleSubset w) }
+
+    // And there it never answers Infeasible without a subset.
+    ensures subset_asked { (s : Settings) → settings_of (map string_bytes words.items) ≡ Some s → wants_subset s.task ≡ true → IsNotPlain result }
 
     // The verdict of each certificate that an answer carries is true, whatever fault comes after it.
     ensures carried { (c : Certificate) → reached_of result ≡ Reached.Verdict c → OfTexts (map string_bytes words.items) (S.told files.old) (IsTrueOf c) }

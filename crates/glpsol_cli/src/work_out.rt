@@ -1,21 +1,25 @@
 // What the words ask for is worked out: the problem is measured or solved, or a certificate checked against it.
-ghost use Rattle.std.specs.Prelude.{◌≡◌, ◌<◌, ◌≤◌, suc, length, IfOk, IfErr, OnOk, map};
+ghost use Rattle.std.specs.Prelude.{◌≡◌, ◌<◌, ◌≤◌, suc, length, true, IfOk, IfErr, OnOk, map};
 ghost use Rattle.verdicts.specs.Proves.{Proves};
+ghost use Rattle.verdicts.specs.Certificate.{Infeasible as is_infeasible};
+ghost use Rattle.branch_search.specs.Plain.{NoneInteger, IsPlainCertificate};
 ghost use Rattle.branch_search.specs.WholeFaults.{IsFault};
+ghost use Rattle.infeasible_subset.specs.Faults.{IsFault as IsSubsetFault};
 ghost use Rattle.cert_check.specs.Outcome.{Acceptance, outcome, trials};
 ghost use Rattle.glpsol_cli.specs.Asked.{names_read};
 ghost use Rattle.glpsol_cli.specs.Meaning.{IsAsked};
-ghost use Rattle.glpsol_cli.specs.Cause.{IsAccepted};
-ghost use Rattle.glpsol_cli.specs.Stages.{IsFinding, IsUnfound, IsCheckStop, OfNext, texts_in};
+ghost use Rattle.glpsol_cli.specs.Cause.{IsAccepted, IsSubsetOf};
+ghost use Rattle.glpsol_cli.specs.Stages.{IsFinding, IsUnfound, IsSolution, IsUnsolved, IsCheckStop, OfNext, texts_in};
 
 use crate::found::Finding;
 use crate::inputs::Inputs;
 use crate::stop::{CheckStop, Unfound};
 use branch_search::{VerdictFault, solve};
 use cert_check::{Checked, check};
-use certificate::Certificate;
+use certificate::{Certificate, Verdict};
 use certificate_reader::CertError;
 use command_line::{Settings, Task};
+use infeasible_subset::{Subset, SubsetFault, has_no_integer_column, subset};
 use instance::Instance;
 use sqlite_items::Boxed;
 use std::alloc::Global;
@@ -29,10 +33,7 @@ pub fn finding(alloc: Global, problem: &Instance, inputs: &Inputs) -> Result<Fin
 {
     let settings = inputs.settings.get();
     match &settings.task {
-        Task::Solve(_) => match solved(alloc, problem, settings) {
-            Ok(certificate) => Ok(Finding::Verdict(certificate)),
-            Err(fault) => Err(Unfound::Solve(fault)),
-        },
+        Task::Solve(outputs) => solution(alloc, problem, settings, outputs.subset),
         Task::Translate => Ok(Finding::Size),
         Task::CheckCertificate(_) => {
             let count = settings.data_files.as_slice().len();
@@ -44,6 +45,104 @@ pub fn finding(alloc: Global, problem: &Instance, inputs: &Inputs) -> Result<Fin
     }
 }
 
+// The certificate of a problem, and where no point is feasible a subset, if one is wanted.
+fn solution(
+    alloc: Global,
+    problem: &Instance,
+    settings: &Settings,
+    wants_subset: bool,
+) -> Result<Finding, Unfound>
+    ensures finding { IfOk result (IsSolution problem.now wants_subset) }
+    ensures fault { IfErr result (IsUnsolved problem.now settings.now wants_subset) }
+{
+    if !wants_subset {
+        return match solved(alloc, problem, settings) {
+            Ok(certificate) => Ok(Finding::Verdict(certificate)),
+            Err(fault) => Err(Unfound::Solve(fault)),
+        };
+    }
+    if has_no_integer_column(problem) {
+        linear_solution(alloc, problem, settings)
+    } else {
+        Err(Unfound::NotLinear)
+    }
+}
+
+// The same of a problem without integer columns, where a subset is wanted.
+fn linear_solution(
+    alloc: Global,
+    problem: &Instance,
+    settings: &Settings,
+) -> Result<Finding, Unfound>
+    requires { NoneInteger problem.now.columns }
+    ensures finding { IfOk result (IsSolution problem.now true) }
+    ensures fault { IfErr result (IsUnsolved problem.now settings.now true) }
+{
+    match solved(alloc, problem, settings) {
+        Ok(certificate) => with_subset(alloc, problem, certificate, settings),
+        Err(fault) => Err(Unfound::Solve(fault)),
+    }
+}
+
+// The certificate, with a subset where no point is feasible.
+fn with_subset(
+    alloc: Global,
+    problem: &Instance,
+    certificate: Boxed<Certificate>,
+    settings: &Settings,
+) -> Result<Finding, Unfound>
+    requires continuous { NoneInteger problem.now.columns }
+    requires plain { IsPlainCertificate problem.now certificate }
+    requires proves { Proves problem.now certificate }
+    requires accepted { outcome (trials problem.now certificate) ≡ Acceptance }
+    ensures finding { IfOk result (IsSolution problem.now true) }
+    ensures fault { IfErr result (IsUnsolved problem.now settings.now true) }
+{
+    match certificate.get().verdict() {
+        Verdict::Infeasible => by_subset(alloc, problem, certificate, settings),
+        Verdict::Optimal | Verdict::Unbounded => Ok(Finding::Verdict(certificate)),
+    }
+}
+
+// The certificate of a problem without feasible points, with a subset.
+fn by_subset(
+    alloc: Global,
+    problem: &Instance,
+    certificate: Boxed<Certificate>,
+    settings: &Settings,
+) -> Result<Finding, Unfound>
+    requires continuous { NoneInteger problem.now.columns }
+    requires infeasible { certificate.verdict ≡ is_infeasible }
+    requires plain { IsPlainCertificate problem.now certificate }
+    requires proves { Proves problem.now certificate }
+    requires accepted { outcome (trials problem.now certificate) ≡ Acceptance }
+    ensures finding { IfOk result (IsSolution problem.now true) }
+    ensures fault { IfErr result (IsUnsolved problem.now settings.now true) }
+{
+    match kept_subset(alloc, problem, certificate.get(), settings.pivot_limit) {
+        Ok(subset) => Ok(Finding::Subset(certificate, subset)),
+        Err(fault) => Err(Unfound::Subset(fault)),
+    }
+}
+
+// An irreducible infeasible subset of the problem's bounds.
+fn kept_subset(
+    alloc: Global,
+    problem: &Instance,
+    certificate: &Certificate,
+    pivot_limit: u32,
+) -> Result<Boxed<Subset>, SubsetFault>
+    requires continuous { NoneInteger problem.now.columns }
+    requires infeasible { certificate.now.verdict ≡ is_infeasible }
+    requires plain { IsPlainCertificate problem.now certificate.now }
+    requires proves { Proves problem.now certificate.now }
+    ensures subset { IfOk result (IsSubsetOf problem.now) }
+    ensures fault { IfErr result (IsSubsetFault problem.now pivot_limit) }
+{
+    let subset = subset(alloc, problem, certificate, pivot_limit)?;
+    Ok(Boxed::new(alloc, subset)?)
+}
+
 // The certificate of a problem.
 fn solved(
     alloc: Global,
@@ -51,6 +150,7 @@ fn solved(
     settings: &Settings,
 ) -> Result<Boxed<Certificate>, VerdictFault>
     ensures proves { IfOk result (λ c. Proves problem.now c × (outcome (trials problem.now c) ≡ Acceptance)) }
+    ensures plain { NoneInteger problem.now.columns → IfOk result (λ c. IsPlainCertificate problem.now c) }
     ensures fault { IfErr result (IsFault problem.now settings.now.split_limit settings.now.pivot_limit) }
 {
     let splits = settings.split_limit as usize;

@@ -33,6 +33,8 @@ mod rows;
 #[cfg(test)]
 mod runs;
 #[cfg(test)]
+mod subsets;
+#[cfg(test)]
 mod tables;
 #[cfg(test)]
 mod written_files;

@@ -1,6 +1,6 @@
 // The tables, row by row. One loop goes over all of them, so that a test is one call, which is proved ten times as fast as a loop.
 use crate::failing_calls::failing_calls;
-use crate::runs::{answer_of_row, round_trip_of_row};
+use crate::runs::{answer_of_row, members_of_row, round_trip_of_row};
 use crate::written_files::written_of_row;
 use std::alloc::{AllocError, Global};
 use std::process::Abort;
@@ -9,12 +9,14 @@ use std::thread::Threads;
 
 /// How a table's rows are found. A row of `Answers` and of `RoundTrips` has, parted by ` <- `, the status and what is printed, then the
 /// words, and then the texts of the files f, c and d, where there are such files; what doesn't end a line is the beginning of what is
-/// printed. In `RoundTrips` the certificate that the program writes for a row whose status is 0, it accepts.
+/// printed. In `RoundTrips` the certificate that the program writes for a row whose status is 0, it accepts. In `Subsets`
+/// lines are printed up to the third word, so that the numbers of points are left out.
 #[derive(Drop)]
 pub(crate) enum Subject {
     Answers,
     FailingCalls,
     RoundTrips,
+    Subsets,
     WrittenFiles,
 }
 
@@ -33,6 +35,7 @@ fn found<T: Threads + Sync>(
         Subject::Answers => answer_of_row(rt, alloc, row),
         Subject::FailingCalls => failing_calls(rt, alloc, row),
         Subject::RoundTrips => round_trip_of_row(rt, alloc, row),
+        Subject::Subsets => members_of_row(rt, alloc, row),
         Subject::WrittenFiles => written_of_row(rt, alloc, row),
     }
 }

@@ -121,6 +121,35 @@ fn in_words_of(alloc: Global, found: &str, want: &str) -> Result<String, AllocEr
     Ok(found)
 }
 
+/// The status and what is printed in a row, each line up to its third word.
+pub(crate) fn members_of_row<T: Threads + Sync>(
+    rt: &T,
+    alloc: Global,
+    row: &str,
+) -> Result<String, AllocError> {
+    let (_, given) = split(row);
+    let found = outcome_of_row(rt, alloc, given)?;
+    let mut members = String::new(alloc);
+    for line in found.as_str().lines() {
+        push_words(&mut members, line)?;
+        members.push('$')?;
+    }
+    Ok(members)
+}
+
+// The first three words of a line.
+fn push_words(text: &mut String, line: &str) -> Result<(), AllocError> {
+    for (place, word) in line.split(' ').enumerate() {
+        if place == 0 {
+            text.push_str(word)?;
+        } else if place < 3 {
+            text.push(' ')?;
+            text.push_str(word)?;
+        }
+    }
+    Ok(())
+}
+
 // What the program says to the certificate that it writes for words on a text.
 fn round_trip<T: Threads + Sync>(
     rt: &T,

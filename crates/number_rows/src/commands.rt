@@ -101,11 +101,19 @@ fn push_task(text: &mut String, task: &Task) -> Result<(), AllocError> {
             push_file(text, ", report ", &outputs.report)?;
             push_file(text, ", solution ", &outputs.solution)?;
             push_file(text, ", cert ", &outputs.certificate)?;
-            push_want(text, &outputs.certificate)
+            push_want(text, &outputs.certificate)?;
+            push_subset(text, outputs.subset)
         }
         Task::Translate => text.push_str(", translate"),
         Task::CheckCertificate(file) => write!(text, ", check {}", file.as_str()),
     }
+}
+
+fn push_subset(text: &mut String, subset: bool) -> Result<(), AllocError> {
+    if subset {
+        text.push_str(", subset")?;
+    }
+    Ok(())
 }
 
 fn push_want(text: &mut String, certificate: &Option<Name>) -> Result<(), AllocError> {

@@ -14,7 +14,7 @@ use Rattle.cert_check.specs.declared.part.Part.{Part}
 use Rattle.cert_check.specs.declared.part.Part.TheVariants.{Size, Point, Value, Ray, DerivedRow, Node}
 use Rattle.solution_writer.specs.KindTexts.{operation_text, syntax_kind_text, data_kind_text, model_kind_text}
 use Rattle.solution_writer.specs.declared.fault.Fault.{Fault}
-use Rattle.solution_writer.specs.declared.fault.Fault.TheVariants.{Usage, Missing, OpenFault, ReadFault, WriteFault, TooLong, Syntax, Data, Model, File, Certificate, Overflow, UndecidedNodes, UndecidedPivots, Refused, NoMemory}
+use Rattle.solution_writer.specs.declared.fault.Fault.TheVariants.{Usage, Missing, OpenFault, ReadFault, WriteFault, TooLong, Syntax, Data, Model, File, Certificate, NotLinear, Overflow, UndecidedNodes, UndecidedPivots, Refused, NoMemory}
 
 abbrev pub named_line : List ℕ → List ℕ → List ℕ
 named_line what name = what ++ (codes ": " ++ (name ++ codes "\n"))
@@ -63,6 +63,9 @@ undecided_nodes_line = codes "UNDECIDED nodes\n"
 abbrev pub undecided_pivots_line : List ℕ
 undecided_pivots_line = codes "UNDECIDED pivots\n"
 
+abbrev pub not_linear_line : List ℕ
+not_linear_line = codes "not linear\n"
+
 -- the operation whose result does not fit
 abbrev pub overflow_line : NoFit → List ℕ
 overflow_line f = codes "overflow: " ++ (operation_text f ++ codes "\n")
@@ -85,6 +88,7 @@ fault_line (Data f) = data_line f
 fault_line (Model f) = model_line f
 fault_line (File f) = file_line f
 fault_line (Certificate f) = certificate_line f
+fault_line NotLinear = not_linear_line
 fault_line (Overflow f) = overflow_line f
 fault_line UndecidedNodes = undecided_nodes_line
 fault_line UndecidedPivots = undecided_pivots_line

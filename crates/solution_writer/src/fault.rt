@@ -38,6 +38,8 @@ pub enum Fault<'a> {
     File(FileFault),
     /// The text of the certificate has this fault.
     Certificate(CertFault),
+    /// An infeasible subset is asked for of a problem with integer columns.
+    NotLinear,
     /// The result of this operation does not fit.
     Overflow(NoFit),
     /// The search has not ended within its limit of splits.
@@ -66,6 +68,7 @@ pub fn fault_line(alloc: Global, fault: &Fault<'_>) -> Result<String, AllocError
         Fault::Model(fault) => model_line(alloc, *fault),
         Fault::File(fault) => file_line(alloc, *fault),
         Fault::Certificate(fault) => certificate_line(alloc, *fault),
+        Fault::NotLinear => "not linear\n".to_string(alloc),
         Fault::Overflow(fault) => overflow_line(alloc, *fault),
         Fault::UndecidedNodes => "UNDECIDED nodes\n".to_string(alloc),
         Fault::UndecidedPivots => "UNDECIDED pivots\n".to_string(alloc),

@@ -2,9 +2,10 @@ use Rattle.glpsol_cli.specs.Pieces.{Outside}
 use Rattle.std.proofs.Common.{map, string_bytes, subst}
 use Rattle.outside.specs.Causes.{Rose}
 use Rattle.glpsol_cli.specs.Cause.{Cause}
-use Rattle.glpsol_cli.proofs.Verdicts.{carried, is_best, has_no_point, has_ray}
+use Rattle.glpsol_cli.proofs.Verdicts.{carried, is_best, is_irreducible, has_no_point, has_ray}
 use Rattle.glpsol_cli.proofs.Completes.{complete}
 use Rattle.glpsol_cli.proofs.Limits.{unlimited}
+use Rattle.glpsol_cli.proofs.Wanted.{not_plain}
 use Rattle.glpsol_cli.proofs.work.run.Goals as goal
 use Rattle.glpsol_cli.proofs.Stories.{of_one_text}
 
@@ -43,6 +44,26 @@ returns-clause-carried g c =
     let out_rose = Rose (g.O.Sink.faults c.args.out.now) (g.O.Sink.faults c.carried_out.new.out) in
     let cause = rw c.deref.ensures.value at c.carried_out.ensures.cause in
     λ d e. carried words told d c.certificates_are_right.ensures files_rose out_rose c.carried_out.result e cause
+
+pub returns-clause-subset : goal.returns-clause-subset
+returns-clause-subset g c =
+    let words = map string_bytes c.args.words.items in
+    let told = g.S.Store.told c.args.files.now in
+    let files_rose = Rose (g.S.Store.faults c.args.files.now) (g.S.Store.faults c.carried_out.new.files) in
+    let out_rose = Rose (g.O.Sink.faults c.args.out.now) (g.O.Sink.faults c.carried_out.new.out) in
+    let cause = rw c.deref.ensures.value at c.carried_out.ensures.cause in
+    λ d w e. is_irreducible words told d w c.certificates_are_right.ensures files_rose out_rose c.carried_out.result e cause
+
+pub returns-clause-subset_asked : goal.returns-clause-subset_asked
+returns-clause-subset_asked g c =
+    let words = map string_bytes c.args.words.items in
+    let old : Outside = record { taken = g.O.Sink.taken c.args.out.now; told = g.S.Store.told c.args.files.now } in
+    let new : Outside = record { taken = g.O.Sink.taken c.carried_out.new.out; told = g.S.Store.told c.carried_out.new.files } in
+    let files_rose = Rose (g.S.Store.faults c.args.files.now) (g.S.Store.faults c.carried_out.new.files) in
+    let out_rose = Rose (g.O.Sink.faults c.args.out.now) (g.O.Sink.faults c.carried_out.new.out) in
+    let cause = rw c.deref.ensures.value at c.carried_out.ensures.cause in
+    let written = rw c.deref.ensures.value at c.carried_out.ensures.written in
+    λ s asks wants. not_plain words old new s asks wants files_rose out_rose c.carried_out.result cause written
 
 pub returns-clause-cause : goal.returns-clause-cause
 returns-clause-cause g c =
