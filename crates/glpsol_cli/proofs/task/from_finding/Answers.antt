@@ -9,7 +9,7 @@ use Rattle.glpsol_cli.proofs.task.from_finding.Goals as goal
 
 pub publish-published-requires : goal.publish-published-requires
 publish-published-requires g c =
-    shown c.args.problem.now c.args.inputs.now.settings (texts_in c.args.inputs.now) c.args.finding c.requires.found
+    rw c.get.ensures (shown c.args.problem.now c.args.inputs.now.settings (texts_in c.args.inputs.now) c.args.finding c.requires.found)
 
 pub returns-in-Ok-clause-written : goal.returns-in-Ok-clause-written
 returns-in-Ok-clause-written g c =

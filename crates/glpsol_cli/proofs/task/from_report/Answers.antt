@@ -19,9 +19,9 @@ returns-in-Acceptance-clause-written g c =
 
 pub returns-in-Subset-clause-cause : goal.returns-in-Subset-clause-cause
 returns-in-Subset-clause-cause g c =
-    subset_cause c.args.inputs.now.settings (texts_in c.args.inputs.now) c.args.problem.now c.args.later c.requires.subject c.args.finding c.in-Subset.field-0 c.in-Subset.field-1 c.in-Subset.is c.requires.found
+    subset_cause c.args.inputs.now.settings (texts_in c.args.inputs.now) c.args.problem.now c.args.later c.requires.subject c.args.finding c.in-Subset.certificate c.in-Subset.subset c.in-Subset.is c.requires.found
 
 pub returns-in-Subset-clause-written : goal.returns-in-Subset-clause-written
 returns-in-Subset-clause-written g c =
     let now : Outside = record { taken = g.O.Sink.taken c.args.out.now; told = g.S.Store.told c.args.files.now } in
-    subset_written c.args.inputs.now.settings (texts_in c.args.inputs.now) c.args.problem.now c.args.later c.requires.subject c.args.finding c.in-Subset.field-0 c.in-Subset.field-1 c.in-Subset.is now
+    subset_written c.args.inputs.now.settings (texts_in c.args.inputs.now) c.args.problem.now c.args.later c.requires.subject c.args.finding c.in-Subset.certificate c.in-Subset.subset c.in-Subset.is now

@@ -10,31 +10,31 @@ pub returns-in-Solve-clause-fault : goal.returns-in-Solve-clause-fault
 returns-in-Solve-clause-fault c =
     let inputs = c.args.inputs.now in
     let is = rw c.get-settings.ensures at c.in-Solve.is in
-    err_also c.solution.result (IsUnsolved c.args.problem.now inputs.settings c.in-Solve.field-0.subset) (λ unfound. IsUnfound unfound inputs.settings (texts_in inputs))
-    (unsolved inputs.settings (texts_in inputs) c.args.problem.now c.requires.asked (solves_by inputs.settings.task c.in-Solve.field-0 is) c.in-Solve.field-0.subset (wants_by inputs.settings.task c.in-Solve.field-0 is))
+    err_also c.solution.result (IsUnsolved c.args.problem.now inputs.settings c.in-Solve.outputs.subset) (λ unfound. IsUnfound unfound inputs.settings (texts_in inputs))
+    (unsolved inputs.settings (texts_in inputs) c.args.problem.now c.requires.asked (solves_by inputs.settings.task c.in-Solve.outputs is) c.in-Solve.outputs.subset (wants_by inputs.settings.task c.in-Solve.outputs is))
     (rw c.get-settings.ensures at c.solution.ensures.fault)
 
 pub returns-in-Solve-clause-finding : goal.returns-in-Solve-clause-finding
 returns-in-Solve-clause-finding c =
     let inputs = c.args.inputs.now in
     let is = rw c.get-settings.ensures at c.in-Solve.is in
-    ok_also c.solution.result (IsSolution c.args.problem.now c.in-Solve.field-0.subset) (IsFinding c.args.problem.now inputs.settings (texts_in inputs))
-    (solution_found inputs.settings (texts_in inputs) c.args.problem.now c.requires.asked (solves_by inputs.settings.task c.in-Solve.field-0 is) c.in-Solve.field-0.subset (wants_by inputs.settings.task c.in-Solve.field-0 is))
+    ok_also c.solution.result (IsSolution c.args.problem.now c.in-Solve.outputs.subset) (IsFinding c.args.problem.now inputs.settings (texts_in inputs))
+    (solution_found inputs.settings (texts_in inputs) c.args.problem.now c.requires.asked (solves_by inputs.settings.task c.in-Solve.outputs is) c.in-Solve.outputs.subset (wants_by inputs.settings.task c.in-Solve.outputs is))
     c.solution.ensures.finding
 
-pub returns-in-Ok-accept_behind-clause-finding : goal.returns-in-Ok-accept_behind-clause-finding
-returns-in-Ok-accept_behind-clause-finding c =
+pub returns-in-Ok-clause-finding : goal.returns-in-Ok-clause-finding
+returns-in-Ok-clause-finding c =
     let inputs = c.args.inputs.now in
     of_checked inputs.settings (texts_in inputs) c.args.problem.now c.in-CheckCertificate.field-0 (rw c.get-settings.ensures at c.in-CheckCertificate.is) c.requires.asked IsAccepted
     (subst (λ names. OfNext (IsAccepted c.args.problem.now) (length names) (texts_in inputs)) (rw c.get-settings.ensures at c.as_slice-count.ensures)
-    (subst (λ texts. OfNext (IsAccepted c.args.problem.now) (length c.as_slice-count.result.now) (map (λ text. text.items) texts)) c.deref.ensures.value c.in-Ok-accept_behind.ensures.accepted))
+    (subst (λ texts. OfNext (IsAccepted c.args.problem.now) (length c.as_slice-count.result.now) (map (λ text. text.items) texts)) c.deref.ensures.value c.in-Ok.ensures.accepted))
 
-pub returns-in-Err-accept_behind-clause-fault : goal.returns-in-Err-accept_behind-clause-fault
-returns-in-Err-accept_behind-clause-fault c =
+pub returns-in-Err-clause-fault : goal.returns-in-Err-clause-fault
+returns-in-Err-clause-fault c =
     let inputs = c.args.inputs.now in
-    unchecked inputs.settings (texts_in inputs) c.args.problem.now c.in-CheckCertificate.field-0 (rw c.get-settings.ensures at c.in-CheckCertificate.is) c.requires.asked c.in-Err-accept_behind.stop
-    (subst (λ names. OfNext (λ bytes. IsCheckStop c.args.problem.now bytes c.in-Err-accept_behind.stop) (length names) (texts_in inputs)) (rw c.get-settings.ensures at c.as_slice-count.ensures)
-    (subst (λ texts. OfNext (λ bytes. IsCheckStop c.args.problem.now bytes c.in-Err-accept_behind.stop) (length c.as_slice-count.result.now) (map (λ text. text.items) texts)) c.deref.ensures.value c.in-Err-accept_behind.ensures.stop))
+    unchecked inputs.settings (texts_in inputs) c.args.problem.now c.in-CheckCertificate.field-0 (rw c.get-settings.ensures at c.in-CheckCertificate.is) c.requires.asked c.in-Err.stop
+    (subst (λ names. OfNext (λ bytes. IsCheckStop c.args.problem.now bytes c.in-Err.stop) (length names) (texts_in inputs)) (rw c.get-settings.ensures at c.as_slice-count.ensures)
+    (subst (λ texts. OfNext (λ bytes. IsCheckStop c.args.problem.now bytes c.in-Err.stop) (length c.as_slice-count.result.now) (map (λ text. text.items) texts)) c.deref.ensures.value c.in-Err.ensures.stop))
 
 pub accept_behind-requires : goal.accept_behind-requires
 accept_behind-requires c =
