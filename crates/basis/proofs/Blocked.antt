@@ -253,5 +253,5 @@ pub infeasible_shows : (p : Problem) (ds : List Derived) (sides : List Side) (w 
 infeasible_shows p ds sides w over (contradiction v h e) = let P : Weights → Type 0 = ShowsInfeasible p ds sides in subst P (sym e) (contradiction_shows p ds sides v over h)
 infeasible_shows p ds sides w over (blocked b d x r place h e) = let P : Weights → Type 0 = ShowsInfeasible p ds sides in subst P (sym e) (blocked_shows p ds sides b d x r place over h)
 
-pub refutes_leaf : (p : Problem) (ds : List Derived) (sides : List Side) (w : Weights) → ShowsInfeasible p ds sides w → refutes (length p.columns) (terms p ds sides w) ≡ true
+pub refutes_leaf : (p : Problem) (ds : List Derived) (sides : List Side) (w : Weights) → ShowsInfeasible p ds sides w → refutes (length p.columns) (terms p ds sides [] w) ≡ true
 refutes_leaf p ds sides w h = rw (h.are_terms) (and_from _ _ h.form (Q.true_less _ _ h.bound))

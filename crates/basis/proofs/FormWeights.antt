@@ -1,5 +1,5 @@
 -- The coefficients of a form over variables as weights: their terms have the value of the form, and its value at the bounds used.
-use Rattle.std.proofs.Common.{◌≡◌, ◌∙◌, ℕ, zero, suc, ◌<◌, List, refl, sym, ap, subst, arith, Some}
+use Rattle.std.proofs.Common.{[], ◌≡◌, ◌∙◌, ℕ, zero, suc, ◌<◌, List, refl, sym, ap, subst, arith, Some}
 use Rattle.std.specs.Prelude.{unwrap_or}
 use mathlib.Core.Path.{ap₂}
 use Rattle.rational.specs.Rational.{Rational, ◌+ℚ◌, ◌*ℚ◌, zero_ℚ}
@@ -40,7 +40,7 @@ module _ (p : Problem) (ds : List Derived) (sides : List Side) (a : ℕ → Rati
     (below : AllBelow (size (system_of p ds sides)) form)
     (same : (v : ℕ) → v < size (system_of p ds sides) → coefficient_of form v ≡ a v)
     (uses : (v : ℕ) → v < size (system_of p ds sides) → UsesBound (system_of p ds sides) v (a v) (y v)) where
-  pub weights_there : terms p ds sides (weights_of p ds (λ v. nonzero (a v))) ≡ Some (all_terms p ds sides (λ v. nonzero (a v)))
+  pub weights_there : terms p ds sides [] (weights_of p ds (λ v. nonzero (a v))) ≡ Some (all_terms p ds sides (λ v. nonzero (a v)))
   weights_there = terms_are p ds sides (λ v. nonzero (a v)) (λ v h. there (system_of p ds sides) v (a v) (y v) (uses v h))
 
   pub weights_value : (z : ℕ → Rational) → Satisfies (system_of p ds sides) z → value_at z (combined (all_terms p ds sides (λ v. nonzero (a v)))) ≡ value_at z form

@@ -11,8 +11,8 @@ use Rattle.milp.specs.Points.{Feasible, IsBetter, IsImprovingRay, objective_valu
 use Rattle.verdicts.specs.Certificate.{Optimal, Infeasible, Side, Weights, Derived, Empty, Bound}
 use Rattle.verdicts.specs.WeightedSums.{scaled}
 use Rattle.rational.specs.Compare.{is_same}
-use Rattle.verdicts.specs.Proves.{shows, refutes, terms, meets, is_improving_ray, first_failing, Part, Proves, bound_passes, node_passes}
-use Rattle.verdicts.proofs.Laws.{leaf_bound, true_meets, true_ray}
+use Rattle.verdicts.specs.Proves.{shows, refutes, terms, meets, is_improving_ray, first_failing, Part, Proves, bound_passes}
+use Rattle.verdicts.proofs.Laws.{bound_under, true_meets, true_ray}
 use Rattle.basis.specs.Dictionary.{Dictionary}
 use Rattle.basis.specs.Node.{IsOverColumns, IsNodePoint}
 use Rattle.basis.specs.Relaxation.{IsOptimalRelaxation, leaf_certificate, point_certificate, ShowsObjective, ShowsInfeasible}
@@ -42,22 +42,22 @@ value_less p x = parts (sum_at x p.objective) p.constant
     parts : (a c : Rational) → (a +ℚ c) -ℚ c ≡ a
     parts a c = simp (field, signs, field_units)
 
-pub optimal_passes : (p : Problem) (ds : List Derived) (sides : List Side) (x : List Rational) (w : Weights) → ShowsObjective p ds sides x w → node_passes p (Some (objective_value p x)) ds sides (Bound w) ≡ true
+pub optimal_passes : (p : Problem) (ds : List Derived) (sides : List Side) (x : List Rational) (w : Weights) → ShowsObjective p ds sides x w → bound_passes p (Some (objective_value p x)) (terms p ds sides [] w) ≡ true
 optimal_passes p ds sides x w h =
-    let P : Rational → Type 0 = λ v. shows (length p.columns) (terms p ds sides w) (scaled (sign_of p.direction) p.objective) (sign_of p.direction *ℚ v) ≡ true in
+    let P : Rational → Type 0 = λ v. shows (length p.columns) (terms p ds sides [] w) (scaled (sign_of p.direction) p.objective) (sign_of p.direction *ℚ v) ≡ true in
     subst P (sym (value_less p x)) (shows_leaf p ds sides x w h)
 
 pub optimal_is_best : (p : Problem) (ds : List Derived) (sides : List Side) (x : List Rational) (w : Weights) (b : List Place) (d : Dictionary) → IsOverColumns p ds sides → IsOptimalRelaxation p ds sides x w b d → (y : List Rational) → IsNodePoint p ds sides y → IsBetter p y x → ⊥
 optimal_is_best p ds sides x w b d over h y k better =
-    Q.lt-not-le _ _ better (leaf_bound p (objective_value p x) ds sides w y (optimal_passes p ds sides x w (optimal_weights_show p ds sides x w b d over h)) k.relaxed k.columns k.derived)
+    Q.lt-not-le _ _ better (bound_under p (objective_value p x) ds sides [] w y (optimal_passes p ds sides x w (optimal_weights_show p ds sides x w b d over h)) k.relaxed k.columns tt k.derived)
 
 pub optimal_proves : (p : Problem) (x : List Rational) (w : Weights) → Feasible p x → ShowsObjective p [] [] x w → Proves p (leaf_certificate p Optimal (Some (objective_value p x)) (Some x) (Bound w))
 optimal_proves p x w h k =
     all_pass Part.Size Part.Point Part.Value (Part.Node 1) ((length p.rows == length p.rows) && (length p.columns == length p.columns)) (meets p x) (is_same (objective_value p x) (objective_value p x))
-    (bound_passes p (Some (objective_value p x)) (terms p [] [] w)) (size_passes p) (true_meets p x h) (true_same (objective_value p x) (objective_value p x) refl) (optimal_passes p [] [] x w k)
+    (bound_passes p (Some (objective_value p x)) (terms p [] [] [] w)) (size_passes p) (true_meets p x h) (true_same (objective_value p x) (objective_value p x) refl) (optimal_passes p [] [] x w k)
 
 pub infeasible_proves : (p : Problem) (w : Weights) → ShowsInfeasible p [] [] w → Proves p (leaf_certificate p Infeasible None None (Empty w))
-infeasible_proves p w k = two_pass Part.Size (Part.Node 1) ((length p.rows == length p.rows) && (length p.columns == length p.columns)) (refutes (length p.columns) (terms p [] [] w)) (size_passes p) (refutes_leaf p [] [] w k)
+infeasible_proves p w k = two_pass Part.Size (Part.Node 1) ((length p.rows == length p.rows) && (length p.columns == length p.columns)) (refutes (length p.columns) (terms p [] [] [] w)) (size_passes p) (refutes_leaf p [] [] w k)
 
 pub unbounded_proves : (p : Problem) (x ray : List Rational) → Feasible p x → IsImprovingRay p ray → Proves p (point_certificate p x ray)
 unbounded_proves p x ray h k = three_pass Part.Size Part.Point Part.Ray ((length p.rows == length p.rows) && (length p.columns == length p.columns)) (meets p x) (is_improving_ray p ray) (size_passes p) (true_meets p x h) (true_ray p ray k)

@@ -1,20 +1,21 @@
 -- A point of a node's system that is inside all bounds is a point of the node.
-use Rattle.std.proofs.Common.{◌≡◌, ◌∙◌, ℕ, zero, suc, ◌+◌, ◌<◌, ◌≤◌, List, [], ◌∷◌, length, refl, sym, ap, subst, arith, Bool, true, false, ◌==◌, Option, Some, None, IfSome, slice_get, if◌then◌else◌}
+use Rattle.std.proofs.Common.{◌≡◌, ◌∙◌, ℕ, zero, suc, ◌+◌, ◌<◌, ◌≤◌, List, [], ◌∷◌, length, refl, sym, ap, subst, arith, Bool, true, false, Option, Some, None, IfSome, slice_get, if◌then◌else◌}
 use Rattle.std.specs.Prelude.{option_and_then, pos, ◌+ℤ◌}
 use Rattle.std.proofs.lemmas.Bool.Decides.{nat_tests}
 use Rattle.std.proofs.lemmas.Option.{slice_get_within}
 use Rattle.std.proofs.Math.Decide.{dec_lt}
-use Rattle.rational.specs.Rational.{Rational, whole, ◌≤ℚ◌}
-use Rattle.milp.specs.Form.{number_at, sum_at}
+use Rattle.rational.specs.Rational.{Rational, one_ℚ, whole, ◌≤ℚ◌}
+use Rattle.milp.specs.Form.{Entry, number_at, sum_at}
 use Rattle.milp.specs.Problem.{Column, Row, Problem}
 use Rattle.milp.specs.Points.{IsWithin}
 use Rattle.verdicts.specs.Certificate.{Side, Low, High, Derived}
-use Rattle.rational.specs.Compare.{is_at_most}
-use Rattle.verdicts.specs.Proves.{lesser, greater, lower_under, upper_under}
+use Rattle.rational.specs.Compare.{is_at_most, is_same}
+use Rattle.verdicts.specs.WeightedSums.{AllBelow}
+use Rattle.verdicts.specs.Proves.{lesser, greater, narrows, unit_column, is_column, lower_under, upper_under}
 use Rattle.rational.proofs.Laws.{at_most_true, at_most_false}
 use Rattle.rational.proofs.Laws as Q
 use Rattle.basis.specs.System.{size, Satisfies, AllInside, form_of}
-use Rattle.basis.specs.Node.{system_of, column_of, IsOverColumns, IsNodePoint}
+use Rattle.basis.specs.Node.{system_of, split_form, IsOverColumns, IsNodePoint}
 use Rattle.basis.specs.Weights.{numbers_from}
 use Rattle.basis.proofs.Lists.{length-numbers, numbers-below}
 use Rattle.basis.proofs.Start.{same_below}
@@ -43,7 +44,7 @@ lesser_below (Some a) b v h = go (is_at_most a b) refl h
 pub own_lower : (p : Problem) (sides : List Side) (j : ℕ) (v : Rational) → IfSome (lower_under p sides j) (λ b. b ≤ℚ v) → IfSome (lower_under p [] j) (λ b. b ≤ℚ v)
 own_lower p [] j v h = h
 own_lower p (Low s ∷ sides) j v h = own_lower p sides j v h
-own_lower p (High s ∷ sides) j v h = own_lower p sides j v (go (s.column == j) h)
+own_lower p (High s ∷ sides) j v h = own_lower p sides j v (go (narrows s j) h)
   where
     go : (t : Bool) → IfSome (if t then Some (greater (lower_under p sides j) (whole (s.at +ℤ pos 1))) else lower_under p sides j) (λ b. b ≤ℚ v) → IfSome (lower_under p sides j) (λ b. b ≤ℚ v)
     go true k = greater_above (lower_under p sides j) (whole (s.at +ℤ pos 1)) v k
@@ -52,11 +53,21 @@ own_lower p (High s ∷ sides) j v h = own_lower p sides j v (go (s.column == j)
 pub own_upper : (p : Problem) (sides : List Side) (j : ℕ) (v : Rational) → IfSome (upper_under p sides j) (λ b. v ≤ℚ b) → IfSome (upper_under p [] j) (λ b. v ≤ℚ b)
 own_upper p [] j v h = h
 own_upper p (High s ∷ sides) j v h = own_upper p sides j v h
-own_upper p (Low s ∷ sides) j v h = own_upper p sides j v (go (s.column == j) h)
+own_upper p (Low s ∷ sides) j v h = own_upper p sides j v (go (narrows s j) h)
   where
     go : (t : Bool) → IfSome (if t then Some (lesser (upper_under p sides j) (whole s.at)) else upper_under p sides j) (λ b. v ≤ℚ b) → IfSome (upper_under p sides j) (λ b. v ≤ℚ b)
     go true k = lesser_below (upper_under p sides j) (whole s.at) v k
     go false k = k
+
+-- a form over the first n columns narrows none behind them
+beyond : (n : ℕ) (form : List Entry) (j : ℕ) → AllBelow n form → n ≤ j → is_column (unit_column form) j ≡ false
+beyond n [] j h k = refl
+beyond n (e ∷ []) j h k = go (is_same e.coefficient one_ℚ)
+  where
+    go : (b : Bool) → is_column (if b then Some e.column else None) j ≡ false
+    go true = let less = h.0 in grind (arith, nat_tests)
+    go false = refl
+beyond n (e ∷ f ∷ es) j h k = refl
 
 -- ---- the numbers of a point
 
@@ -116,7 +127,7 @@ module _ (p : Problem) (ds : List Derived) (sides : List Side) (over : IsOverCol
       subst R (sym (derived_number p ds sides over x solves k d h e)) (rw (derived-lower p ds sides k d e) at i.low)
 
   -- no bound, where there is no column
-  past_lower : (ss : List Side) (j : ℕ) → ((k : ℕ) → IfSome (slice_get ss k) (λ side. column_of side < length p.columns)) → length p.columns ≤ j → lower_under p ss j ≡ None
+  past_lower : (ss : List Side) (j : ℕ) → ((k : ℕ) → IfSome (slice_get ss k) (λ side. AllBelow (length p.columns) (split_form side))) → length p.columns ≤ j → lower_under p ss j ≡ None
   past_lower [] j h k = past p.columns j k
     where
       past : (cs : List Column) (j : ℕ) → length cs ≤ j → option_and_then (λ (c : Column). c.lower) (slice_get cs j) ≡ None
@@ -125,11 +136,10 @@ module _ (p : Problem) (ds : List Derived) (sides : List Side) (over : IsOverCol
       past (c ∷ cs) (suc j) h = past cs j (omega arith)
   past_lower (Low s ∷ ss) j h k = past_lower ss j (λ i. h (suc i)) k
   past_lower (High s ∷ ss) j h k =
-      let first : s.column < length p.columns = h 0 in
-      let e : (s.column == j) ≡ false = grind (arith, nat_tests) in
+      let e : narrows s j ≡ false = beyond (length p.columns) s.form j (h 0) k in
       rw e (past_lower ss j (λ i. h (suc i)) k)
 
-  past_upper : (ss : List Side) (j : ℕ) → ((k : ℕ) → IfSome (slice_get ss k) (λ side. column_of side < length p.columns)) → length p.columns ≤ j → upper_under p ss j ≡ None
+  past_upper : (ss : List Side) (j : ℕ) → ((k : ℕ) → IfSome (slice_get ss k) (λ side. AllBelow (length p.columns) (split_form side))) → length p.columns ≤ j → upper_under p ss j ≡ None
   past_upper [] j h k = past p.columns j k
     where
       past : (cs : List Column) (j : ℕ) → length cs ≤ j → option_and_then (λ (c : Column). c.upper) (slice_get cs j) ≡ None
@@ -138,8 +148,7 @@ module _ (p : Problem) (ds : List Derived) (sides : List Side) (over : IsOverCol
       past (c ∷ cs) (suc j) h = past cs j (omega arith)
   past_upper (High s ∷ ss) j h k = past_upper ss j (λ i. h (suc i)) k
   past_upper (Low s ∷ ss) j h k =
-      let first : s.column < length p.columns = h 0 in
-      let e : (s.column == j) ≡ false = grind (arith, nat_tests) in
+      let e : narrows s j ≡ false = beyond (length p.columns) s.form j (h 0) k in
       rw e (past_upper ss j (λ i. h (suc i)) k)
 
   all_within : (j : ℕ) → IsWithin (lower_under p sides j) (upper_under p sides j) (number_at (numbers_from 0 (length p.columns) x) j)

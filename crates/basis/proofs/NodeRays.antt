@@ -1,6 +1,6 @@
 -- The direction of an unbounded basis, made whole, is an improving ray.
 use Rattle.std.proofs.Common.{◌≡◌, ◌∙◌, ℕ, ◌+◌, ◌<◌, List, [], ◌∷◌, length, refl, sym, ap, subst, arith, Bool, true, false, cond, Option, Some, None, IfSome, slice_get, inl, inr, IsTrue}
-use Rattle.std.specs.Prelude.{option_and_then, pos, ◌+ℤ◌, ◌==◌, if◌then◌else◌, ◌*ℤ◌, ◌≤ℤ◌}
+use Rattle.std.specs.Prelude.{option_and_then, pos, ◌+ℤ◌, if◌then◌else◌, ◌*ℤ◌, ◌≤ℤ◌}
 use Rattle.std.proofs.lemmas.Int.{ints}
 use Rattle.std.proofs.lemmas.Option.{slice_get_within}
 use mathlib.Core.Path.{ap₂}
@@ -10,7 +10,7 @@ use Rattle.milp.specs.Problem.{Column, Row, Problem}
 use Rattle.milp.specs.Points.{IsHarmless, IsImprovingRay, IsWhole, sign_of}
 use Rattle.verdicts.specs.Certificate.{Side, Low, High, Derived}
 use Rattle.verdicts.specs.WeightedSums.{scaled}
-use Rattle.verdicts.specs.Proves.{lesser, greater, lower_under, upper_under, is_integer}
+use Rattle.verdicts.specs.Proves.{narrows, lesser, greater, lower_under, upper_under, is_integer}
 use Rattle.verdicts.proofs.Laws.{value-scaled, le_by, mul-le-mul_neg, minus_one-mul}
 use Rattle.rational.proofs.Laws as Q
 use Rattle.rational.proofs.Laws.{field}
@@ -96,7 +96,7 @@ satisfies-times s r w h = record { values = λ i. go i (slice_get s.forms i) (h.
 own_lower_there : (p : Problem) (sides : List Side) (j : ℕ) (v : Rational) → IfSome (lower_under p sides j) (λ b. zero_ℚ ≤ℚ v) → IfSome (lower_under p [] j) (λ b. zero_ℚ ≤ℚ v)
 own_lower_there p [] j v h = h
 own_lower_there p (Low s ∷ sides) j v h = own_lower_there p sides j v h
-own_lower_there p (High s ∷ sides) j v h = own_lower_there p sides j v (go (s.column == j) h)
+own_lower_there p (High s ∷ sides) j v h = own_lower_there p sides j v (go (narrows s j) h)
   where
     go : (t : Bool) → IfSome (if t then Some (greater (lower_under p sides j) (whole (s.at +ℤ pos 1))) else lower_under p sides j) (λ b. zero_ℚ ≤ℚ v) → IfSome (lower_under p sides j) (λ b. zero_ℚ ≤ℚ v)
     go true k = every (lower_under p sides j) k
@@ -109,7 +109,7 @@ own_lower_there p (High s ∷ sides) j v h = own_lower_there p sides j v (go (s.
 own_upper_there : (p : Problem) (sides : List Side) (j : ℕ) (v : Rational) → IfSome (upper_under p sides j) (λ b. v ≤ℚ zero_ℚ) → IfSome (upper_under p [] j) (λ b. v ≤ℚ zero_ℚ)
 own_upper_there p [] j v h = h
 own_upper_there p (High s ∷ sides) j v h = own_upper_there p sides j v h
-own_upper_there p (Low s ∷ sides) j v h = own_upper_there p sides j v (go (s.column == j) h)
+own_upper_there p (Low s ∷ sides) j v h = own_upper_there p sides j v (go (narrows s j) h)
   where
     go : (t : Bool) → IfSome (if t then Some (lesser (upper_under p sides j) (whole s.at)) else upper_under p sides j) (λ b. v ≤ℚ zero_ℚ) → IfSome (upper_under p sides j) (λ b. v ≤ℚ zero_ℚ)
     go true k = every (upper_under p sides j) k

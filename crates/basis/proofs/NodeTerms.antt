@@ -86,7 +86,7 @@ module _ (p : Problem) (ds : List Derived) (sides : List Side) where
       in_range (system_of p ds sides) f (length p.columns) (length p.rows)
       ++ (in_range (system_of p ds sides) f 0 (length p.columns) ++ (in_range (system_of p ds sides) f (length p.columns + length p.rows) (length ds) ++ []))
 
-  pub terms_are : (f : ℕ → List Rational) → ((v : ℕ) → v < size (system_of p ds sides) → AreBoundsThere (system_of p ds sides) v (f v)) → terms p ds sides (weights_of p ds f) ≡ Some (all_terms f)
+  pub terms_are : (f : ℕ → List Rational) → ((v : ℕ) → v < size (system_of p ds sides) → AreBoundsThere (system_of p ds sides) v (f v)) → terms p ds sides [] (weights_of p ds f) ≡ Some (all_terms f)
   unfolding all_terms
   terms_are f there =
       let z = node_size p ds sides in

@@ -1,5 +1,5 @@
 -- The weights of an optimal basis show that no point of the node is better than its point.
-use Rattle.std.proofs.Common.{◌≡◌, ◌∙◌, ℕ, ◌<◌, List, length, refl, sym, ap, subst, true, inl, inr}
+use Rattle.std.proofs.Common.{[], ◌≡◌, ◌∙◌, ℕ, ◌<◌, List, length, refl, sym, ap, subst, true, inl, inr}
 use Rattle.std.proofs.lemmas.Bool.{and_from}
 use Rattle.rational.specs.Rational.{Rational, ◌*ℚ◌, ◌≤ℚ◌}
 use Rattle.milp.specs.Form.{number_at, sum_at}
@@ -48,5 +48,5 @@ module _ (p : Problem) (ds : List Derived) (sides : List Side) (b : List Place) 
       }
 
 pub shows_leaf : (p : Problem) (ds : List Derived) (sides : List Side) (x : List Rational) (w : Weights) → ShowsObjective p ds sides x w
-    → shows (length p.columns) (terms p ds sides w) (scaled (sign_of p.direction) p.objective) (sign_of p.direction *ℚ sum_at x p.objective) ≡ true
+    → shows (length p.columns) (terms p ds sides [] w) (scaled (sign_of p.direction) p.objective) (sign_of p.direction *ℚ sum_at x p.objective) ≡ true
 shows_leaf p ds sides x w h = rw (h.are_terms) (and_from _ _ h.form (Q.true_at_most _ _ (let P : Rational → Type 0 = λ t. sign_of p.direction *ℚ sum_at x p.objective ≤ℚ t in subst P (sym h.bound) (Q.le_refl _))))

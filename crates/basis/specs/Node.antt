@@ -1,6 +1,7 @@
 -- A node of the search: a problem with further rows that hold for it, under bounds that splits have set. Its system, and its points.
-use Rattle.std.specs.Prelude.{ℕ, zero, suc, ◌<◌, List, [], ◌∷◌, ◌++◌, map, length, Bool, Some, None, IfSome, slice_get}
+use Rattle.std.specs.Prelude.{ℕ, zero, suc, List, [], ◌∷◌, ◌++◌, map, length, Bool, Some, None, IfSome, slice_get}
 use Rattle.rational.specs.Rational.{Rational}
+use Rattle.milp.specs.Form.{Entry}
 use Rattle.milp.specs.Problem.{Row, Problem}
 use Rattle.milp.specs.Points.{sign_of, Relaxed}
 use Rattle.verdicts.specs.Certificate.{Side, Low, High, Derived}
@@ -32,17 +33,17 @@ system_of p ds sides = record {
 abbrev pub integer_at : Problem → ℕ → Bool
 integer_at p j = is_integer (slice_get p.columns j)
 
--- the column of a side's split
-abbrev pub column_of : Side → ℕ
-column_of (Low s) = s.column
-column_of (High s) = s.column
+-- the form of a side's split
+abbrev pub split_form : Side → List Entry
+split_form (Low s) = s.form
+split_form (High s) = s.form
 
--- all forms are over the problem's columns, and all splits are on them
+-- all forms are over the problem's columns, those of splits too
 pub record IsOverColumns (p : Problem) (ds : List Derived) (sides : List Side) : Type 0 where
   pub objective : AllBelow (length p.columns) p.objective
   pub rows : (i : ℕ) → IfSome (slice_get p.rows i) (λ r. AllBelow (length p.columns) r.entries)
   pub derived : (k : ℕ) → IfSome (slice_get ds k) (λ d. AllBelow (length p.columns) d.form)
-  pub splits : (k : ℕ) → IfSome (slice_get sides k) (λ side. column_of side < length p.columns)
+  pub splits : (k : ℕ) → IfSome (slice_get sides k) (λ side. AllBelow (length p.columns) (split_form side))
 
 -- a point that meets all bounds and rows but wholeness, those of the node too
 pub record IsNodePoint (p : Problem) (ds : List Derived) (sides : List Side) (x : List Rational) : Type 0 where

@@ -150,9 +150,9 @@ pub data IsNodeBase (p : Problem) (ds : List Derived) (sides : List Side) (a : R
 pub data IsNodeProducts (p : Problem) (ds : List Derived) (sides : List Side) (numbers : List Rational) : Type 0 where
   of_run : IsRunProducts (system_of p ds sides) (integer_at p) numbers → IsNodeProducts p ds sides numbers
   along_objective : (x : ℕ → Rational) → IsPointOrRay (system_of p ds sides) (integer_at p) x → numbers ≡ products_of p.objective x → IsNodeProducts p ds sides numbers
-  along_coefficients : (w : Weights) (ts : List Weighted) (j : ℕ) → IsNodeWeights p ds sides w → terms p ds sides w ≡ Some ts
+  along_coefficients : (w : Weights) (ts : List Weighted) (j : ℕ) → IsNodeWeights p ds sides w → terms p ds sides [] w ≡ Some ts
       → numbers ≡ map (λ (t : Weighted). t.weight *ℚ coefficient_of t.form j) ts → IsNodeProducts p ds sides numbers
-  along_bounds : (w : Weights) (ts : List Weighted) → IsNodeWeights p ds sides w → terms p ds sides w ≡ Some ts
+  along_bounds : (w : Weights) (ts : List Weighted) → IsNodeWeights p ds sides w → terms p ds sides [] w ≡ Some ts
       → numbers ≡ map (λ (t : Weighted). t.weight *ℚ t.bound) ts → IsNodeProducts p ds sides numbers
 
 -- the numbers of a node: those of the problem and its splits, and of the run of its system

@@ -4,7 +4,7 @@ use Rattle.rational.specs.Rational.{Rational, zero_ℚ, ◌*ℚ◌, ◌<ℚ◌}
 use Rattle.milp.specs.Form.{sum_at}
 use Rattle.milp.specs.Problem.{Problem}
 use Rattle.milp.specs.Points.{sign_of}
-use Rattle.verdicts.specs.Certificate.{Side, Weights, Derived, Verdict, Unbounded, TreeNode, Certificate}
+use Rattle.verdicts.specs.Certificate.{One, Side, Weights, Derived, Verdict, Unbounded, TreeNode, Certificate}
 use Rattle.verdicts.specs.WeightedSums.{scaled, Weighted, combined, combined_bound}
 use Rattle.verdicts.specs.Proves.{same_form, terms}
 use Rattle.basis.specs.System.{System, AreBoundsInOrder, AllInside}
@@ -75,14 +75,14 @@ pub record IsUnboundedRelaxation (p : Problem) (ds : List Derived) (sides : List
 -- the weights sum to the form s * c, where less is better, and to the bound s * c.x
 pub record ShowsObjective (p : Problem) (ds : List Derived) (sides : List Side) (x : List Rational) (w : Weights) : Type 0 where
   pub sum_terms : List Weighted
-  pub are_terms : terms p ds sides w ≡ Some sum_terms
+  pub are_terms : terms p ds sides [] w ≡ Some sum_terms
   pub form : same_form (length p.columns) (combined sum_terms) (scaled (sign_of p.direction) p.objective) ≡ true
   pub bound : combined_bound sum_terms ≡ sign_of p.direction *ℚ sum_at x p.objective
 
 -- the weights sum to the form 0, and to a bound above 0
 pub record ShowsInfeasible (p : Problem) (ds : List Derived) (sides : List Side) (w : Weights) : Type 0 where
   pub sum_terms : List Weighted
-  pub are_terms : terms p ds sides w ≡ Some sum_terms
+  pub are_terms : terms p ds sides [] w ≡ Some sum_terms
   pub form : same_form (length p.columns) (combined sum_terms) [] ≡ true
   pub bound : zero_ℚ <ℚ combined_bound sum_terms
 
@@ -91,6 +91,7 @@ pub record ShowsInfeasible (p : Problem) (ds : List Derived) (sides : List Side)
 -- a certificate without derived rows, whose tree is one leaf
 abbrev pub leaf_certificate : Problem → Verdict → Option Rational → Option (List Rational) → TreeNode → Certificate
 leaf_certificate p verdict value point leaf = record {
+  version = One;
   rows = length p.rows;
   columns = length p.columns;
   verdict = verdict;
@@ -104,6 +105,7 @@ leaf_certificate p verdict value point leaf = record {
 -- a certificate of a point and a ray
 abbrev pub point_certificate : Problem → List Rational → List Rational → Certificate
 point_certificate p x ray = record {
+  version = One;
   rows = length p.rows;
   columns = length p.columns;
   verdict = Unbounded;

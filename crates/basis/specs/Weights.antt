@@ -27,6 +27,7 @@ weights_of p ds f = record {
   rows = items_of f (length p.columns) 0 (length p.rows);
   columns = items_of f 0 0 (length p.columns);
   derived = items_of f (length p.columns + length p.rows) 0 (length ds);
+  splits = [];
 }
 
 -- a number as a weight, and none where it is 0

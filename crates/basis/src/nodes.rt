@@ -6,7 +6,7 @@ ghost use Rattle.milp.specs.Problem.{Problem};
 ghost use Rattle.milp.specs.Points.{Feasible, IsBetter, IsImprovingRay, objective_value, sign_of};
 ghost use Rattle.verdicts.specs.Certificate.{Side, Weights, Derived, Optimal, Infeasible, Empty, Bound};
 ghost use Rattle.verdicts.specs.WeightedSums.{scaled};
-ghost use Rattle.verdicts.specs.Proves.{shows, refutes, terms, node_passes, Proves};
+ghost use Rattle.verdicts.specs.Proves.{shows, refutes, terms, bound_passes, Proves};
 ghost use Rattle.basis.specs.System.{IsSystem, Satisfies, AllInside};
 ghost use Rattle.basis.specs.Dictionary.{Dictionary};
 ghost use Rattle.basis.specs.Node.{system_of, IsOverColumns, IsNodePoint};
@@ -35,10 +35,10 @@ pub fn optimal_nodes()
     ensures weights { (p : Problem) (ds : List Derived) (sides : List Side) (x : List Rational) (w : Weights) (b : List Place)
         (d : Dictionary) → IsOverColumns p ds sides → IsOptimalRelaxation p ds sides x w b d → ShowsObjective p ds sides x w }
     ensures leaf { (p : Problem) (ds : List Derived) (sides : List Side) (x : List Rational) (w : Weights) →
-        ShowsObjective p ds sides x w → shows (length p.columns) (terms p ds sides w)
+        ShowsObjective p ds sides x w → shows (length p.columns) (terms p ds sides [] w)
         (scaled (sign_of p.direction) p.objective) (sign_of p.direction *ℚ sum_at x p.objective) ≡ true }
     ensures passes { (p : Problem) (ds : List Derived) (sides : List Side) (x : List Rational) (w : Weights) →
-        ShowsObjective p ds sides x w → node_passes p (Some (objective_value p x)) ds sides (Bound w) ≡ true }
+        ShowsObjective p ds sides x w → bound_passes p (Some (objective_value p x)) (terms p ds sides [] w) ≡ true }
     ensures best { (p : Problem) (ds : List Derived) (sides : List Side) (x : List Rational) (w : Weights) (b : List Place)
         (d : Dictionary) → IsOverColumns p ds sides → IsOptimalRelaxation p ds sides x w b d → (y : List Rational) →
         IsNodePoint p ds sides y → ¬ (IsBetter p y x) }
@@ -49,7 +49,7 @@ pub fn infeasible_nodes()
     ensures weights { (p : Problem) (ds : List Derived) (sides : List Side) (w : Weights) → IsOverColumns p ds sides →
         IsInfeasibleRelaxation p ds sides w → ShowsInfeasible p ds sides w }
     ensures leaf { (p : Problem) (ds : List Derived) (sides : List Side) (w : Weights) →
-        ShowsInfeasible p ds sides w → refutes (length p.columns) (terms p ds sides w) ≡ true }
+        ShowsInfeasible p ds sides w → refutes (length p.columns) (terms p ds sides [] w) ≡ true }
 {}
 
 /// At an unbounded basis the point is one of the node, and the ray improves the problem without end.

@@ -9,8 +9,8 @@ use Rattle.milp.specs.Problem.{Column, Row, Problem}
 use Rattle.milp.specs.Points.{IsHarmless, IsImprovingRay, sign_of}
 use Rattle.rational.specs.Compare.{is_less, is_at_most}
 use Rattle.verdicts.specs.WeightedSums.{scaled, Weighted, combined, combined_bound}
-use Rattle.verdicts.specs.Certificate.{Item, Weights, Bound}
-use Rattle.verdicts.specs.Proves.{term, bound_used, row_term, column_term, derived_term, joined, gathered, terms, same_form, shows, node_passes}
+use Rattle.verdicts.specs.Certificate.{Version, One, Two, Item, Weights, Bound}
+use Rattle.verdicts.specs.Proves.{term, bound_used, row_term, column_term, derived_term, split_term, joined, gathered, terms, same_form, shows, node_passes}
 use Rattle.verdicts.proofs.Duality.{value-append, value-scaled}
 use Rattle.verdicts.proofs.Numbers.{le_by, mul-le-mul_neg}
 use Rattle.verdicts.proofs.Forms.{same_form-value}
@@ -71,11 +71,19 @@ no_derived r i = go (is_less zero_ℚ i.weight)
     go true = tt
     go false = tt
 
-terms_rise : (p : Problem) (w : Weights) (r : List Rational) → IsImprovingRay p r → IfSome (terms p [] [] w) (AllRise r)
+no_split : (r : List Rational) (i : Item) → IfSome (split_term [] i) (Rises r)
+no_split r i = go (is_less zero_ℚ i.weight)
+  where
+    go : (b : Bool) → IfSome (if b then None else None) (Rises r)
+    go true = tt
+    go false = tt
+
+terms_rise : (p : Problem) (w : Weights) (r : List Rational) → IsImprovingRay p r → IfSome (terms p [] [] [] w) (AllRise r)
 terms_rise p w r h =
     gathered_rise r (row_term p) w.rows _ (row_rises p r h)
     (gathered_rise r (column_term p []) w.columns _ (column_rises p r h)
-    (gathered_rise r (derived_term []) w.derived (Some []) (no_derived r) tt))
+    (gathered_rise r (derived_term []) w.derived _ (no_derived r)
+    (gathered_rise r (split_term []) w.splits (Some []) (no_split r) tt)))
 
 combined_rises : (r : List Rational) (ts : List Weighted) → AllRise r ts → zero_ℚ ≤ℚ sum_at r (combined ts)
 combined_rises r [] h = Q.le_refl zero_ℚ
@@ -84,16 +92,17 @@ combined_rises r (t ∷ ts) h =
     (Q.add-le-add _ _ _ _ h.0.up (combined_rises r ts h.1))
 
 -- where weights show the objective, no ray improves it
-no_ray : (p : Problem) (w : Weights) (ts : List Weighted) (r : List Rational) → terms p [] [] w ≡ Some ts → same_form (length p.columns) (combined ts) (scaled (sign_of p.direction) p.objective) ≡ true → IsImprovingRay p r → ⊥
+no_ray : (p : Problem) (w : Weights) (ts : List Weighted) (r : List Rational) → terms p [] [] [] w ≡ Some ts → same_form (length p.columns) (combined ts) (scaled (sign_of p.direction) p.objective) ≡ true → IsImprovingRay p r → ⊥
 no_ray p w ts r are form ray =
     let rise : zero_ℚ ≤ℚ sum_at r (combined ts) = combined_rises r ts (rw are at (terms_rise p w r ray)) in
     let same = same_form-value (length p.columns) r (combined ts) (scaled (sign_of p.direction) p.objective) ray.size form in
     Q.lt-not-le _ _ ray.improves (le_by _ _ _ _ refl (sym (same ∙ value-scaled (number_at r) (sign_of p.direction) p.objective)) rise)
 
-bound_no_ray : (p : Problem) (w : Weights) (r : List Rational) (bound : Rational) (o : Option (List Weighted)) → terms p [] [] w ≡ o → shows (length p.columns) o (scaled (sign_of p.direction) p.objective) bound ≡ true → IsImprovingRay p r → ⊥
+bound_no_ray : (p : Problem) (w : Weights) (r : List Rational) (bound : Rational) (o : Option (List Weighted)) → terms p [] [] [] w ≡ o → shows (length p.columns) o (scaled (sign_of p.direction) p.objective) bound ≡ true → IsImprovingRay p r → ⊥
 bound_no_ray p w r bound None are h ray = cc
 bound_no_ray p w r bound (Some ts) are h ray = no_ray p w ts r are (and_parts (same_form (length p.columns) (combined ts) (scaled (sign_of p.direction) p.objective)) (is_at_most bound (combined_bound ts)) h).0 ray
 
 -- a leaf at the root that passes against a value
-pub leaf_no_ray : (p : Problem) (v : Rational) (w : Weights) (r : List Rational) → node_passes p (Some v) [] [] (Bound w) ≡ true → IsImprovingRay p r → ⊥
-leaf_no_ray p v w r h ray = bound_no_ray p w r (sign_of p.direction *ℚ (v -ℚ p.constant)) (terms p [] [] w) refl h ray
+pub leaf_no_ray : (p : Problem) (v : Version) (goal : Rational) (w : Weights) (r : List Rational) → node_passes p v (Some goal) [] [] (Bound w) ≡ true → IsImprovingRay p r → ⊥
+leaf_no_ray p One goal w r h ray = bound_no_ray p w r (sign_of p.direction *ℚ (goal -ℚ p.constant)) (terms p [] [] [] w) refl h ray
+leaf_no_ray p Two goal w r h ray = bound_no_ray p w r (sign_of p.direction *ℚ (goal -ℚ p.constant)) (terms p [] [] [] w) refl h ray

@@ -6,8 +6,9 @@ use Rattle.rational.specs.Rational.{Rational, over, whole, zero_ℚ, ◌+ℚ◌,
 use Rattle.milp.specs.Form.{Entry}
 use Rattle.milp.specs.Problem.{Problem}
 use Rattle.milp.specs.declared.Direction.TheVariants.{Min, Max}
-use Rattle.verdicts.specs.Certificate.{Optimal, Infeasible, Item, Weights, BySplit, Branch, Empty, Bound, Certificate}
-use Rattle.verdicts.specs.Proves.{Part, tests, first_failing, Proves}
+use Rattle.verdicts.specs.Certificate.{Version, One, Two, Derived, Plain, Optimal, Infeasible, Item, Weights, BySplit, Branch, Empty, Bound, Certificate}
+use Rattle.verdicts.specs.Proves.{Part, derived_tests, node_tests, tests, first_failing, Proves}
+use Rattle.verdicts.specs.Migrated.{migrated}
 
 abbrev at : ℕ → ℤ → Entry
 at j n = record { column = j; coefficient = whole n }
@@ -16,7 +17,7 @@ abbrev item : ℕ → Rational → Item
 item i w = record { index = i; weight = w }
 
 abbrev weights : List Item → List Item → List Item → Weights
-weights r c d = record { rows = r; columns = c; derived = d }
+weights r c d = record { rows = r; columns = c; derived = d; splits = [] }
 
 -- min x where 1 <= 3 x <= 2, x whole
 abbrev third : Problem
@@ -31,6 +32,7 @@ third = record {
 
 abbrev third_certificate : ℤ → Certificate
 third_certificate w = record {
+  version = One;
   rows = 1;
   columns = 1;
   verdict = Infeasible;
@@ -38,7 +40,7 @@ third_certificate w = record {
   point = None;
   ray = None;
   derived = [];
-  tree = Branch (record { column = 0; at = pos 0 })
+  tree = Branch (record { form = at 0 (pos 1) ∷ []; at = pos 0 })
       ∷ Empty (weights (item 0 (whole (pos 1)) ∷ []) (item 0 (whole (negsuc 2)) ∷ []) [])
       ∷ Empty (weights (item 0 (whole (negsuc 0)) ∷ []) (item 0 (whole w) ∷ []) [])
       ∷ [];
@@ -65,6 +67,7 @@ odd = record {
 
 abbrev odd_certificate : List Item → Certificate
 odd_certificate high = record {
+  version = One;
   rows = 1;
   columns = 2;
   verdict = Infeasible;
@@ -108,6 +111,7 @@ two = record {
 
 abbrev two_certificate : ℤ → Certificate
 two_certificate w = record {
+  version = One;
   rows = 2;
   columns = 2;
   verdict = Optimal;
@@ -125,3 +129,80 @@ two_accepted = refl
 two_refused : first_failing (tests two (two_certificate (pos 2))) ≡ Some (Part.Node 1)
 unfolding ◌+ℚ◌ ◌*ℚ◌ neg_ℚ over gcd gcd_within
 two_refused = refl
+
+-- ---- version 2
+
+-- 2 x - 2 y = 1 by a split on x - y, with weights of the sides taken
+abbrev odd_split : Version → List Entry → Rational → Certificate
+odd_split v form w = record {
+  version = v;
+  rows = 1;
+  columns = 2;
+  verdict = Infeasible;
+  value = None;
+  point = None;
+  ray = None;
+  derived = [];
+  tree = Branch (record { form = form; at = pos 0 })
+      ∷ Empty (record { rows = item 0 (whole (pos 1)) ∷ []; columns = []; derived = []; splits = item 0 w ∷ [] })
+      ∷ Empty (record { rows = item 0 (whole (negsuc 0)) ∷ []; columns = []; derived = []; splits = item 0 w ∷ [] })
+      ∷ [];
+}
+
+abbrev difference : List Entry
+difference = at 0 (pos 1) ∷ at 1 (negsuc 0) ∷ []
+
+odd_split_accepted : Proves odd (odd_split Two difference (whole (pos 2)))
+unfolding ◌+ℚ◌ ◌*ℚ◌ neg_ℚ over gcd gcd_within
+odd_split_accepted = refl
+
+-- version 1 splits on columns alone
+odd_split_one : first_failing (tests odd (odd_split One difference (whole (pos 2)))) ≡ Some (Part.Node 1)
+unfolding ◌+ℚ◌ ◌*ℚ◌ neg_ℚ over gcd gcd_within
+odd_split_one = refl
+
+-- the weight of a split is above 0
+odd_split_negative : first_failing (tests odd (odd_split Two difference (whole (negsuc 1)))) ≡ Some (Part.Node 2)
+unfolding ◌+ℚ◌ ◌*ℚ◌ neg_ℚ over gcd gcd_within
+odd_split_negative = refl
+
+-- coefficients are whole
+odd_split_half : first_failing (tests odd (odd_split Two (record { column = 0; coefficient = over (pos 1) 2 } ∷ []) (whole (pos 2)))) ≡ Some (Part.Node 1)
+unfolding ◌+ℚ◌ ◌*ℚ◌ neg_ℚ over gcd gcd_within
+odd_split_half = refl
+
+-- a split on a column that need not be whole
+two_split_refused : first_failing (node_tests two Two None [] 1 ([] ∷ []) (Branch (record { form = at 0 (pos 1) ∷ []; at = pos 0 }) ∷ [])) ≡ Some (Part.Node 1)
+unfolding ◌+ℚ◌ ◌*ℚ◌ neg_ℚ over gcd gcd_within
+two_split_refused = refl
+
+-- 1 <= 3 x <= 2: each branch's bound becomes a weight of the split
+third_migrated : Proves third (migrated third (third_certificate (pos 3)))
+unfolding ◌+ℚ◌ ◌*ℚ◌ neg_ℚ over gcd gcd_within
+third_migrated = refl
+
+third_migrated_is : (migrated third (third_certificate (pos 3))).tree ≡ Branch (record { form = at 0 (pos 1) ∷ []; at = pos 0 })
+    ∷ Empty (record { rows = item 0 (whole (pos 1)) ∷ []; columns = []; derived = []; splits = item 0 (neg_ℚ (whole (negsuc 2))) ∷ [] })
+    ∷ Empty (record { rows = item 0 (whole (negsuc 0)) ∷ []; columns = []; derived = []; splits = item 0 (whole (pos 3)) ∷ [] })
+    ∷ []
+unfolding ◌+ℚ◌ ◌*ℚ◌ neg_ℚ over gcd gcd_within
+third_migrated_is = refl
+
+-- a second derived row, which uses the k-th with weight 1: 2 x - 2 y >= 1
+abbrev chain : ℕ → List Derived
+chain k = record { bound = whole (pos 1); form = at 0 (pos 2) ∷ at 1 (negsuc 1) ∷ []; proof = Plain (weights (item 0 (whole (pos 1)) ∷ []) [] []) }
+    ∷ record { bound = whole (pos 1); form = at 0 (pos 2) ∷ at 1 (negsuc 1) ∷ []; proof = Plain (weights [] [] (item k (whole (pos 1)) ∷ [])) } ∷ []
+
+chain_accepted : first_failing (derived_tests odd Two 1 [] (chain 0)) ≡ None
+unfolding ◌+ℚ◌ ◌*ℚ◌ neg_ℚ over gcd gcd_within
+chain_accepted = refl
+
+-- it may not use itself
+chain_itself : first_failing (derived_tests odd Two 1 [] (chain 1)) ≡ Some (Part.DerivedRow 2)
+unfolding ◌+ℚ◌ ◌*ℚ◌ neg_ℚ over gcd gcd_within
+chain_itself = refl
+
+-- nor any in version 1
+chain_one : first_failing (derived_tests odd One 1 [] (chain 0)) ≡ Some (Part.DerivedRow 2)
+unfolding ◌+ℚ◌ ◌*ℚ◌ neg_ℚ over gcd gcd_within
+chain_one = refl

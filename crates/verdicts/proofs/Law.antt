@@ -1,14 +1,14 @@
 -- A certificate that proves its verdict is right.
-use Rattle.std.proofs.Common.{◌≡◌, ◌∙◌, ℕ, zero, suc, ◌+◌, List, [], ◌∷◌, ◌++◌, true, ◌&&◌, ◌==◌, refl, ap, Option, Some, None, IfSome, slice_get, length}
+use Rattle.std.proofs.Common.{append_assoc, append-nil, ◌≡◌, ◌∙◌, ℕ, ◌+◌, List, [], ◌∷◌, ◌++◌, true, ◌&&◌, ◌==◌, refl, ap, Option, Some, None, length}
 use Rattle.rational.specs.Rational.{Rational}
 use Rattle.milp.specs.Problem.{Problem}
 use Rattle.milp.specs.Points.{Feasible}
-use Rattle.verdicts.specs.Certificate.{Verdict, Optimal, Infeasible, Unbounded, Derived, Certificate}
-use Rattle.verdicts.specs.Proves.{derived_passes, Part, Test, derived_tests, node_tests, tree_tests, point_passes, value_passes, ray_passes, verdict_tests, first_failing, Proves, Holds}
+use Rattle.verdicts.specs.Certificate.{Version, One, Two, Verdict, Optimal, Infeasible, Unbounded, Derived, Certificate}
+use Rattle.verdicts.specs.Proves.{derived_passes, usable, Part, Test, derived_tests, node_tests, tree_tests, point_passes, value_passes, ray_passes, verdict_tests, first_failing, Proves, Holds}
 use Rattle.rational.proofs.Laws.{same_true}
 use Rattle.verdicts.proofs.Points.{meets_true, ray_true}
-use Rattle.verdicts.specs.Proves.{MeetsDerived}
-use Rattle.verdicts.proofs.DerivedRows.{derived_sound, inside_own}
+use Rattle.verdicts.specs.Proves.{AllDerived}
+use Rattle.verdicts.proofs.DerivedRows.{derived_sound, derived_more}
 use Rattle.verdicts.proofs.Nodes.{Beats, DerivedHold, passing, tree_closed}
 
 passing_both : (ts us : List Test) → first_failing (ts ++ us) ≡ None → (first_failing ts ≡ None) × (first_failing us ≡ None)
@@ -19,23 +19,25 @@ passing_both (t ∷ ts) us h =
     let e = one.0 in
     (rw e both.0, both.1)
 
-derived_pass : (p : Problem) (k : ℕ) (ds : List Derived) → first_failing (derived_tests p k ds) ≡ None → (j : ℕ) → IfSome (slice_get ds j) (λ d. derived_passes p d ≡ true)
-derived_pass p k [] h j = tt
-derived_pass p k (d ∷ ds) h zero = (passing (record { part = Part.DerivedRow k; passes = derived_passes p d }) (derived_tests p (k + 1) ds) h).0
-derived_pass p k (d ∷ ds) h (suc j) = derived_pass p (k + 1) ds (passing (record { part = Part.DerivedRow k; passes = derived_passes p d }) (derived_tests p (k + 1) ds) h).1 j
+usable_hold : (x : List Rational) (v : Version) (before : List Derived) → AllDerived x before → AllDerived x (usable v before)
+usable_hold x One before h = λ k. tt
+usable_hold x Two before h = h
 
-derived_hold : (p : Problem) (ds : List Derived) → first_failing (derived_tests p 1 ds) ≡ None → DerivedHold p ds
-derived_hold p ds h = record { all = λ x f j. go x f (slice_get ds j) (derived_pass p 1 ds h j) }
-  where
-    go : (x : List Rational) → Feasible p x → (o : Option Derived) → IfSome o (λ d. derived_passes p d ≡ true) → IfSome o (MeetsDerived x)
-    go x f None k = tt
-    go x f (Some d) k = derived_sound p x d f k
+rows_hold : (p : Problem) (v : Version) (x : List Rational) → Feasible p x → (k : ℕ) (before ds : List Derived) → AllDerived x before → first_failing (derived_tests p v k before ds) ≡ None → AllDerived x (before ++ ds)
+rows_hold p v x f k before [] h t = rw (append-nil before) h
+rows_hold p v x f k before (d ∷ ds) h t =
+    let one = passing (record { part = Part.DerivedRow k; passes = derived_passes p (usable v before) d }) (derived_tests p v (k + 1) (before ++ d ∷ []) ds) t in
+    let more = derived_more x before d h (derived_sound p (usable v before) x d f (usable_hold x v before h) one.0) in
+    rw (append_assoc before (d ∷ []) ds) at (rows_hold p v x f (k + 1) (before ++ d ∷ []) ds more one.1)
+
+derived_hold : (p : Problem) (v : Version) (ds : List Derived) → first_failing (derived_tests p v 1 [] ds) ≡ None → DerivedHold p ds
+derived_hold p v ds h = record { all = λ x f. rows_hold p v x f 1 [] ds (λ k. tt) h }
 
 none_beats : (p : Problem) (goal : Option Rational) (c : Certificate) → first_failing (tree_tests p goal c) ≡ None → (x : List Rational) → Feasible p x → Beats p goal x → ⊥
 none_beats p goal c h x f b =
-    let both = passing_both (derived_tests p 1 c.derived) (node_tests p goal c.derived 1 ([] ∷ []) c.tree) h in
-    let closed = tree_closed p goal c.derived (derived_hold p c.derived both.0) c.tree 1 ([] ∷ []) both.1 in
-    closed.0.none x f b (inside_own p x f.relaxed)
+    let both = passing_both (derived_tests p c.version 1 [] c.derived) (node_tests p c.version goal c.derived 1 ([] ∷ []) c.tree) h in
+    let closed = tree_closed p c.version goal c.derived (derived_hold p c.version c.derived both.0) c.tree 1 ([] ∷ []) both.1 in
+    closed.0.none x f b tt
 
 optimal_holds : (p : Problem) (c : Certificate) (point : Option (List Rational)) (value : Option Rational) → c.point ≡ point → c.value ≡ value → point_passes p point ≡ true → value_passes p point value ≡ true → first_failing (tree_tests p value c) ≡ None → Holds p c Optimal
 optimal_holds p c None value e f g h t = cc

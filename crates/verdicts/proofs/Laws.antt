@@ -12,8 +12,8 @@ pub use Rattle.verdicts.proofs.Converse.{true_meets, true_ray}
 -- a certificate that proves its verdict makes it true
 pub use Rattle.verdicts.proofs.Law.{certificate_right}
 -- points on the way to a leaf, and what the tests of a derived row and of a leaf show
-pub use Rattle.verdicts.proofs.DerivedRows.{derived_sound, inside_own}
-pub use Rattle.verdicts.proofs.Nodes.{inside_low, inside_high, leaf_bound, leaf_empty, on_a_side}
+pub use Rattle.verdicts.proofs.DerivedRows.{derived_sound, derived_more, inside_own, takes_low, whole_value}
+pub use Rattle.verdicts.proofs.Nodes.{empty_under, bound_under, inside_low, inside_high, inside_taken, leaf_bound, leaf_empty, on_a_side}
 pub use Rattle.verdicts.proofs.Bounded.{leaf_no_ray}
 -- ways in a tree
 pub use Rattle.verdicts.proofs.Trees.{ways_step}

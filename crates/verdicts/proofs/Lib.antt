@@ -11,5 +11,8 @@ mod Law
 mod Steps
 mod Converse
 mod Trees
+mod Migration
+mod Named
+mod SplitRows
 mod Examples
 pub mod Laws

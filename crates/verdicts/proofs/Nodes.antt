@@ -1,22 +1,22 @@
 -- Where all nodes pass, no feasible point beats the goal.
-use Rattle.std.proofs.Common.{◌≡◌, ℕ, ◌+◌, List, [], ◌∷◌, ◌++◌, Bool, true, false, ◌==◌, refl, sym, subst, Option, Some, None, IfSome, slice_get, length, if◌then◌else◌, ⊎_elim, inl, inr}
-use Rattle.std.specs.Prelude.{pos, ◌+ℤ◌, ◌⊎◌}
-use Rattle.std.proofs.lemmas.Bool.{eqb-true}
-use Rattle.rational.specs.Rational.{Rational, ◌≤ℚ◌, ◌<ℚ◌, ◌*ℚ◌, ◌+ℚ◌, ◌-ℚ◌, whole}
+use Rattle.std.proofs.Common.{◌≡◌, ◌∙◌, ap, ℕ, ◌+◌, List, [], ◌∷◌, ◌++◌, Bool, true, false, refl, sym, Option, Some, None, IfSome, length, if◌then◌else◌, ⊎_elim, inl, inr}
+use Rattle.std.specs.Prelude.{pos, negsuc, ◌+ℤ◌, ◌⊎◌}
+use Rattle.std.proofs.lemmas.Bool.{eqb-true, and_parts}
+use Rattle.rational.specs.Rational.{Rational, ◌≤ℚ◌, ◌<ℚ◌, ◌*ℚ◌, ◌+ℚ◌, ◌-ℚ◌, neg_ℚ, zero_ℚ, one_ℚ, whole}
 use Rattle.verdicts.specs.WeightedSums.{scaled, Weighted}
 use Rattle.rational.proofs.Laws as Q
-use Rattle.rational.proofs.Laws.{field, field_units, signs}
+use Rattle.rational.proofs.Laws.{field, field_units, signs, same_true}
 use Rattle.verdicts.proofs.Duality.{value-scaled}
-use Rattle.rational.specs.Compare.{is_at_most}
+use Rattle.rational.specs.Compare.{is_at_most, is_same}
 use Rattle.milp.specs.Problem.{Problem}
-use Rattle.milp.specs.Form.{number_at, sum_at}
+use Rattle.milp.specs.Form.{Entry, number_at, sum_at}
 use Rattle.milp.specs.Points.{Relaxed, Feasible, objective_value, sign_of}
-use Rattle.verdicts.specs.Certificate.{Split, Side, Low, High, Weights, Derived, TreeNode, Branch, Empty, Bound}
-use Rattle.verdicts.specs.Proves.{lesser, greater, lower_under, upper_under, is_integer, terms, bound_passes, node_passes, below, Part, Test, first_failing, node_tests}
-use Rattle.verdicts.proofs.Numbers.{le_by, sides}
+use Rattle.verdicts.specs.Certificate.{Version, One, Two, Split, Side, Low, High, Weights, Derived, TreeNode, Branch, Empty, Bound}
+use Rattle.verdicts.specs.Proves.{refutes, lesser, greater, lower_under, upper_under, narrows, is_column, unit_column, may_split, is_whole_form, narrowed, taken, TakesSide, TakesAll, terms, bound_passes, node_passes, below, Part, Test, first_failing, node_tests}
+use Rattle.verdicts.proofs.Numbers.{le_by, neg_le, minus_one-mul, sides}
 use Rattle.verdicts.proofs.Sums.{AllMeet, terms_meet, shows_sound, refutes_sound}
 use Rattle.verdicts.specs.Proves.{InsideBounds, AllDerived}
-use Rattle.verdicts.proofs.DerivedRows.{integer_whole}
+use Rattle.verdicts.proofs.DerivedRows.{inside_own, takes_low, whole_value}
 
 -- ---- bounds under one more split
 
@@ -36,23 +36,51 @@ greater_below (Some a) b v h k = go (is_at_most a b)
     go true = k
     go false = h
 
-pub inside_low : (p : Problem) (s : Split) (at : List Side) (x : List Rational) → InsideBounds p at x → number_at x s.column ≤ℚ whole s.at → InsideBounds p (Low s ∷ at) x
-inside_low p s at x h k = record { within = λ j. record { low = (h.within j).low; high = go j (s.column == j) refl } }
+-- the value of the form of a split that narrows a column is the column's number
+pub narrowing_value : (form : List Entry) (j : ℕ) (x : List Rational) → is_column (unit_column form) j ≡ true → sum_at x form ≡ number_at x j
+narrowing_value [] j x h = cc
+narrowing_value (e ∷ []) j x h = go (is_same e.coefficient one_ℚ) refl h
   where
-    go : (j : ℕ) (t : Bool) → (s.column == j) ≡ t → IfSome (if t then Some (lesser (upper_under p at j) (whole s.at)) else upper_under p at j) (λ b. number_at x j ≤ℚ b)
+    go : (b : Bool) → is_same e.coefficient one_ℚ ≡ b → is_column (if b then Some e.column else None) j ≡ true → e.coefficient *ℚ number_at x e.column +ℚ zero_ℚ ≡ number_at x j
+    go true k c = Q.add-zero _ ∙ ap (λ q. q *ℚ number_at x e.column) (same_true _ _ k) ∙ Q.one-mul _ ∙ ap (number_at x) (eqb-true e.column j c)
+    go false k c = cc
+narrowing_value (e ∷ f ∷ es) j x h = cc
+
+under_low : (s : Split) (x : List Rational) → TakesSide x (Low s) → sum_at x s.form ≤ℚ whole s.at
+under_low s x h = le_by _ _ _ _ (back (sum_at x s.form)) (back (whole s.at)) (neg_le _ _ (le_by _ _ _ _ (sym (Q.neg_whole s.at)) (sym (value-scaled (number_at x) (whole (negsuc 0)) s.form ∙ minus_one-mul (sum_at x s.form))) h))
+  where
+    back : (a : Rational) → a ≡ neg_ℚ (neg_ℚ a)
+    back a = sym (Q.neg_neg a)
+
+pub inside_low : (p : Problem) (s : Split) (at : List Side) (x : List Rational) → InsideBounds p at x → sum_at x s.form ≤ℚ whole s.at → InsideBounds p (Low s ∷ at) x
+inside_low p s at x h k = record { within = λ j. record { low = (h.within j).low; high = go j (narrows s j) refl } }
+  where
+    go : (j : ℕ) (t : Bool) → narrows s j ≡ t → IfSome (if t then Some (lesser (upper_under p at j) (whole s.at)) else upper_under p at j) (λ b. number_at x j ≤ℚ b)
     go j true e =
-        let P : ℕ → Type 0 = λ i. number_at x i ≤ℚ whole s.at in
-        lesser_above (upper_under p at j) (whole s.at) (number_at x j) (h.within j).high (subst P (eqb-true s.column j e) k)
+        lesser_above (upper_under p at j) (whole s.at) (number_at x j) (h.within j).high (le_by _ _ _ _ (sym (narrowing_value s.form j x e)) refl k)
     go j false e = (h.within j).high
 
-pub inside_high : (p : Problem) (s : Split) (at : List Side) (x : List Rational) → InsideBounds p at x → whole (s.at +ℤ pos 1) ≤ℚ number_at x s.column → InsideBounds p (High s ∷ at) x
-inside_high p s at x h k = record { within = λ j. record { low = go j (s.column == j) refl; high = (h.within j).high } }
+pub inside_high : (p : Problem) (s : Split) (at : List Side) (x : List Rational) → InsideBounds p at x → whole (s.at +ℤ pos 1) ≤ℚ sum_at x s.form → InsideBounds p (High s ∷ at) x
+inside_high p s at x h k = record { within = λ j. record { low = go j (narrows s j) refl; high = (h.within j).high } }
   where
-    go : (j : ℕ) (t : Bool) → (s.column == j) ≡ t → IfSome (if t then Some (greater (lower_under p at j) (whole (s.at +ℤ pos 1))) else lower_under p at j) (λ b. b ≤ℚ number_at x j)
+    go : (j : ℕ) (t : Bool) → narrows s j ≡ t → IfSome (if t then Some (greater (lower_under p at j) (whole (s.at +ℤ pos 1))) else lower_under p at j) (λ b. b ≤ℚ number_at x j)
     go j true e =
-        let P : ℕ → Type 0 = λ i. whole (s.at +ℤ pos 1) ≤ℚ number_at x i in
-        greater_below (lower_under p at j) (whole (s.at +ℤ pos 1)) (number_at x j) (h.within j).low (subst P (eqb-true s.column j e) k)
+        greater_below (lower_under p at j) (whole (s.at +ℤ pos 1)) (number_at x j) (h.within j).low (le_by _ _ _ _ refl (sym (narrowing_value s.form j x e)) k)
     go j false e = (h.within j).low
+
+-- a point on each side taken is inside the bounds that they narrow
+pub inside_taken : (p : Problem) (at : List Side) (x : List Rational) → Relaxed p x → TakesAll x at → InsideBounds p at x
+inside_taken p [] x r h = inside_own p x r
+inside_taken p (Low s ∷ at) x r h = inside_low p s at x (inside_taken p at x r h.1) (under_low s x h.0)
+inside_taken p (High s ∷ at) x r h = inside_high p s at x (inside_taken p at x r h.1) h.0
+
+inside_version : (p : Problem) (v : Version) (at : List Side) (x : List Rational) → Relaxed p x → TakesAll x at → InsideBounds p (narrowed v at) x
+inside_version p One at x r h = inside_taken p at x r h
+inside_version p Two at x r h = inside_own p x r
+
+taken_version : (v : Version) (at : List Side) (x : List Rational) → TakesAll x at → TakesAll x (taken v at)
+taken_version One at x h = tt
+taken_version Two at x h = h
 
 -- ---- one node
 
@@ -63,7 +91,7 @@ Beats p (Some v) x = sign_of p.direction *ℚ objective_value p x <ℚ sign_of p
 
 -- no feasible point under these splits beats the goal
 pub record IsClosed (p : Problem) (goal : Option Rational) (at : List Side) : Type 0 where
-  pub none : (x : List Rational) → Feasible p x → Beats p goal x → InsideBounds p at x → ⊥
+  pub none : (x : List Rational) → Feasible p x → Beats p goal x → TakesAll x at → ⊥
 
 abbrev pub AllClosed : Problem → Option Rational → List (List Side) → Type 0
 AllClosed p goal [] = Unit {0}
@@ -85,23 +113,30 @@ bound_shown p v o x e h t =
     let shown = shows_sound (length p.columns) x o (scaled (sign_of p.direction) p.objective) (sign_of p.direction *ℚ (v -ℚ p.constant)) e h t in
     shift (sign_of p.direction) v p.constant (sum_at x p.objective) (le_by _ _ _ _ refl (sym (value-scaled (number_at x) (sign_of p.direction) p.objective)) shown)
 
-pub leaf_empty : (p : Problem) (goal : Option Rational) (ds : List Derived) (at : List Side) (w : Weights) (x : List Rational) → node_passes p goal ds at (Empty w) ≡ true → Relaxed p x → InsideBounds p at x → AllDerived x ds → ⊥
-leaf_empty p goal ds at w x t r i d = refutes_sound (length p.columns) x (terms p ds at w) r.size (terms_meet p ds at w x r d i) t
+-- under bounds that some sides narrow, and on others
+pub empty_under : (p : Problem) (ds : List Derived) (narrowed taken : List Side) (w : Weights) (x : List Rational) → refutes (length p.columns) (terms p ds narrowed taken w) ≡ true → Relaxed p x → InsideBounds p narrowed x → TakesAll x taken → AllDerived x ds → ⊥
+empty_under p ds narrowed taken w x t r i s d = refutes_sound (length p.columns) x (terms p ds narrowed taken w) r.size (terms_meet p ds narrowed taken w x r d i s) t
 
-pub leaf_bound : (p : Problem) (v : Rational) (ds : List Derived) (at : List Side) (w : Weights) (x : List Rational) → node_passes p (Some v) ds at (Bound w) ≡ true → Relaxed p x → InsideBounds p at x → AllDerived x ds → sign_of p.direction *ℚ v ≤ℚ sign_of p.direction *ℚ objective_value p x
-leaf_bound p v ds at w x t r i d = bound_shown p v (terms p ds at w) x r.size (terms_meet p ds at w x r d i) t
+pub bound_under : (p : Problem) (goal : Rational) (ds : List Derived) (narrowed taken : List Side) (w : Weights) (x : List Rational) → bound_passes p (Some goal) (terms p ds narrowed taken w) ≡ true → Relaxed p x → InsideBounds p narrowed x → TakesAll x taken → AllDerived x ds → sign_of p.direction *ℚ goal ≤ℚ sign_of p.direction *ℚ objective_value p x
+bound_under p goal ds narrowed taken w x t r i s d = bound_shown p goal (terms p ds narrowed taken w) x r.size (terms_meet p ds narrowed taken w x r d i s) t
 
-pub on_a_side : (p : Problem) (s : Split) (at : List Side) (x : List Rational) → Feasible p x → is_integer (slice_get p.columns s.column) ≡ true → InsideBounds p at x → InsideBounds p (Low s ∷ at) x ⊎ InsideBounds p (High s ∷ at) x
-on_a_side p s at x f t h = ⊎_elim (λ l. inl (inside_low p s at x h l)) (λ l. inr (inside_high p s at x h l)) (sides (number_at x s.column) s.at (integer_whole (slice_get p.columns s.column) (number_at x s.column) (f.integers s.column) t))
+pub leaf_empty : (p : Problem) (v : Version) (goal : Option Rational) (ds : List Derived) (at : List Side) (w : Weights) (x : List Rational) → node_passes p v goal ds at (Empty w) ≡ true → Relaxed p x → TakesAll x at → AllDerived x ds → ⊥
+leaf_empty p v goal ds at w x t r i d = empty_under p ds (narrowed v at) (taken v at) w x t r (inside_version p v at x r i) (taken_version v at x i) d
 
-bound_closed : (p : Problem) (goal : Option Rational) (ds : List Derived) (at : List Side) (w : Weights) (x : List Rational) → node_passes p goal ds at (Bound w) ≡ true → Relaxed p x → InsideBounds p at x → AllDerived x ds → Beats p goal x → ⊥
-bound_closed p None ds at w x t r i d b = cc
-bound_closed p (Some v) ds at w x t r i d b = Q.lt-not-le _ _ b (leaf_bound p v ds at w x t r i d)
+pub leaf_bound : (p : Problem) (v : Version) (goal : Rational) (ds : List Derived) (at : List Side) (w : Weights) (x : List Rational) → node_passes p v (Some goal) ds at (Bound w) ≡ true → Relaxed p x → TakesAll x at → AllDerived x ds → sign_of p.direction *ℚ goal ≤ℚ sign_of p.direction *ℚ objective_value p x
+leaf_bound p v goal ds at w x t r i d = bound_under p goal ds (narrowed v at) (taken v at) w x t r (inside_version p v at x r i) (taken_version v at x i) d
 
-node_closed : (p : Problem) (goal : Option Rational) (ds : List Derived) (at : List Side) (node : TreeNode) → DerivedHold p ds → node_passes p goal ds at node ≡ true → AllClosed p goal (below node at) → IsClosed p goal at
-node_closed p goal ds at (Branch s) d t k = record { none = λ x h b i. ⊎_elim (λ l. k.0.none x h b l) (λ l. k.1.0.none x h b l) (on_a_side p s at x h t i) }
-node_closed p goal ds at (Empty w) d t k = record { none = λ x h b i. leaf_empty p goal ds at w x t h.relaxed i (d.all x h) }
-node_closed p goal ds at (Bound w) d t k = record { none = λ x h b i. bound_closed p goal ds at w x t h.relaxed i (d.all x h) b }
+pub on_a_side : (p : Problem) (s : Split) (x : List Rational) → Feasible p x → is_whole_form p s.form ≡ true → TakesSide x (Low s) ⊎ TakesSide x (High s)
+on_a_side p s x f t = ⊎_elim (λ l. inl (takes_low s x l)) (λ l. inr l) (sides (sum_at x s.form) s.at (whole_value p x s.form f t))
+
+bound_closed : (p : Problem) (v : Version) (goal : Option Rational) (ds : List Derived) (at : List Side) (w : Weights) (x : List Rational) → node_passes p v goal ds at (Bound w) ≡ true → Relaxed p x → TakesAll x at → AllDerived x ds → Beats p goal x → ⊥
+bound_closed p v None ds at w x t r i d b = cc
+bound_closed p v (Some goal) ds at w x t r i d b = Q.lt-not-le _ _ b (leaf_bound p v goal ds at w x t r i d)
+
+node_closed : (p : Problem) (v : Version) (goal : Option Rational) (ds : List Derived) (at : List Side) (node : TreeNode) → DerivedHold p ds → node_passes p v goal ds at node ≡ true → AllClosed p goal (below node at) → IsClosed p goal at
+node_closed p v goal ds at (Branch s) d t k = record { none = λ x h b i. ⊎_elim (λ l. k.0.none x h b (l, i)) (λ l. k.1.0.none x h b (l, i)) (on_a_side p s x h (and_parts (may_split v s.form) (is_whole_form p s.form) t).1) }
+node_closed p v goal ds at (Empty w) d t k = record { none = λ x h b i. leaf_empty p v goal ds at w x t h.relaxed i (d.all x h) }
+node_closed p v goal ds at (Bound w) d t k = record { none = λ x h b i. bound_closed p v goal ds at w x t h.relaxed i (d.all x h) b }
 
 -- ---- the tree
 
@@ -116,11 +151,11 @@ closed_rest : (p : Problem) (goal : Option Rational) (first places : List (List 
 closed_rest p goal [] places h = (tt, h)
 closed_rest p goal (at ∷ first) places h = let both = closed_rest p goal first places h.1 in ((h.0, both.0), both.1)
 
-pub tree_closed : (p : Problem) (goal : Option Rational) (ds : List Derived) → DerivedHold p ds → (nodes : List TreeNode) (k : ℕ) (places : List (List Side)) → first_failing (node_tests p goal ds k places nodes) ≡ None → AllClosed p goal places
-tree_closed p goal ds d [] k [] h = tt
-tree_closed p goal ds d [] k (at ∷ places) h = cc
-tree_closed p goal ds d (node ∷ nodes) k [] h = cc
-tree_closed p goal ds d (node ∷ nodes) k (at ∷ places) h =
-    let both = passing (record { part = Part.Node k; passes = node_passes p goal ds at node }) (node_tests p goal ds (k + 1) (below node at ++ places) nodes) h in
-    let rest = closed_rest p goal (below node at) places (tree_closed p goal ds d nodes (k + 1) (below node at ++ places) both.1) in
-    (node_closed p goal ds at node d both.0 rest.0, rest.1)
+pub tree_closed : (p : Problem) (v : Version) (goal : Option Rational) (ds : List Derived) → DerivedHold p ds → (nodes : List TreeNode) (k : ℕ) (places : List (List Side)) → first_failing (node_tests p v goal ds k places nodes) ≡ None → AllClosed p goal places
+tree_closed p v goal ds d [] k [] h = tt
+tree_closed p v goal ds d [] k (at ∷ places) h = cc
+tree_closed p v goal ds d (node ∷ nodes) k [] h = cc
+tree_closed p v goal ds d (node ∷ nodes) k (at ∷ places) h =
+    let both = passing (record { part = Part.Node k; passes = node_passes p v goal ds at node }) (node_tests p v goal ds (k + 1) (below node at ++ places) nodes) h in
+    let rest = closed_rest p goal (below node at) places (tree_closed p v goal ds d nodes (k + 1) (below node at ++ places) both.1) in
+    (node_closed p v goal ds at node d both.0 rest.0, rest.1)

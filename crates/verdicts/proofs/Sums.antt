@@ -1,5 +1,5 @@
 -- The sum of weights: F.x >= R at each point that meets what the weights name.
-use Rattle.std.proofs.Common.{◌≡◌, ◌∙◌, ℕ, List, [], ◌∷◌, Bool, true, false, refl, sym, ap, Option, Some, None, IfSome, slice_get, option_and_then, length, if◌then◌else◌}
+use Rattle.std.proofs.Common.{◌==◌, ◌≡◌, ◌∙◌, ℕ, List, [], ◌∷◌, Bool, true, false, refl, sym, ap, Option, Some, None, IfSome, slice_get, option_and_then, length, if◌then◌else◌}
 use Rattle.std.proofs.lemmas.Bool.{and_parts}
 use Rattle.rational.specs.Rational.{Rational, ◌≤ℚ◌, ◌+ℚ◌, ◌*ℚ◌, zero_ℚ, one_ℚ}
 use Rattle.milp.specs.Form.{Entry}
@@ -11,7 +11,7 @@ use Rattle.milp.specs.Problem.{Row, Problem}
 use Rattle.milp.specs.Form.{number_at, sum_at}
 use Rattle.milp.specs.Points.{IsWithin, Relaxed}
 use Rattle.verdicts.specs.Certificate.{Item, Weights, Side, Derived}
-use Rattle.verdicts.specs.Proves.{term, bound_used, row_term, column_term, derived_term, joined, gathered, terms, same_form, shows, refutes, lower_under, upper_under, MeetsDerived, AllDerived, InsideBounds}
+use Rattle.verdicts.specs.Proves.{term, bound_used, row_term, column_term, derived_term, split_term, TakesSide, TakesAll, side_form, side_bound, way_get, joined, gathered, terms, same_form, shows, refutes, lower_under, upper_under, MeetsDerived, AllDerived, InsideBounds}
 use Rattle.rational.proofs.Laws.{less_true, less_false, at_most_true}
 use Rattle.verdicts.proofs.Numbers.{le_by, mul-le-mul_neg}
 use Rattle.verdicts.proofs.Forms.{same_form-value}
@@ -73,6 +73,25 @@ column_meets p sides x h i =
     term_meets x i.weight (record { column = i.index; coefficient = one_ℚ } ∷ []) (lower_under p sides i.index) (upper_under p sides i.index)
     (let P : Rational → Type 0 = λ v. IsWithin (lower_under p sides i.index) (upper_under p sides i.index) v in rw (unit_value x i.index) (h.within i.index))
 
+pub way_taken : (x : List Rational) (taken : List Side) → TakesAll x taken → (i : ℕ) → IfSome (way_get taken i) (TakesSide x)
+way_taken x [] h i = tt
+way_taken x (s ∷ sides) h i = go (i == length sides) (way_taken x sides h.1 i)
+  where
+    go : (b : Bool) → IfSome (way_get sides i) (TakesSide x) → IfSome (if b then Some s else way_get sides i) (TakesSide x)
+    go true k = h.0
+    go false k = k
+
+pub split_meets : (x : List Rational) (taken : List Side) → TakesAll x taken → (i : Item) → IfSome (split_term taken i) (Meets x)
+split_meets x taken h i = choose (is_less zero_ℚ i.weight) refl
+  where
+    go : (o : Option Side) → zero_ℚ ≤ℚ i.weight → IfSome o (TakesSide x) → IfSome (option_and_then (λ s. term i.weight (side_form s) (Some (side_bound s))) o) (Meets x)
+    go None w k = tt
+    go (Some s) w k = record { scaled = Q.mul-le-mul i.weight (side_bound s) (sum_at x (side_form s)) w k }
+
+    choose : (b : Bool) → is_less zero_ℚ i.weight ≡ b → IfSome (if b then option_and_then (λ s. term i.weight (side_form s) (Some (side_bound s))) (way_get taken i.index) else None) (Meets x)
+    choose true e = go (way_get taken i.index) (Q.le_of_lt _ _ (less_true _ _ e)) (way_taken x taken h i.index)
+    choose false e = tt
+
 -- ---- together
 
 pub joined_meets : (x : List Rational) (o : Option Weighted) (r : Option (List Weighted)) → IfSome o (Meets x) → IfSome r (AllMeet x) → IfSome (joined o r) (AllMeet x)
@@ -84,11 +103,12 @@ gathered_meets : (x : List Rational) (f : Item → Option Weighted) (is : List I
 gathered_meets x f [] rest h k = k
 gathered_meets x f (i ∷ is) rest h k = joined_meets x (f i) (gathered f is rest) (h i) (gathered_meets x f is rest h k)
 
-pub terms_meet : (p : Problem) (ds : List Derived) (sides : List Side) (w : Weights) (x : List Rational) → Relaxed p x → AllDerived x ds → InsideBounds p sides x → IfSome (terms p ds sides w) (AllMeet x)
-terms_meet p ds sides w x h d k =
+pub terms_meet : (p : Problem) (ds : List Derived) (narrowed taken : List Side) (w : Weights) (x : List Rational) → Relaxed p x → AllDerived x ds → InsideBounds p narrowed x → TakesAll x taken → IfSome (terms p ds narrowed taken w) (AllMeet x)
+terms_meet p ds narrowed taken w x h d k s =
     gathered_meets x (row_term p) w.rows _ (row_meets p x h)
-    (gathered_meets x (column_term p sides) w.columns _ (column_meets p sides x k)
-    (gathered_meets x (derived_term ds) w.derived (Some []) (derived_meets x ds d) tt))
+    (gathered_meets x (column_term p narrowed) w.columns _ (column_meets p narrowed x k)
+    (gathered_meets x (derived_term ds) w.derived _ (derived_meets x ds d)
+    (gathered_meets x (split_term taken) w.splits (Some []) (split_meets x taken s) tt)))
 
 -- ---- what the tests show
 
@@ -104,5 +124,5 @@ refutes_sound n x (Some ts) e h t =
     let both = and_parts (same_form n (combined ts) []) (is_less zero_ℚ (combined_bound ts)) t in
     Q.lt-not-le _ _ (less_true _ _ both.1) (le_by _ _ _ _ refl (sym (same_form-value n x (combined ts) [] e both.0)) (combined_le x ts h))
 
-pub sums_bound : (p : Problem) (ds : List Derived) (sides : List Side) (w : Weights) (x : List Rational) (ts : List Weighted) → Relaxed p x → InsideBounds p sides x → AllDerived x ds → terms p ds sides w ≡ Some ts → combined_bound ts ≤ℚ sum_at x (combined ts)
-sums_bound p ds sides w x ts h k d e = combined_le x ts (rw e at (terms_meet p ds sides w x h d k))
+pub sums_bound : (p : Problem) (ds : List Derived) (narrowed taken : List Side) (w : Weights) (x : List Rational) (ts : List Weighted) → Relaxed p x → InsideBounds p narrowed x → TakesAll x taken → AllDerived x ds → terms p ds narrowed taken w ≡ Some ts → combined_bound ts ≤ℚ sum_at x (combined ts)
+sums_bound p ds narrowed taken w x ts h k s d e = combined_le x ts (rw e at (terms_meet p ds narrowed taken w x h d k s))

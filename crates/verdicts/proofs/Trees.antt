@@ -2,7 +2,7 @@
 use Rattle.std.proofs.Common.{◌≡◌, ◌∙◌, ℕ, zero, suc, ◌+◌, List, ◌∷◌, ◌++◌, true, refl, sym, ap, Option, None, length, append_assoc, arith}
 use Rattle.rational.specs.Rational.{Rational}
 use Rattle.milp.specs.Problem.{Problem}
-use Rattle.verdicts.specs.Certificate.{Split, Side, Low, High, Derived, TreeNode, Branch, Empty, Bound}
+use Rattle.verdicts.specs.Certificate.{Version, Split, Side, Low, High, Derived, TreeNode, Branch, Empty, Bound}
 use Rattle.verdicts.specs.Proves.{node_passes, below, Part, Test, first_failing, node_tests}
 use Rattle.verdicts.specs.Preorder.{Tree, Divided, Refuted, Bounded, preorder, TreePasses, way_to, ways_to}
 
@@ -10,15 +10,15 @@ from_passing : (t : Test) (ts : List Test) → t.passes ≡ true → first_faili
 from_passing t ts e h = rw e h
 
 -- a tree that passes, and then what follows it
-pub tree_then : (p : Problem) (goal : Option Rational) (ds : List Derived) (t : Tree) (sides : List Side) (places : List (List Side)) (rest : List TreeNode) → TreePasses p goal ds sides t → ((k : ℕ) → first_failing (node_tests p goal ds k places rest) ≡ None) → (k : ℕ) → first_failing (node_tests p goal ds k (sides ∷ places) (preorder t ++ rest)) ≡ None
-tree_then p goal ds (Refuted w) sides places rest h g k = from_passing (record { part = Part.Node k; passes = node_passes p goal ds sides (Empty w) }) (node_tests p goal ds (k + 1) places rest) h (g (k + 1))
-tree_then p goal ds (Bounded w) sides places rest h g k = from_passing (record { part = Part.Node k; passes = node_passes p goal ds sides (Bound w) }) (node_tests p goal ds (k + 1) places rest) h (g (k + 1))
-tree_then p goal ds (Divided s low high) sides places rest h g k =
-    let high_then = tree_then p goal ds high (High s ∷ sides) places rest h.2 g in
-    let low_then = tree_then p goal ds low (Low s ∷ sides) ((High s ∷ sides) ∷ places) (preorder high ++ rest) h.1 high_then in
+pub tree_then : (p : Problem) (v : Version) (goal : Option Rational) (ds : List Derived) (t : Tree) (sides : List Side) (places : List (List Side)) (rest : List TreeNode) → TreePasses p v goal ds sides t → ((k : ℕ) → first_failing (node_tests p v goal ds k places rest) ≡ None) → (k : ℕ) → first_failing (node_tests p v goal ds k (sides ∷ places) (preorder t ++ rest)) ≡ None
+tree_then p v goal ds (Refuted w) sides places rest h g k = from_passing (record { part = Part.Node k; passes = node_passes p v goal ds sides (Empty w) }) (node_tests p v goal ds (k + 1) places rest) h (g (k + 1))
+tree_then p v goal ds (Bounded w) sides places rest h g k = from_passing (record { part = Part.Node k; passes = node_passes p v goal ds sides (Bound w) }) (node_tests p v goal ds (k + 1) places rest) h (g (k + 1))
+tree_then p v goal ds (Divided s low high) sides places rest h g k =
+    let high_then = tree_then p v goal ds high (High s ∷ sides) places rest h.2 g in
+    let low_then = tree_then p v goal ds low (Low s ∷ sides) ((High s ∷ sides) ∷ places) (preorder high ++ rest) h.1 high_then in
     let nodes = (preorder low ++ preorder high) ++ rest in
-    let after : first_failing (node_tests p goal ds (k + 1) ((Low s ∷ sides) ∷ (High s ∷ sides) ∷ places) nodes) ≡ None = rw (append_assoc (preorder low) (preorder high) rest) (low_then (k + 1)) in
-    from_passing (record { part = Part.Node k; passes = node_passes p goal ds sides (Branch s) }) (node_tests p goal ds (k + 1) ((Low s ∷ sides) ∷ (High s ∷ sides) ∷ places) nodes) h.0 after
+    let after : first_failing (node_tests p v goal ds (k + 1) ((Low s ∷ sides) ∷ (High s ∷ sides) ∷ places) nodes) ≡ None = rw (append_assoc (preorder low) (preorder high) rest) (low_then (k + 1)) in
+    from_passing (record { part = Part.Node k; passes = node_passes p v goal ds sides (Branch s) }) (node_tests p v goal ds (k + 1) ((Low s ∷ sides) ∷ (High s ∷ sides) ∷ places) nodes) h.0 after
 
 -- ---- the scan back
 

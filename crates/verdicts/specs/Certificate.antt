@@ -8,6 +8,11 @@ pub data Verdict : Type 0 where
   Infeasible : Verdict
   Unbounded : Verdict
 
+-- how splits and weights are read: by branches on columns, whose bounds they narrow, or by splits that weights name
+pub data Version : Type 0 where
+  One : Version
+  Two : Version
+
 pub record Item : Type 0 where
   pub index : ℕ
   pub weight : Rational
@@ -16,10 +21,11 @@ pub record Weights : Type 0 where
   pub rows : List Item
   pub columns : List Item
   pub derived : List Item
+  pub splits : List Item
 
--- column <= at on the low side, column >= at + 1 on the high side
+-- form <= at on the low side, form >= at + 1 on the high side
 pub record Split : Type 0 where
-  pub column : ℕ
+  pub form : List Entry
   pub at : ℤ
 
 pub data Side : Type 0 where
@@ -51,6 +57,7 @@ pub data TreeNode : Type 0 where
   Bound : Weights → TreeNode
 
 pub record Certificate : Type 0 where
+  pub version : Version
   pub rows : ℕ
   pub columns : ℕ
   pub verdict : Verdict

@@ -2,7 +2,7 @@
 use Rattle.std.specs.Prelude.{ℕ, zero, suc, List, [], ◌∷◌, ◌++◌, Option, IsTrue}
 use Rattle.rational.specs.Rational.{Rational}
 use Rattle.milp.specs.Problem.{Problem}
-use Rattle.verdicts.specs.Certificate.{Split, Side, Low, High, Weights, Derived, TreeNode, Branch, Empty, Bound}
+use Rattle.verdicts.specs.Certificate.{Version, Split, Side, Low, High, Weights, Derived, TreeNode, Branch, Empty, Bound}
 use Rattle.verdicts.specs.Proves.{node_passes}
 
 pub data Tree : Type 0 where
@@ -16,10 +16,10 @@ preorder (Refuted w) = Empty w ∷ []
 preorder (Bounded w) = Bound w ∷ []
 
 -- each node of the tree passes under the splits on its way
-abbrev pub TreePasses : Problem → Option Rational → List Derived → List Side → Tree → Type 0
-TreePasses p goal ds sides (Divided s low high) = IsTrue (node_passes p goal ds sides (Branch s)) × TreePasses p goal ds (Low s ∷ sides) low × TreePasses p goal ds (High s ∷ sides) high
-TreePasses p goal ds sides (Refuted w) = IsTrue (node_passes p goal ds sides (Empty w))
-TreePasses p goal ds sides (Bounded w) = IsTrue (node_passes p goal ds sides (Bound w))
+abbrev pub TreePasses : Problem → Version → Option Rational → List Derived → List Side → Tree → Type 0
+TreePasses p v goal ds sides (Divided s low high) = IsTrue (node_passes p v goal ds sides (Branch s)) × TreePasses p v goal ds (Low s ∷ sides) low × TreePasses p v goal ds (High s ∷ sides) high
+TreePasses p v goal ds sides (Refuted w) = IsTrue (node_passes p v goal ds sides (Empty w))
+TreePasses p v goal ds sides (Bounded w) = IsTrue (node_passes p v goal ds sides (Bound w))
 
 -- the splits on the way to the place that is filled after `skip` more subtrees, from the nodes before, the latest first
 abbrev pub way_to : List TreeNode → ℕ → List Side

@@ -4,4 +4,4 @@ use Rattle.verdicts.proofs.Bounded.{leaf_no_ray}
 use Rattle.verdicts.proofs.tests_show.Goals as goal
 
 pub returns : goal.returns
-returns c = record { derived = λ p d x t f. derived_sound p x d f t; empty = leaf_empty; bound = leaf_bound; no_ray = leaf_no_ray }
+returns c = record { derived = λ p before d x t f k. derived_sound p before x d f k t; empty = leaf_empty; bound = leaf_bound; no_ray = leaf_no_ray }
