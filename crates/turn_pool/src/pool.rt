@@ -6,7 +6,7 @@ ghost use Rattle.turn_pool.specs.Calls.{Called, Refused};
 ghost use Rattle.turn_pool.specs.Passes.{key_of, view_of, IsPassOf, IsSamePool};
 
 use crate::fault::PoolFault;
-use crate::hand::{cut, glue, look};
+use crate::hand::{hand_over, look, take_in};
 use crate::machine::{Event, Machine};
 use crate::pass::{Pass, Pool};
 use crate::turn::{make, try_turn};
@@ -77,7 +77,7 @@ impl<B: Machine> Pool<B> {
         ensures no_call { IsApart B.touched (((view_of pass.old).from, (view_of pass.old).to) ∷ []) [] (view_of pass.old).seen }
     {
         look(&self.table.shared, &mut pass.seat);
-        let seat = cut(&self.table.shared, &mut pass.seat, give);
+        let seat = hand_over(&self.table.shared, &mut pass.seat, give);
         let own = pass.next;
         pass.next = own + give;
         Pass {
@@ -103,7 +103,7 @@ impl<B: Machine> Pool<B> {
             next: _,
             end: _,
         } = other;
-        glue(&self.table.shared, &mut pass.seat, seat);
+        take_in(&self.table.shared, &mut pass.seat, seat);
         look(&self.table.shared, &mut pass.seat);
     }
 
