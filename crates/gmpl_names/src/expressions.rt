@@ -213,10 +213,11 @@ fn resolve_entry(
             let mut found = Names::new(alloc);
             let index = resolve_components(alloc, objects, scope, &mut found, index.as_slice())?;
             let set = resolve_expr(alloc, objects, scope, &whole.set)?;
+            let set = Boxed::new(alloc, set)?;
             scope.append(found)?;
             Ok(resolved::Entry {
                 index: Some(index),
-                set,
+                set: set.into_inner(),
             })
         }
     }

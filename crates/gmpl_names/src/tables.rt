@@ -4,7 +4,7 @@ ghost use Rattle.gmpl_names.specs.Expressions.{Follows, Gives};
 ghost use Rattle.gmpl_names.specs.Statements as spec;
 
 use crate::parts::boxed_expr;
-use crate::{Names, NamesError, resolve_expr, resolve_indexing, room_for};
+use crate::{Names, NamesError, resolve_indexing, room_for};
 use gmpl_resolved as resolved;
 use gmpl_syntax::{
     Expr, Indexing, InputColumn, OutputColumn, SyntaxFaultKind, TableInput, TableOutput,
@@ -106,12 +106,12 @@ pub(crate) fn table_input(
     ensures { Follows (spec.table_input objects.now whole.now scope.old) result scope.new }
 {
     driver(scope, &whole.driver)?;
-    let file = resolve_expr(alloc, objects, scope, &whole.file)?;
+    let file = boxed_expr(alloc, objects, scope, &whole.file)?;
     let set = optional_object(objects, scope, &whole.set)?;
     let columns = input_columns(alloc, objects, scope, whole.columns.as_slice())?;
     let keys = copied(alloc, whole.keys.as_slice())?;
     Ok(resolved::TableInput {
-        file,
+        file: file.into_inner(),
         set,
         keys,
         columns,
