@@ -5,6 +5,7 @@ use Rattle.milp.specs.Form.{number_at, sum_at}
 use Rattle.milp.specs.Problem.{Column, Row}
 use Rattle.milp.specs.Points.{IsWithin}
 use Rattle.verdicts.specs.Certificate.{Side, Low, High}
+use Rattle.certificate.specs.Written.{split_column}
 use Rattle.certificate.specs.Ways.{side_of}
 use Rattle.search_node.specs.declared.node.SplitTaken.{SplitTaken}
 
@@ -19,8 +20,8 @@ AreInRows rows x = (i : ℕ) → IfSome (slice_get rows i) (λ r. IsWithin r.low
 
 -- the point is on this side of a split
 abbrev pub IsOnSide : List Rational → Side → Type 0
-IsOnSide x (Low s) = number_at x s.column ≤ℚ whole s.at
-IsOnSide x (High s) = whole (s.at +ℤ pos 1) ≤ℚ number_at x s.column
+IsOnSide x (Low s) = number_at x (split_column s) ≤ℚ whole s.at
+IsOnSide x (High s) = whole (s.at +ℤ pos 1) ≤ℚ number_at x (split_column s)
 
 -- the point is on the side of each split that was taken
 abbrev pub AreOnSides : List Rational → List SplitTaken → Type 0
