@@ -4,22 +4,22 @@ use Rattle.std.specs.Prelude.{ℤ, pos, ◌+ℤ◌}
 use Rattle.std.proofs.lemmas.Bool.{eqb-true, eq-eqb}
 use Rattle.std.proofs.lemmas.Bool.Decides.{nat_tests}
 use Rattle.std.proofs.lemmas.Option.{same_Some, slice_get_read, slice_get_past}
-use Rattle.rational.specs.Rational.{Rational, zero_ℚ, one_ℚ, whole, ◌*ℚ◌, ◌≤ℚ◌}
+use Rattle.rational.specs.Rational.{Rational, zero_ℚ, one_ℚ, whole, ◌≤ℚ◌}
 use Rattle.fraction.specs.declared.frac.NoFit.{NoFit}
 use Rattle.fraction.specs.Answers.{add_answer}
 use Rattle.milp.specs.Problem.{Column, Row, Problem}
-use Rattle.milp.specs.Form.{Entry, number_at, sum_at}
+use Rattle.milp.specs.Form.{number_at}
 use Rattle.milp.specs.Points.{IsWithin, Relaxed}
 use Rattle.cert_check.specs.Sums.{next_answer}
 use Rattle.cert_check.proofs.Laws.{next_ok}
 use Rattle.rational.specs.Compare.{is_at_most}
-use Rattle.rational.proofs.Laws as Q
 use Rattle.rational.proofs.Laws.{at_most_true, at_most_false, lt-not-le, le_trans, le_of_lt}
 use Rattle.verdicts.specs.Certificate.{Split, Side, Low, High, Derived}
-use Rattle.verdicts.specs.Proves.{InsideBounds, AllDerived, TakesSide, TakesAll, unit_column, is_column, narrows, greater, lesser, lower_under, upper_under}
+use Rattle.verdicts.specs.Proves.{InsideBounds, AllDerived, TakesSide, TakesAll, narrows, greater, lesser, lower_under, upper_under}
 use Rattle.verdicts.proofs.Laws.{inside_taken, takes_low}
 use Rattle.basis.specs.Node.{IsNodePoint}
-use Rattle.certificate.specs.Written.{column_form, split_column}
+use Rattle.certificate.specs.Written.{split_column}
+use Rattle.certificate.proofs.Laws.{column_narrows, column_value}
 use Rattle.certificate.specs.Ways.{side_of}
 use Rattle.certificate.specs.declared.split.Side.{Side as TakenSide}
 use Rattle.certificate.specs.declared.split.Side.TheVariants.{Low as LowTaken, High as HighTaken}
@@ -37,13 +37,9 @@ not_at_most a b h k = lt-not-le b a (at_most_false a b h) k
 
 -- ---- on each side
 
--- the value of a column's form
-column_value : (form : List Entry) (j : ℕ) (x : List Rational) → form ≡ column_form j → sum_at x form ≡ number_at x j
-column_value form j x e = ap (sum_at x) e ∙ Q.add-zero (one_ℚ *ℚ number_at x j) ∙ Q.one-mul (number_at x j)
-
 takes : (s : Split) (side : TakenSide) (x : List Rational) → IsOfColumn s → IsOnSide x (side_of s side) → TakesSide x (side_of s side)
-takes s LowTaken x e h = let P : Rational → Type 0 = λ v. v ≤ℚ whole s.at in takes_low s x (subst P (sym (column_value s.form (split_column s) x e)) h)
-takes s HighTaken x e h = let P : Rational → Type 0 = λ v. whole (s.at +ℤ pos 1) ≤ℚ v in subst P (sym (column_value s.form (split_column s) x e)) h
+takes s LowTaken x e h = let P : Rational → Type 0 = λ v. v ≤ℚ whole s.at in takes_low s x (subst P (sym (column_value x s e)) h)
+takes s HighTaken x e h = let P : Rational → Type 0 = λ v. whole (s.at +ℤ pos 1) ≤ℚ v in subst P (sym (column_value x s e)) h
 
 takes_both : (x : List Rational) (ts us : List Side) → TakesAll x ts → TakesAll x us → TakesAll x (ts ++ us)
 takes_both x [] us h k = k
@@ -74,8 +70,8 @@ from_lesser (Some a) b v h = go (is_at_most a b) refl h
     go false e k = (le_trans v b a k (le_of_lt b a (at_most_false a b e)), k)
 
 -- a split of a column narrows its bounds
-narrows_own : (form : List Entry) (j : ℕ) → form ≡ column_form j → is_column (unit_column form) j ≡ true
-narrows_own form j e = let P : List Entry → Type 0 = λ f. is_column (unit_column f) j ≡ true in subst P (sym e) (eq-eqb j j refl)
+narrows_own : (s : Split) → IsOfColumn s → narrows s (split_column s) ≡ true
+narrows_own s e = column_narrows s (split_column s) e ∙ eq-eqb (split_column s) (split_column s) refl
 
 -- where the split is one of a column
 abbrev OnOwnSide : List Rational → Side → Type 0
@@ -87,7 +83,7 @@ own_side x s LowTaken h = h
 own_side x s HighTaken h = h
 
 above_next : (p : Problem) (s : Split) (at : List Side) (x : List Rational) → InsideBounds p (High s ∷ at) x → InsideBounds p at x × OnOwnSide x (High s)
-above_next p s at x h = (record { within = λ j. record { low = before j (narrows s j) (h.within j).low; high = (h.within j).high } }, λ e. on (narrows s j) (narrows_own s.form j e) (h.within j).low)
+above_next p s at x h = (record { within = λ j. record { low = before j (narrows s j) (h.within j).low; high = (h.within j).high } }, λ e. on (narrows s j) (narrows_own s e) (h.within j).low)
   where
     j : ℕ
     j = split_column s
@@ -101,7 +97,7 @@ above_next p s at x h = (record { within = λ j. record { low = before j (narrow
     on false e k = let never : false ≡ true = e in cc
 
 below_it : (p : Problem) (s : Split) (at : List Side) (x : List Rational) → InsideBounds p (Low s ∷ at) x → InsideBounds p at x × OnOwnSide x (Low s)
-below_it p s at x h = (record { within = λ j. record { low = (h.within j).low; high = before j (narrows s j) (h.within j).high } }, λ e. on (narrows s j) (narrows_own s.form j e) (h.within j).high)
+below_it p s at x h = (record { within = λ j. record { low = (h.within j).low; high = before j (narrows s j) (h.within j).high } }, λ e. on (narrows s j) (narrows_own s e) (h.within j).high)
   where
     j : ℕ
     j = split_column s
