@@ -1,6 +1,6 @@
 -- What the test of each part of a certificate answers: whether the part holds, or the first operation on the way that does
 -- not fit. Each names its tests in the order of the rule, and stops at the first that fails.
-use Rattle.std.specs.Prelude.{ℕ, negsuc, neg_ℤ, ◌+◌, nat_le, ◌++◌, List, [], ◌∷◌, length, Bool, true, false, cond, ◌&&◌, Option, None, Some, is_some, Result, Ok, slice_get, if◌then◌else◌}
+use Rattle.std.specs.Prelude.{ℕ, negsuc, neg_ℤ, ◌+◌, nat_le, ◌++◌, List, [], ◌∷◌, length, Bool, true, false, cond, ◌&&◌, Option, None, Some, is_some, Result, Ok, if◌then◌else◌}
 use Rattle.rational.specs.Rational.{Rational, zero_ℚ, whole, ◌*ℚ◌}
 use Rattle.milp.specs.Form.{Entry}
 use Rattle.milp.specs.Problem.{Row, Problem}

@@ -1,5 +1,5 @@
 -- Steps of the walk back over the turns on the way to a place.
-use Rattle.std.specs.Prelude.{ℕ, ◌==◌, Option, Some, None, Result, Ok, if◌then◌else◌}
+use Rattle.std.specs.Prelude.{ℕ, Option, Some, None, Result, Ok, if◌then◌else◌}
 use Rattle.rational.specs.Rational.{Rational, whole}
 use Rattle.fraction.specs.declared.frac.NoFit.{NoFit}
 use Rattle.instance.specs.Sums.{and_then}
