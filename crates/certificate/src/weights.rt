@@ -94,6 +94,7 @@ pub struct Weights {
 }
 
 impl Model for Weights {
+    ghost use Rattle.std.specs.Prelude.{[]};
     ghost use Rattle.verdicts.specs.Certificate.{Weights as WeightsOf};
     ghost use Rattle.certificate.specs.Written.{AreItemsFrom};
 
