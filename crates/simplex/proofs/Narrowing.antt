@@ -8,13 +8,13 @@ use Rattle.std.proofs.lemmas.Option.{slice_get_past, slice_get_within, slice_get
 use Rattle.std.proofs.lemmas.List.{take_all}
 use Rattle.rational.specs.Rational.{Rational, one_ℚ, whole, ◌+ℚ◌}
 use Rattle.rational.proofs.Laws.{whole-add}
-use Rattle.milp.specs.Form.{Entry}
 use Rattle.milp.specs.Problem.{Problem}
 use Rattle.verdicts.specs.Certificate.{Split, Side as SideOf, Low as LowOf, High as HighOf}
 use Rattle.verdicts.specs.WeightedSums.{AllBelow}
-use Rattle.verdicts.specs.Proves.{unit_column, is_column, narrows, lower_under, upper_under, greater}
+use Rattle.verdicts.specs.Proves.{narrows, lower_under, upper_under, greater}
 use Rattle.certificate.specs.Ways.{side_of}
-use Rattle.certificate.specs.Written.{column_form, split_column, IsSplit}
+use Rattle.certificate.specs.Written.{column_form, first_column, split_column, IsSplit}
+use Rattle.certificate.proofs.Laws.{column_narrows}
 use Rattle.search_node.specs.Sides.{sides_of}
 use Rattle.certificate.specs.declared.split.Side.{Side}
 use Rattle.certificate.specs.declared.split.Side.TheVariants.{Low, High}
@@ -82,7 +82,7 @@ abbrev under : Problem → List SideOf → ℕ → Bounds
 under p sides j = record { lower = lower_under p sides j; upper = upper_under p sides j }
 
 narrows_its_column : (s : Split) (i j : ℕ) → s.form ≡ column_form i → narrows s j ≡ (i == j)
-narrows_its_column s i j e = ap (λ (form : List Entry). is_column (unit_column form) j) e
+narrows_its_column s i j e = let own : split_column s ≡ i = ap first_column e in column_narrows s j (e ∙ ap column_form (sym own)) ∙ ap (λ k. k == j) own
 
 narrows_no_other : (s : Split) (i j : ℕ) → s.form ≡ column_form i → i ≢ j → narrows s j ≡ false
 narrows_no_other s i j e h = let test : (i == j) ≡ false = grind (arith, nat_tests) in narrows_its_column s i j e ∙ test

@@ -18,8 +18,8 @@ narrow-requires c =
     let taken = c.args.splits.now in
     let i = c.loop-taken.taken-index in
     let inside : split_column c.taken-item.result.split < length p.columns =
-        split_on (length p.columns) taken i c.taken-item.result c.requires (split_read taken i c.taken-item.result c.loop-taken-test.true c.taken-item.is) c.column.ensures.written in
-    subst (λ n. n < length c.loop-taken.bounds.items) (sym c.column.ensures.column) (subst (λ n. split_column c.taken-item.result.split < n) (sym (length_under p (sides_of (take i taken)) c.loop-taken.bounds.items c.loop-taken.invariant)) inside)
+    split_on (length p.columns) taken i c.taken-item.result c.requires (split_read taken i c.taken-item.result c.loop-taken-test.true c.taken-item.is) c.column-column.ensures.written in
+    subst (λ n. n < length c.loop-taken.bounds.items) (sym c.column-column.ensures.column) (subst (λ n. split_column c.taken-item.result.split < n) (sym (length_under p (sides_of (take i taken)) c.loop-taken.bounds.items c.loop-taken.invariant)) inside)
 
 pub returns-in_err-bounds-2-clause-err : goal.returns-in_err-bounds-2-clause-err
 returns-in_err-bounds-2-clause-err c =
@@ -34,5 +34,5 @@ loop-taken-preserved c =
     let i = c.loop-taken.taken-index in
     let old = c.loop-taken.bounds.items in
     let t = c.taken-item.result in
-    let made = c.in_ok-bounds-2.ensures.ok ∙ ap (λ j. set old j (narrowed_by (side_of t.split t.side) (bounds_at old j))) c.column.ensures.column in
-    one_more_split c.args.instance.now taken i t old c.in_ok-bounds-2.bounds.items c.requires (split_read taken i t c.loop-taken-test.true c.taken-item.is) c.column.ensures.written c.loop-taken.invariant made
+    let made = c.in_ok-bounds-2.ensures.ok ∙ ap (λ j. set old j (narrowed_by (side_of t.split t.side) (bounds_at old j))) c.column-column.ensures.column in
+    one_more_split c.args.instance.now taken i t old c.in_ok-bounds-2.bounds.items c.requires (split_read taken i t c.loop-taken-test.true c.taken-item.is) c.column-column.ensures.written c.loop-taken.invariant made
