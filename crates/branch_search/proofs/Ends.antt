@@ -1,10 +1,13 @@
 -- Honest ways are over the problem's columns; how a search begins and ends.
 use Rattle.std.proofs.Common.{◌≡◌, ℕ, zero, suc, ◌<◌, ◌≤◌, ◌+◌, ◌∙◌, ◌⊎◌, inl, inr, List, [], ◌∷◌, length, Bool, true, false, refl, sym, subst, Option, Some, IfSome, slice_get, Result, Ok, Err, IfOk, arith}
+use Rattle.milp.specs.Form.{Entry}
 use Rattle.milp.specs.Problem.{Column, Problem}
-use Rattle.verdicts.specs.Certificate.{Side as SideOf, Low as LowOf, High as HighOf, Derived}
+use Rattle.verdicts.specs.WeightedSums.{AllBelow}
+use Rattle.verdicts.specs.Certificate.{Split, Side as SideOf, Low as LowOf, High as HighOf, Derived}
 use Rattle.verdicts.specs.Proves.{is_integer}
+use Rattle.certificate.specs.Written.{column_form, split_column}
 use Rattle.certificate.specs.declared.split.Side.{Side}
-use Rattle.basis.specs.Node.{IsOverColumns, column_of}
+use Rattle.basis.specs.Node.{IsOverColumns, split_form, integer_at}
 use Rattle.search_tree.specs.declared.leaf.Lease.{Lease}
 use Rattle.search_tree.specs.declared.leaf.Leaf.{Leaf}
 use Rattle.search_tree.specs.declared.leaf.Leaf.TheVariants.{Todo, Treated, Leased, Refuted, Bounded, NotFitting, AtLimit}
@@ -38,10 +41,13 @@ known [] j h = cc
 known (c ∷ columns) zero h = omega arith
 known (c ∷ columns) (suc j) h = let k = known columns j h in omega (arith, k)
 
-on_columns : (p : Problem) (ds : List Derived) (sides : List SideOf) → AreHonest p ds sides → (k : ℕ) → IfSome (slice_get sides k) (λ side. column_of side < length p.columns)
+own_column : (p : Problem) (s : Split) → s.form ≡ column_form (split_column s) → integer_at p (split_column s) ≡ true → AllBelow (length p.columns) s.form
+own_column p s e h = let P : List Entry → Type 0 = AllBelow (length p.columns) in subst P (sym e) (known p.columns (split_column s) h, tt)
+
+on_columns : (p : Problem) (ds : List Derived) (sides : List SideOf) → AreHonest p ds sides → (k : ℕ) → IfSome (slice_get sides k) (λ side. AllBelow (length p.columns) (split_form side))
 on_columns p ds [] h k = tt
-on_columns p ds (LowOf s ∷ sides) h zero = known p.columns s.column h.0.integer
-on_columns p ds (HighOf s ∷ sides) h zero = known p.columns s.column h.0.integer
+on_columns p ds (LowOf s ∷ sides) h zero = own_column p s h.0.form h.0.integer
+on_columns p ds (HighOf s ∷ sides) h zero = own_column p s h.0.form h.0.integer
 on_columns p ds (LowOf s ∷ sides) h (suc k) = on_columns p ds sides h.1 k
 on_columns p ds (HighOf s ∷ sides) h (suc k) = on_columns p ds sides h.1 k
 

@@ -4,9 +4,10 @@ use Rattle.rational.specs.Rational.{Rational}
 use Rattle.fraction.specs.declared.frac.NoFit.{NoFit}
 use Rattle.milp.specs.Problem.{Column, Problem}
 use Rattle.milp.specs.Points.{Feasible, IsImprovingRay, objective_value}
-use Rattle.verdicts.specs.Certificate.{Weights, Derived, TreeNode, Empty, Bound, Verdict, Optimal, Infeasible, Unbounded, Certificate}
+use Rattle.verdicts.specs.Certificate.{One, Weights, Derived, TreeNode, Empty, Bound, Verdict, Optimal, Infeasible, Unbounded, Certificate}
 use Rattle.verdicts.specs.Proves.{is_integer, node_passes}
-use Rattle.verdicts.proofs.Laws.{inside_own, leaf_empty}
+use Rattle.verdicts.proofs.Laws.{leaf_empty}
+use Rattle.certificate.specs.Written.{split_column}
 use Rattle.basis.specs.Node.{integer_at}
 use Rattle.basis.specs.Relaxation.{leaf_certificate, point_certificate}
 use Rattle.cert_check.specs.Parts.{node_answer}
@@ -32,6 +33,7 @@ not_integer (Some c) h e = let never : true ≡ false = sym e ∙ h in cc
 -- the certificate of these parts
 abbrev made_of : Problem → List Derived → Option (List Rational) → Tree → Certificate
 made_of p ds best t = record {
+  version = One;
   rows = length p.rows;
   columns = length p.columns;
   verdict = verdict_of best;
@@ -42,13 +44,13 @@ made_of p ds best t = record {
   tree = nodes_of t;
 }
 
-passing : (p : Problem) (goal : Option Rational) (node : TreeNode) → NodePasses p goal [] [] node → node_passes p goal [] [] node ≡ true
-passing p goal node h = let P : Result Bool NoFit → Type 0 = λ r. IfOk r (λ b. b ≡ node_passes p goal [] [] node) in sym (subst P h (node_ok p goal [] [] node))
+passing : (p : Problem) (goal : Option Rational) (node : TreeNode) → NodePasses p goal [] [] node → node_passes p One goal [] [] node ≡ true
+passing p goal node h = let P : Result Bool NoFit → Type 0 = λ r. IfOk r (λ b. b ≡ node_passes p One goal [] [] node) in sym (subst P h (node_ok p goal [] [] node))
 
 -- no feasible point is refuted
 refuted : (p : Problem) (best : Option (List Rational)) (w : Weights) → IfSome best (λ x. Feasible p x × HasSums p x) → NodePasses p (option_map (objective_value p) best) [] [] (Empty w) → IsPlainCertificate p (made_of p [] best (AtLeaf (Refuted w)))
 refuted p None w best h = IsPlainCertificate.infeasible w refl
-refuted p (Some x) w best h = absurd (leaf_empty p (Some (objective_value p x)) [] [] w x (passing p (Some (objective_value p x)) (Empty w) h) best.0.relaxed (inside_own p x best.0.relaxed) (λ k. tt))
+refuted p (Some x) w best h = absurd (leaf_empty p One (Some (objective_value p x)) [] [] w x (passing p (Some (objective_value p x)) (Empty w) h) best.0.relaxed tt (λ k. tt))
 
 bounded : (p : Problem) (best : Option (List Rational)) (w : Weights) → IfSome best (λ x. Feasible p x × HasSums p x) → NodePasses p (option_map (objective_value p) best) [] [] (Bound w) → IsPlainCertificate p (made_of p [] best (AtLeaf (Bounded w)))
 bounded p None w best h = cc
@@ -56,7 +58,7 @@ bounded p (Some x) w best h = IsPlainCertificate.optimal x w best.0.relaxed.size
 
 one_leaf : (p : Problem) (limit : ℕ) (best : Option (List Rational)) (t : Tree) → NoneInteger p.columns → IfSome best (λ x. Feasible p x × HasSums p x) → AllSplits (IsHonestSplit p []) [] t → AllLeaves (KeepsLeaf p [] limit (option_map (objective_value p) best)) [] t
     → AllLeaves (λ sides leaf. IsThere (closed_node leaf)) [] t → IsPlainCertificate p (made_of p [] best t)
-one_leaf p limit best (Divided s low high) none h splits leaves there = absurd (not_integer (slice_get p.columns s.column) (none s.column) splits.0.integer)
+one_leaf p limit best (Divided s low high) none h splits leaves there = absurd (not_integer (slice_get p.columns (split_column s)) (none (split_column s)) splits.0.integer)
 one_leaf p limit best (AtLeaf (Refuted w)) none h splits leaves there = refuted p best w h leaves
 one_leaf p limit best (AtLeaf (Bounded w)) none h splits leaves there = bounded p best w h leaves
 one_leaf p limit best (AtLeaf (Todo hint)) none h splits leaves there = absurd there

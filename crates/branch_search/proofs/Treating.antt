@@ -1,5 +1,5 @@
 -- What becomes of a node.
-use Rattle.std.proofs.Common.{◌≡◌, ◌∙◌, ℕ, List, Bool, true, false, sym, ap, subst, Option, Some, None, Result, Ok, Err, IfOk, IfErr, MatchOption}
+use Rattle.std.proofs.Common.{◌≡◌, ◌∙◌, ℕ, List, Bool, true, false, refl, sym, ap, subst, Option, Some, None, Result, Ok, Err, IfOk, IfErr, MatchOption}
 use Rattle.std.specs.Prelude.{ℤ}
 use Rattle.rational.specs.Rational.{Rational, ◌≤ℚ◌, ◌*ℚ◌, floor_ℚ}
 use Rattle.rational.specs.Compare.{is_less}
@@ -9,8 +9,9 @@ use Rattle.milp.specs.Form.{number_at}
 use Rattle.milp.specs.Problem.{Problem}
 use Rattle.milp.specs.Points.{objective_value, sign_of}
 use Rattle.milp.specs.declared.Direction.{Direction}
-use Rattle.verdicts.specs.Certificate.{Side, Split, Weights, Derived, TreeNode, Empty, Bound}
+use Rattle.verdicts.specs.Certificate.{One, Side, Split, Weights, Derived, TreeNode, Empty, Bound}
 use Rattle.verdicts.specs.Proves.{node_passes}
+use Rattle.certificate.specs.Written.{column_split}
 use Rattle.basis.specs.Node.{system_of, IsOverColumns}
 use Rattle.basis.specs.Dictionary.{Dictionary}
 use Rattle.basis.specs.Relaxation.{IsOptimalRelaxation, IsInfeasibleRelaxation}
@@ -80,9 +81,9 @@ stuck_fault p ds node limit r stuck site fault e f g h =
 -- ---- tests that don't fail
 
 -- a test that passes by the rule does not fail
-not_failing : (p : Problem) (goal : Option Rational) (ds : List Derived) (sides : List Side) (node : TreeNode) → node_passes p goal ds sides node ≡ true → node_answer (node_setting p ds sides) (form_goal p goal) node ≡ Ok false → ⊥
+not_failing : (p : Problem) (goal : Option Rational) (ds : List Derived) (sides : List Side) (node : TreeNode) → node_passes p One goal ds sides node ≡ true → node_answer (node_setting p ds sides) (form_goal p goal) node ≡ Ok false → ⊥
 not_failing p goal ds sides node h e =
-    let P : Result Bool Operation → Type 0 = λ r. IfOk r (λ b. b ≡ node_passes p goal ds sides node) in
+    let P : Result Bool Operation → Type 0 = λ r. IfOk r (λ b. b ≡ node_passes p One goal ds sides node) in
     let never : false ≡ true = subst P e (node_ok p goal ds sides node) ∙ h in
     cc
 
@@ -92,12 +93,12 @@ refuted p ds sides w over h = not_failing p None ds sides (Empty w) (refutes_lea
 -- ---- splits
 
 pub to_split : (p : Problem) (ds : List Derived) (sides : List Side) (best : Option Rational) (x : List Rational) (j : ℕ) (f : Fractional) (at : ℤ) (v : Rational) → IsRelaxedOptimum p ds sides x → Beats p best x → IsFraction p.columns x (Some j) → IsPinned (system_of p ds sides) x j
-    → f.split ≡ record { column = j; at = at } → at ≡ floor_ℚ v → v ≡ number_at x j → IsToSplit p ds sides best f
+    → f.split ≡ column_split j at → at ≡ floor_ℚ v → v ≡ number_at x j → IsToSplit p ds sides best f
 to_split p ds sides best x j f at v optimum beats fraction pinned is_split is_floor is_number =
-    let here : Split = record { column = j; at = floor_ℚ (number_at x j) } in
-    let same : f.split ≡ here = is_split ∙ ap (λ a. record { column = j; at = a }) (is_floor ∙ ap floor_ℚ is_number) in
+    let here : Split = column_split j (floor_ℚ (number_at x j)) in
+    let same : f.split ≡ here = is_split ∙ ap (column_split j) (is_floor ∙ ap floor_ℚ is_number) in
     record {
-      split = subst (IsHonestSplit p ds sides) (sym same) (record { integer = fraction.0; point = x; is_optimum = optimum; pinned = pinned; above = floor-lt (number_at x j) fraction.1; below = lt-floor (number_at x j) });
+      split = subst (IsHonestSplit p ds sides) (sym same) (record { form = refl; integer = fraction.0; point = x; is_optimum = optimum; pinned = pinned; above = floor-lt (number_at x j) fraction.1; below = lt-floor (number_at x j) });
       treated = record { point = x; is_optimum = optimum; beats = beats; column = j; integer = fraction.0; pinned = pinned; not_whole = fraction.1 };
     }
 

@@ -7,11 +7,11 @@ use Rattle.milp.specs.Form.{Entry}
 use Rattle.milp.specs.Problem.{Problem}
 use Rattle.fraction.specs.declared.frac.NoFit.{NoFit}
 use Rattle.instance.specs.Sums.{and_then}
-use Rattle.verdicts.specs.Certificate.{Item, Weights, Split, Side, Low, High, Proof, Plain, BySplit, Derived, TreeNode, Branch, Empty, Bound, Infeasible, Verdict, Certificate}
-use Rattle.verdicts.specs.Proves.{greater, lesser, lower_under, upper_under, is_integer, is_whole_form, below, Proves}
+use Rattle.verdicts.specs.Certificate.{One, Item, Weights, Split, Side, Low, High, Proof, Plain, BySplit, Derived, TreeNode, Branch, Empty, Bound, Infeasible, Verdict, Certificate}
+use Rattle.verdicts.specs.Proves.{narrows, may_split, greater, lesser, lower_under, upper_under, is_integer, is_whole_form, below, Proves}
 use Rattle.verdicts.specs.Proves as of
 use Rattle.cert_check.specs.Setting.{Setting}
-use Rattle.cert_check.specs.Sums.{and_also, next_answer, lower_answer, row_bound, derived_bound, are_there, with_bounds, weight_products, are_forms}
+use Rattle.cert_check.specs.Sums.{and_also, next_answer, lower_answer, row_bound, derived_bound, are_there, are_none, with_bounds, weight_products, are_forms}
 use Rattle.cert_check.specs.Parts.{problem_alone, shown_answer, side_answer, proof_answer, derived_answer, node_answer}
 use Rattle.cert_check.specs.Outcome.{Trial, Acceptance, outcome, derived_trials, node_trials, tree_trials, verdict_trials, trials}
 use Rattle.cert_check.specs.declared.part.Checked.TheVariants.{Accepted}
@@ -26,10 +26,10 @@ setting p ds sides = record { problem = p; derived = ds; sides = sides }
 
 -- the bounds below a split, from those above it
 abbrev upper_below : Split → (ℕ → Option Rational) → ℕ → Option Rational
-upper_below s above j = if s.column == j then Some (lesser (above j) (whole s.at)) else above j
+upper_below s above j = if narrows s j then Some (lesser (above j) (whole s.at)) else above j
 
 abbrev lower_below : Split → (ℕ → Result (Option Rational) NoFit) → ℕ → Result (Option Rational) NoFit
-lower_below s above j = if s.column == j then and_then (next_answer s.at) (λ b. and_then (above j) (λ o. Ok (Some (greater o b)))) else above j
+lower_below s above j = if narrows s j then and_then (next_answer s.at) (λ b. and_then (above j) (λ o. Ok (Some (greater o b)))) else above j
 
 same_upper : (p : Problem) (sides : List Side) → ◌≡◌ {A = ℕ → Option Rational} (λ j. upper_under (without_objective p) sides j) (λ j. upper_under p sides j)
 same_upper p [] = refl
@@ -56,7 +56,7 @@ derived_bounds ds i = Ok (derived_bound i.weight (slice_get ds i.index))
 -- what weights show, with these bounds of columns
 abbrev shown_with : (Item → Result (Option Rational) NoFit) → Setting → Weights → (ℕ → Rational) → (Rational → Bool) → Result Bool NoFit
 shown_with b s w wanted enough =
-    and_also (and_also (are_there (row_bounds s.problem) w.rows) (and_also (are_there b w.columns) (are_there (derived_bounds s.derived) w.derived)))
+    and_also (and_also (are_there (row_bounds s.problem) w.rows) (and_also (are_there b w.columns) (and_also (are_there (derived_bounds s.derived) w.derived) (Ok (are_none w.splits)))))
     (and_also (are_forms (weight_products s w) wanted 0 s.problem.columns)
     (and_then (and_then (with_bounds (row_bounds s.problem) zero_ℚ w.rows) (λ r. and_then (with_bounds b r w.columns) (λ c. with_bounds (derived_bounds s.derived) c w.derived))) (λ r. Ok (enough r))))
 
@@ -88,7 +88,7 @@ same_rows p k (d ∷ ds) = ap₂ (λ (r : Result Bool NoFit) (rest : List Trial)
 
 same_node : (p : Problem) (ds : List Derived) (sides : List Side) (node : TreeNode)
     → node_answer (setting (without_objective p) ds sides) None node ≡ node_answer (setting p ds sides) None node
-same_node p ds sides (Branch s) = refl
+same_node p ds sides (Branch s) = ap (λ (b : Bool). Ok (may_split One s.form && b)) (same_whole p s.form)
 same_node p ds sides (Empty w) = same_shown p ds sides w (λ j. zero_ℚ) (is_less zero_ℚ)
 same_node p ds sides (Bound w) = refl
 
@@ -115,5 +115,5 @@ same_trials p c e = ap (λ (rest : List Trial). record { part = of.Size; answer 
 pub none_accepted : (p : Problem) (c : Certificate) → outcome (trials (without_objective p) c) ≡ Acceptance → c.verdict ≡ Infeasible → outcome (trials p c) ≡ Acceptance
 none_accepted p c h e = ap (λ (ts : List Trial). outcome ts) (sym (same_trials p c e)) ∙ h
 
-pub none_proves : (p : Problem) (c : Certificate) → outcome (trials (without_objective p) c) ≡ Acceptance → c.verdict ≡ Infeasible → Proves p c
-none_proves p c h e = check_accepted p c (Ok Accepted) (sym (none_accepted p c h e)) refl
+pub none_proves : (p : Problem) (c : Certificate) → c.version ≡ One → outcome (trials (without_objective p) c) ≡ Acceptance → c.verdict ≡ Infeasible → Proves p c
+none_proves p c v h e = check_accepted p c (Ok Accepted) v (sym (none_accepted p c h e)) refl

@@ -16,11 +16,11 @@ use Rattle.instance.specs.Sums.{and_then, form_of}
 use Rattle.verdicts.specs.WeightedSums.{Weighted, combined, combined_bound, coefficient_of}
 use Rattle.rational.specs.Compare.{is_less, is_same}
 use Rattle.verdicts.specs.Certificate.{Item, Weights, Side, Low, High, Derived}
-use Rattle.verdicts.specs.Proves.{lower_under, upper_under, greater, term, bound_used, row_term, column_term, derived_term, joined, gathered, terms, same_form}
+use Rattle.verdicts.specs.Proves.{narrows, lower_under, upper_under, greater, term, bound_used, row_term, column_term, derived_term, split_term, joined, gathered, terms, same_form}
 use Rattle.rational.proofs.Laws.{whole-add}
 use Rattle.verdicts.proofs.Laws.{coefficient-combined}
 use Rattle.cert_check.specs.Setting.{Setting}
-use Rattle.cert_check.specs.Sums.{and_also, with_product, next_answer, lower_answer, row_bound, derived_bound, bound_of, then_there, are_there, all_there, with_bound, with_bounds, bound_sum, Product, products, derived_form, form_at, item_products, weight_products, with_products, are_forms}
+use Rattle.cert_check.specs.Sums.{and_also, with_product, next_answer, lower_answer, row_bound, derived_bound, bound_of, then_there, are_there, are_none, all_there, with_bound, with_bounds, bound_sum, Product, products, derived_form, form_at, item_products, weight_products, with_products, are_forms}
 use Rattle.cert_check.specs.declared.kind.Kind.{Kind}
 use Rattle.cert_check.specs.declared.kind.Kind.TheVariants.{OfRow, OfColumn, OfDerived}
 
@@ -74,7 +74,7 @@ next_ok at = if_ok (next_answer at) (whole at +ℚ one_ℚ) (whole (at +ℤ pos 
 pub lower_ok : (p : Problem) (sides : List Side) (j : ℕ) → IfOk (lower_answer p sides j) (λ o. o ≡ lower_under p sides j)
 lower_ok p [] j = refl
 lower_ok p (Low s ∷ sides) j = lower_ok p sides j
-lower_ok p (High s ∷ sides) j = go (s.column == j) (lower_ok p sides j)
+lower_ok p (High s ∷ sides) j = go (narrows s j) (lower_ok p sides j)
   where
     go : (t : Bool) → IfOk (lower_answer p sides j) (λ o. o ≡ lower_under p sides j) → IfOk (if t then and_then (next_answer s.at) (λ b. and_then (lower_answer p sides j) (λ o. Ok (Some (greater o b)))) else lower_answer p sides j) (λ o. o ≡ (if t then Some (greater (lower_under p sides j) (whole (s.at +ℤ pos 1))) else lower_under p sides j))
     go false h = h
@@ -155,16 +155,40 @@ gathered_some f (i ∷ is) rest = go (f i) (gathered f is rest) (gathered f is (
     go (Some t) (Some rs) None h = h
     go (Some t) (Some rs) (Some us) h = h
 
-pub all_there_ok : (s : Setting) (w : Weights) → IfOk (all_there s w) (λ b. b ≡ is_some (terms s.problem s.derived s.sides w))
+-- without sides that may have weights an item names no split
+no_split : (i : Item) → split_term [] i ≡ None
+no_split i = go (is_less zero_ℚ i.weight)
+  where
+    none : Option Weighted
+    none = None
+
+    go : (t : Bool) → (if t then none else none) ≡ none
+    go true = refl
+    go false = refl
+
+are_none_ok : (items : List Item) → are_none items ≡ is_some (gathered (split_term []) items (Some []))
+are_none_ok [] = refl
+are_none_ok (i ∷ is) = sym (ap (λ t. is_some (joined t (gathered (split_term []) is (Some [])))) (no_split i))
+
+none_gathered : (items : List Item) (all : List Weighted) → gathered (split_term []) items (Some []) ≡ Some all → all ≡ []
+none_gathered [] all e = sym (same_Some [] all e)
+none_gathered (i ∷ is) all e = let none : None ≡ Some all = sym (ap (λ t. joined t (gathered (split_term []) is (Some []))) (no_split i)) ∙ e in cc
+
+pub all_there_ok : (s : Setting) (w : Weights) → IfOk (all_there s w) (λ b. b ≡ is_some (terms s.problem s.derived s.sides [] w))
 unfolding term_of
 all_there_ok s w =
     let rows = gathered (row_term s.problem) w.rows (Some []) in
     let columns = gathered (column_term s.problem s.sides) w.columns (Some []) in
     let derived = gathered (derived_term s.derived) w.derived (Some []) in
-    let more = gathered (column_term s.problem s.sides) w.columns derived in
-    let two : IfOk (and_also (are_there (bound_of s OfColumn) w.columns) (are_there (bound_of s OfDerived) w.derived)) (λ b. b ≡ (is_some columns && is_some derived)) = also_ok _ _ (is_some columns) (is_some derived) (there_ok s OfColumn w.columns) (λ h. there_ok s OfDerived w.derived) in
-    let three : IfOk (all_there s w) (λ b. b ≡ (is_some rows && (is_some columns && is_some derived))) = also_ok _ _ (is_some rows) (is_some columns && is_some derived) (there_ok s OfRow w.rows) (λ h. two) in
-    if_ok (all_there s w) _ _ three (sym (gathered_some (row_term s.problem) w.rows more ∙ ap (λ b. is_some rows && b) (gathered_some (column_term s.problem s.sides) w.columns derived)))
+    let splits = gathered (split_term []) w.splits (Some []) in
+    let last = gathered (derived_term s.derived) w.derived splits in
+    let more = gathered (column_term s.problem s.sides) w.columns last in
+    let two : IfOk (and_also (are_there (bound_of s OfDerived) w.derived) (Ok (are_none w.splits))) (λ b. b ≡ (is_some derived && is_some splits)) = also_ok _ _ (is_some derived) (is_some splits) (there_ok s OfDerived w.derived) (λ h. are_none_ok w.splits) in
+    let three : IfOk (and_also (are_there (bound_of s OfColumn) w.columns) (and_also (are_there (bound_of s OfDerived) w.derived) (Ok (are_none w.splits)))) (λ b. b ≡ (is_some columns && (is_some derived && is_some splits))) = also_ok _ _ (is_some columns) (is_some derived && is_some splits) (there_ok s OfColumn w.columns) (λ h. two) in
+    let four : IfOk (all_there s w) (λ b. b ≡ (is_some rows && (is_some columns && (is_some derived && is_some splits)))) = also_ok _ _ (is_some rows) (is_some columns && (is_some derived && is_some splits)) (there_ok s OfRow w.rows) (λ h. three) in
+    let all : is_some (terms s.problem s.derived s.sides [] w) ≡ (is_some rows && (is_some columns && (is_some derived && is_some splits))) =
+    gathered_some (row_term s.problem) w.rows more ∙ ap (λ b. is_some rows && b) (gathered_some (column_term s.problem s.sides) w.columns last ∙ ap (λ b. is_some columns && b) (gathered_some (derived_term s.derived) w.derived splits)) in
+    if_ok (all_there s w) _ _ four (sym all)
 
 -- ---- the terms of items, one by one
 
@@ -243,19 +267,19 @@ record Parted (s : Setting) (w : Weights) (all : List Weighted) : Type 0 where
   are_derived : AreTerms s OfDerived w.derived derived
   whole : all ≡ rows ++ (columns ++ derived)
 
-parted : (s : Setting) (w : Weights) (all : List Weighted) → terms s.problem s.derived s.sides w ≡ Some all → Parted s w all
+parted : (s : Setting) (w : Weights) (all : List Weighted) → terms s.problem s.derived s.sides [] w ≡ Some all → Parted s w all
 unfolding term_of
 parted s w all e =
-    let none : Option (List Weighted) = Some [] in
-    let derived = gathered (derived_term s.derived) w.derived none in
+    let splits : Option (List Weighted) = gathered (split_term []) w.splits (Some []) in
+    let derived = gathered (derived_term s.derived) w.derived splits in
     let more = gathered (column_term s.problem s.sides) w.columns derived in
     let first = taken s OfRow w.rows more all e in
     let second = taken s OfColumn w.columns derived first.us first.more in
-    let third = taken s OfDerived w.derived none second.us second.more in
-    let last : second.us ≡ third.ts = third.whole ∙ ap (λ us. third.ts ++ us) (sym (same_Some [] third.us third.more)) ∙ append-nil third.ts in
+    let third = taken s OfDerived w.derived splits second.us second.more in
+    let last : second.us ≡ third.ts = third.whole ∙ ap (λ us. third.ts ++ us) (none_gathered w.splits third.us third.more) ∙ append-nil third.ts in
     record { rows = first.ts; columns = second.ts; derived = third.ts; are_rows = first.terms; are_columns = second.terms; are_derived = third.terms; whole = first.whole ∙ ap (λ us. first.ts ++ us) (second.whole ∙ ap (λ us. second.ts ++ us) last) }
 
-pub bound_sum_ok : (s : Setting) (w : Weights) (all : List Weighted) (total : Rational) → terms s.problem s.derived s.sides w ≡ Some all → IfOk (bound_sum s total w) (λ v. v ≡ total +ℚ combined_bound all)
+pub bound_sum_ok : (s : Setting) (w : Weights) (all : List Weighted) (total : Rational) → terms s.problem s.derived s.sides [] w ≡ Some all → IfOk (bound_sum s total w) (λ v. v ≡ total +ℚ combined_bound all)
 bound_sum_ok s w all total e =
     let p = parted s w all e in
     let wanted : combined_bound all ≡ combined_bound p.rows +ℚ (combined_bound p.columns +ℚ combined_bound p.derived) = ap combined_bound p.whole ∙ bound-append p.rows (p.columns ++ p.derived) ∙ ap (λ z. combined_bound p.rows +ℚ z) (bound-append p.columns p.derived) in
@@ -313,7 +337,7 @@ coefficient-both : (xs ys : List Weighted) (j : ℕ) → coefficient_of (combine
 coefficient-both [] ys j = sym (Q.zero-add (coefficient_of (combined ys) j))
 coefficient-both (x ∷ xs) ys j = coefficient-combined x (xs ++ ys) j ∙ ap (λ z. x.weight *ℚ coefficient_of x.form j +ℚ z) (coefficient-both xs ys j) ∙ sym (Q.add_assoc _ _ _) ∙ ap (λ z. z +ℚ coefficient_of (combined ys) j) (sym (coefficient-combined x xs j))
 
-pub weights_sum : (s : Setting) (w : Weights) (all : List Weighted) (j : ℕ) → terms s.problem s.derived s.sides w ≡ Some all → product_sum (weight_products s w j) ≡ coefficient_of (combined all) j
+pub weights_sum : (s : Setting) (w : Weights) (all : List Weighted) (j : ℕ) → terms s.problem s.derived s.sides [] w ≡ Some all → product_sum (weight_products s w j) ≡ coefficient_of (combined all) j
 weights_sum s w all j e =
     let p = parted s w all e in
     sum-append (item_products (form_at s OfRow) w.rows j) (item_products (form_at s OfColumn) w.columns j ++ item_products (form_at s OfDerived) w.derived j)

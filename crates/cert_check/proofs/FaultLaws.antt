@@ -1,5 +1,5 @@
 -- A fault names an operation that does not fit.
-use Rattle.std.proofs.Common.{◌≡◌, ℕ, ◌+◌, ◌==◌, ◌&&◌, cond, if◌then◌else◌, Bool, true, false, List, [], ◌∷◌, ◌++◌, Option, Some, None, is_some, Result, Ok, Err, IfErr, refl, sym, subst}
+use Rattle.std.proofs.Common.{◌≡◌, ℕ, ◌+◌, ◌&&◌, cond, if◌then◌else◌, Bool, true, false, List, [], ◌∷◌, ◌++◌, Option, Some, None, is_some, Result, Ok, Err, IfErr, refl, sym, subst}
 use Rattle.std.specs.Prelude.{ℤ, neg_ℤ}
 use Rattle.rational.specs.Rational.{Rational, zero_ℚ, one_ℚ, whole, ◌+ℚ◌, ◌*ℚ◌}
 use Rattle.milp.specs.Form.{Entry, number_at}
@@ -14,7 +14,7 @@ use Rattle.instance.specs.Sums.{and_then, step_answer, sum_answer, rows_answer}
 use Rattle.verdicts.specs.WeightedSums.{coefficient_of}
 use Rattle.verdicts.specs.Certificate.{Verdict, Optimal, Infeasible, Unbounded, Item, Weights, Side as SideOf, FormSplit, Proof, Plain, BySplit, Derived, TreeNode, Branch, Empty, Bound, Certificate}
 use Rattle.verdicts.specs.Certificate as of
-use Rattle.verdicts.specs.Proves.{lies_above, lies_below, bound_for, meets_columns, greater, below, upper_under}
+use Rattle.verdicts.specs.Proves.{lies_above, lies_below, bound_for, meets_columns, narrows, greater, below, upper_under}
 use Rattle.cert_check.specs.Setting.{Setting}
 use Rattle.cert_check.specs.Sums.{and_also, with_product, next_answer, lower_answer, bound_of, then_there, are_there, all_there, with_bound, with_bounds, bound_sum, Product, with_products, weight_products, are_forms}
 use Rattle.cert_check.specs.Parts.{point_answer, goal_answer, value_answer, ray_rows_answer, ray_answer, shown_answer, problem_alone, side_weights, side_products, side_bound, side_answer, proof_answer, derived_answer, bound_answer, node_answer}
@@ -66,7 +66,7 @@ next_honest at = add_honest (whole at) one_ℚ
 lower_honest : (p : Problem) (sides : List SideOf) (j : ℕ) → IsHonest (lower_answer p sides j)
 lower_honest p [] j = tt
 lower_honest p (of.Low s ∷ sides) j = lower_honest p sides j
-lower_honest p (of.High s ∷ sides) j = go (s.column == j) (lower_honest p sides j)
+lower_honest p (of.High s ∷ sides) j = go (narrows s j) (lower_honest p sides j)
   where
     go : (t : Bool) → IsHonest (lower_answer p sides j) → IfErr (if t then and_then (next_answer s.at) (λ b. and_then (lower_answer p sides j) (λ o. Ok (Some (greater o b)))) else lower_answer p sides j) DoesNotFit
     go true h = then_honest (next_answer s.at) (λ b. and_then (lower_answer p sides j) (λ o. Ok (Some (greater o b)))) (next_honest s.at) (λ b. then_honest (lower_answer p sides j) (λ o. Ok (Some (greater o b))) h (λ o. tt))
@@ -90,7 +90,7 @@ there_honest s kind (i ∷ is) = then_honest (bound_of s kind i) (λ o. then_the
     go (Some b) h = h
 
 all_there_honest : (s : Setting) (w : Weights) → IsHonest (all_there s w)
-all_there_honest s w = also_honest _ _ (there_honest s OfRow w.rows) (also_honest _ _ (there_honest s OfColumn w.columns) (there_honest s OfDerived w.derived))
+all_there_honest s w = also_honest _ _ (there_honest s OfRow w.rows) (also_honest _ _ (there_honest s OfColumn w.columns) (also_honest _ _ (there_honest s OfDerived w.derived) tt))
 
 with_bound_honest : (total w : Rational) (o : Option Rational) → IsHonest (with_bound total w o)
 with_bound_honest total w None = tt

@@ -14,7 +14,7 @@ use Rattle.rational.specs.Compare.{is_zero, is_less, is_at_most, is_same}
 use Rattle.instance.specs.Sums.{and_then, sum_answer, rows_answer}
 use Rattle.instance.proofs.Laws.{sum_fits_ok, and_rest, rows_ok}
 use Rattle.verdicts.specs.WeightedSums.{Weighted, scaled, combined, combined_bound, coefficient_of}
-use Rattle.verdicts.specs.Certificate.{Weights, Side as SideOf, FormSplit, Proof, Plain, BySplit, Derived, TreeNode, Branch, Empty, Bound}
+use Rattle.verdicts.specs.Certificate.{One, Weights, Side as SideOf, FormSplit, Proof, Plain, BySplit, Derived, TreeNode, Branch, Empty, Bound}
 use Rattle.verdicts.specs.Proves.{lies_above, lies_below, bound_for, meets_columns, meets_rows, is_improving_ray, joined, terms, same_form, shows, refutes, in_range, is_whole_form, low_term, high_term, proof_passes, derived_passes, bound_passes, node_passes, point_passes, value_passes, ray_passes}
 use Rattle.verdicts.proofs.Laws.{coefficient-scaled, coefficient-combined}
 use Rattle.cert_check.specs.Setting.{Setting}
@@ -40,13 +40,13 @@ refutes_is : (n : ℕ) (o : Option (List Weighted)) → judge n o [] (is_less ze
 refutes_is n None = refl
 refutes_is n (Some ts) = refl
 
-shown_ok : (s : Setting) (w : Weights) (wanted : ℕ → Rational) (form : List Entry) (enough : Rational → Bool) → ((j : ℕ) → wanted j ≡ coefficient_of form j) → IfOk (shown_answer s w wanted enough) (λ b. b ≡ judge (length s.problem.columns) (terms s.problem s.derived s.sides w) form enough)
-shown_ok s w wanted form enough k = go (terms s.problem s.derived s.sides w) refl (all_there_ok s w)
+shown_ok : (s : Setting) (w : Weights) (wanted : ℕ → Rational) (form : List Entry) (enough : Rational → Bool) → ((j : ℕ) → wanted j ≡ coefficient_of form j) → IfOk (shown_answer s w wanted enough) (λ b. b ≡ judge (length s.problem.columns) (terms s.problem s.derived s.sides [] w) form enough)
+shown_ok s w wanted form enough k = go (terms s.problem s.derived s.sides [] w) refl (all_there_ok s w)
   where
     rest : Result Bool NoFit
     rest = and_also (are_forms (weight_products s w) wanted 0 s.problem.columns) (and_then (bound_sum s zero_ℚ w) (λ r. Ok (enough r)))
 
-    go : (o : Option (List Weighted)) → terms s.problem s.derived s.sides w ≡ o → IfOk (all_there s w) (λ b. b ≡ is_some o) → IfOk (and_also (all_there s w) rest) (λ b. b ≡ judge (length s.problem.columns) o form enough)
+    go : (o : Option (List Weighted)) → terms s.problem s.derived s.sides [] w ≡ o → IfOk (all_there s w) (λ b. b ≡ is_some o) → IfOk (and_also (all_there s w) rest) (λ b. b ≡ judge (length s.problem.columns) o form enough)
     go None e h = also_false (all_there s w) rest h
     go (Some ts) e h =
         also_true (all_there s w) rest (λ b. b ≡ judge (length s.problem.columns) (Some ts) form enough) h
@@ -75,8 +75,8 @@ side_bound_ok s High = go (is_zero s.high) refl
     go false e = ok_then (next_answer s.at) (λ b. with_product zero_ℚ s.high b) (λ b. b ≡ whole (s.at +ℤ pos 1)) (λ v. v ≡ zero_ℚ +ℚ s.high *ℚ whole (s.at +ℤ pos 1)) (next_ok s.at)
         (λ b eb. if_ok (with_product zero_ℚ s.high b) (zero_ℚ +ℚ s.high *ℚ b) (zero_ℚ +ℚ s.high *ℚ whole (s.at +ℤ pos 1)) (product_ok zero_ℚ s.high b) (ap (λ b. zero_ℚ +ℚ s.high *ℚ b) eb))
 
-side_ok : (p : Problem) (s : FormSplit) (side : Side) (form : List Entry) (bound : Rational) → IfOk (side_answer (problem_alone p) s side form bound) (λ b. b ≡ shows (length p.columns) (joined (Some (side_term s side)) (terms p [] [] (side_weights s side))) form bound)
-side_ok p s side form bound = go (terms p [] [] (side_weights s side)) refl (all_there_ok (problem_alone p) (side_weights s side))
+side_ok : (p : Problem) (s : FormSplit) (side : Side) (form : List Entry) (bound : Rational) → IfOk (side_answer (problem_alone p) s side form bound) (λ b. b ≡ shows (length p.columns) (joined (Some (side_term s side)) (terms p [] [] [] (side_weights s side))) form bound)
+side_ok p s side form bound = go (terms p [] [] [] (side_weights s side)) refl (all_there_ok (problem_alone p) (side_weights s side))
   where
     st : Setting
     st = problem_alone p
@@ -93,7 +93,7 @@ side_ok p s side form bound = go (terms p [] [] (side_weights s side)) refl (all
     rest : Result Bool NoFit
     rest = and_also (are_forms (λ j. side_products s side j ++ weight_products (problem_alone p) (side_weights s side) j) (coefficient_of form) 0 p.columns) (and_then (side_bound s side) (λ t. and_then (bound_sum (problem_alone p) t (side_weights s side)) (λ r. Ok (is_at_most bound r))))
 
-    go : (o : Option (List Weighted)) → terms p [] [] (side_weights s side) ≡ o → IfOk (all_there (problem_alone p) (side_weights s side)) (λ b. b ≡ is_some o) → IfOk (and_also (all_there (problem_alone p) (side_weights s side)) rest) (λ b. b ≡ shows (length p.columns) (joined (Some (side_term s side)) o) form bound)
+    go : (o : Option (List Weighted)) → terms p [] [] [] (side_weights s side) ≡ o → IfOk (all_there (problem_alone p) (side_weights s side)) (λ b. b ≡ is_some o) → IfOk (and_also (all_there (problem_alone p) (side_weights s side)) rest) (λ b. b ≡ shows (length p.columns) (joined (Some (side_term s side)) o) form bound)
     go None e h = also_false (all_there (problem_alone p) (side_weights s side)) rest h
     go (Some ts) e h =
         let t : Weighted = side_term s side in
@@ -112,27 +112,27 @@ first_ok : (b c : Bool) (rest : Result Bool NoFit) → (b ≡ true → IfOk rest
 first_ok true c rest k = k refl
 first_ok false c rest k = refl
 
-proof_ok : (p : Problem) (form : List Entry) (bound : Rational) (proof : Proof) → IfOk (proof_answer (problem_alone p) form bound proof) (λ b. b ≡ proof_passes p form bound proof)
+proof_ok : (p : Problem) (form : List Entry) (bound : Rational) (proof : Proof) → IfOk (proof_answer (problem_alone p) form bound proof) (λ b. b ≡ proof_passes p [] form bound proof)
 unfolding side_term
-proof_ok p form bound (Plain w) = if_ok (shown_answer (problem_alone p) w (coefficient_of form) (is_at_most bound)) _ _ (shown_ok (problem_alone p) w (coefficient_of form) form (is_at_most bound) (λ j. refl)) (shows_is (length p.columns) (terms p [] [] w) form bound)
+proof_ok p form bound (Plain w) = if_ok (shown_answer (problem_alone p) w (coefficient_of form) (is_at_most bound)) _ _ (shown_ok (problem_alone p) w (coefficient_of form) form (is_at_most bound) (λ j. refl)) (shows_is (length p.columns) (terms p [] [] [] w) form bound)
 proof_ok p form bound (BySplit s) =
     first_ok (is_whole_form p s.form && (is_at_most zero_ℚ s.low && is_at_most zero_ℚ s.high)) _ _ (λ h. also_ok _ _ _ _ (side_ok p s Low form bound) (λ k. side_ok p s High form bound))
 
-pub derived_ok : (p : Problem) (d : Derived) → IfOk (derived_answer p d) (λ b. b ≡ derived_passes p d)
-derived_ok p d = also_ok (Ok (in_range (length p.columns) d.form)) (proof_answer (problem_alone p) d.form d.bound d.proof) (in_range (length p.columns) d.form) (proof_passes p d.form d.bound d.proof) refl (λ h. proof_ok p d.form d.bound d.proof)
+pub derived_ok : (p : Problem) (d : Derived) → IfOk (derived_answer p d) (λ b. b ≡ derived_passes p [] d)
+derived_ok p d = also_ok (Ok (in_range (length p.columns) d.form)) (proof_answer (problem_alone p) d.form d.bound d.proof) (in_range (length p.columns) d.form) (proof_passes p [] d.form d.bound d.proof) refl (λ h. proof_ok p d.form d.bound d.proof)
 
 -- ---- nodes
 
-bound_ok : (s : Setting) (goal : Option Rational) (w : Weights) → IfOk (bound_answer s (form_goal s.problem goal) w) (λ b. b ≡ bound_passes s.problem goal (terms s.problem s.derived s.sides w))
+bound_ok : (s : Setting) (goal : Option Rational) (w : Weights) → IfOk (bound_answer s (form_goal s.problem goal) w) (λ b. b ≡ bound_passes s.problem goal (terms s.problem s.derived s.sides [] w))
 bound_ok s None w = refl
 bound_ok s (Some v) w =
     let p = s.problem in
     let needed : Rational = sign_of p.direction *ℚ (v -ℚ p.constant) in
-    if_ok (bound_answer s (Some (v -ℚ p.constant)) w) _ _ (shown_ok s w (λ j. sign_of p.direction *ℚ coefficient_of p.objective j) (scaled (sign_of p.direction) p.objective) (is_at_most needed) (λ j. sym (coefficient-scaled (sign_of p.direction) p.objective j))) (shows_is (length p.columns) (terms p s.derived s.sides w) (scaled (sign_of p.direction) p.objective) needed)
+    if_ok (bound_answer s (Some (v -ℚ p.constant)) w) _ _ (shown_ok s w (λ j. sign_of p.direction *ℚ coefficient_of p.objective j) (scaled (sign_of p.direction) p.objective) (is_at_most needed) (λ j. sym (coefficient-scaled (sign_of p.direction) p.objective j))) (shows_is (length p.columns) (terms p s.derived s.sides [] w) (scaled (sign_of p.direction) p.objective) needed)
 
-pub node_ok : (p : Problem) (goal : Option Rational) (ds : List Derived) (sides : List SideOf) (node : TreeNode) → IfOk (node_answer (record { problem = p; derived = ds; sides = sides }) (form_goal p goal) node) (λ b. b ≡ node_passes p goal ds sides node)
+pub node_ok : (p : Problem) (goal : Option Rational) (ds : List Derived) (sides : List SideOf) (node : TreeNode) → IfOk (node_answer (record { problem = p; derived = ds; sides = sides }) (form_goal p goal) node) (λ b. b ≡ node_passes p One goal ds sides node)
 node_ok p goal ds sides (Branch b) = refl
-node_ok p goal ds sides (Empty w) = if_ok (shown_answer (record { problem = p; derived = ds; sides = sides }) w (λ j. zero_ℚ) (is_less zero_ℚ)) _ _ (shown_ok (record { problem = p; derived = ds; sides = sides }) w (λ j. zero_ℚ) [] (is_less zero_ℚ) (λ j. refl)) (refutes_is (length p.columns) (terms p ds sides w))
+node_ok p goal ds sides (Empty w) = if_ok (shown_answer (record { problem = p; derived = ds; sides = sides }) w (λ j. zero_ℚ) (is_less zero_ℚ)) _ _ (shown_ok (record { problem = p; derived = ds; sides = sides }) w (λ j. zero_ℚ) [] (is_less zero_ℚ) (λ j. refl)) (refutes_is (length p.columns) (terms p ds sides [] w))
 node_ok p goal ds sides (Bound w) = bound_ok (record { problem = p; derived = ds; sides = sides }) goal w
 
 -- ---- points and rays

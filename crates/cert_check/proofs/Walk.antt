@@ -1,5 +1,5 @@
 -- The walk over the turns on the way to a node finds the bounds there.
-use Rattle.std.proofs.Common.{◌≡◌, ◌∙◌, ℕ, ◌==◌, Bool, true, false, if◌then◌else◌, List, ◌∷◌, Option, Some, None, Result, Ok, Err, refl, sym, ap}
+use Rattle.std.proofs.Common.{◌≡◌, ◌∙◌, ℕ, Bool, true, false, if◌then◌else◌, List, ◌∷◌, Option, Some, None, Result, Ok, Err, refl, sym, ap}
 use Rattle.rational.specs.Rational.{Rational, ◌≤ℚ◌, whole}
 use Rattle.rational.proofs.Laws as Q
 use Rattle.fraction.specs.declared.frac.NoFit.{NoFit}
@@ -7,7 +7,7 @@ use Rattle.instance.specs.Sums.{and_then}
 use Rattle.milp.specs.Problem.{Problem}
 use Rattle.verdicts.specs.Certificate.{Side, Low, High}
 use Rattle.rational.specs.Compare.{is_at_most}
-use Rattle.verdicts.specs.Proves.{greater, lesser, upper_under}
+use Rattle.verdicts.specs.Proves.{narrows, greater, lesser, upper_under}
 use Rattle.rational.proofs.Laws.{at_most_true, at_most_false}
 use Rattle.cert_check.specs.Sums.{lower_answer, next_answer}
 use Rattle.cert_check.specs.Walk.{found_lower, found_upper, merged_lower, merged_upper, merged_answer}
@@ -104,7 +104,7 @@ upper_step (Some a) (Some r) b = ap Some (smaller_turn r b a)
 
 lower_turn : (p : Problem) (side : Side) (sides : List Side) (j : ℕ) (found : Option Rational) → merged_answer found (lower_answer p (side ∷ sides) j) ≡ and_then (found_lower found side j) (λ f. merged_answer f (lower_answer p sides j))
 lower_turn p (Low s) sides j found = refl
-lower_turn p (High s) sides j found = go (s.column == j)
+lower_turn p (High s) sides j found = go (narrows s j)
   where
     rest : Result (Option Rational) NoFit
     rest = lower_answer p sides j
@@ -123,7 +123,7 @@ lower_turn p (High s) sides j found = go (s.column == j)
 
 upper_turn : (p : Problem) (side : Side) (sides : List Side) (j : ℕ) (found : Option Rational) → merged_upper found (upper_under p (side ∷ sides) j) ≡ merged_upper (found_upper found side j) (upper_under p sides j)
 upper_turn p (High s) sides j found = refl
-upper_turn p (Low s) sides j found = go (s.column == j)
+upper_turn p (Low s) sides j found = go (narrows s j)
   where
     go : (t : Bool) → merged_upper found (if t then Some (lesser (upper_under p sides j) (whole s.at)) else upper_under p sides j) ≡ merged_upper (if t then Some (lesser found (whole s.at)) else found) (upper_under p sides j)
     go true = upper_step found (upper_under p sides j) (whole s.at)

@@ -1,6 +1,6 @@
 -- What the test of each part of a certificate answers: whether the part holds, or the first operation on the way that does
 -- not fit. Each names its tests in the order of the rule, and stops at the first that fails.
-use Rattle.std.specs.Prelude.{ℕ, negsuc, neg_ℤ, ◌+◌, nat_le, ◌++◌, List, [], ◌∷◌, length, Bool, true, false, cond, ◌&&◌, Option, None, Some, is_some, Result, Ok, slice_get, if◌then◌else◌}
+use Rattle.std.specs.Prelude.{ℕ, negsuc, neg_ℤ, ◌+◌, nat_le, ◌++◌, List, [], ◌∷◌, length, Bool, true, false, cond, ◌&&◌, Option, None, Some, is_some, Result, Ok, if◌then◌else◌}
 use Rattle.rational.specs.Rational.{Rational, zero_ℚ, whole, ◌*ℚ◌}
 use Rattle.milp.specs.Form.{Entry}
 use Rattle.milp.specs.Problem.{Row, Problem}
@@ -11,8 +11,8 @@ use Rattle.fraction.specs.Answers.{add_answer}
 use Rattle.rational.specs.Compare.{is_zero, is_less, is_at_most, is_same}
 use Rattle.instance.specs.Sums.{and_then, sum_answer, meets_answer}
 use Rattle.verdicts.specs.WeightedSums.{scaled, coefficient_of}
-use Rattle.verdicts.specs.Certificate.{Weights, FormSplit, Proof, Plain, BySplit, Derived, TreeNode, Branch, Empty, Bound}
-use Rattle.verdicts.specs.Proves.{lies_above, lies_below, bound_for, meets_columns, in_range, is_integer, is_whole_form}
+use Rattle.verdicts.specs.Certificate.{One, Weights, FormSplit, Proof, Plain, BySplit, Derived, TreeNode, Branch, Empty, Bound}
+use Rattle.verdicts.specs.Proves.{lies_above, lies_below, bound_for, meets_columns, in_range, is_whole_form, may_split}
 use Rattle.cert_check.specs.Setting.{Setting}
 use Rattle.cert_check.specs.Sums.{and_also, with_product, next_answer, all_there, bound_sum, Product, products, weight_products, are_forms}
 use Rattle.certificate.specs.declared.split.Side.{Side}
@@ -107,6 +107,6 @@ bound_answer s None w = Ok false
 bound_answer s (Some f) w = shown_answer s w (λ j. sign_of s.problem.direction *ℚ coefficient_of s.problem.objective j) (is_at_most (sign_of s.problem.direction *ℚ f))
 
 abbrev pub node_answer : Setting → Option Rational → TreeNode → Result Bool NoFit
-node_answer s goal (Branch b) = Ok (is_integer (slice_get s.problem.columns b.column))
+node_answer s goal (Branch b) = Ok (may_split One b.form && is_whole_form s.problem b.form)
 node_answer s goal (Empty w) = shown_answer s w (λ j. zero_ℚ) (is_less zero_ℚ)
 node_answer s goal (Bound w) = bound_answer s goal w

@@ -9,7 +9,7 @@ use Rattle.fraction.specs.Answers.{add_answer, mul_answer}
 use Rattle.instance.specs.Sums.{and_then, form_of}
 use Rattle.rational.specs.Compare.{is_less, is_same}
 use Rattle.verdicts.specs.Certificate.{Item, Weights, Side, Low, High, Derived}
-use Rattle.verdicts.specs.Proves.{lower_under, upper_under, greater, bound_used}
+use Rattle.verdicts.specs.Proves.{narrows, lower_under, upper_under, greater, bound_used}
 use Rattle.cert_check.specs.Setting.{Setting}
 use Rattle.cert_check.specs.declared.kind.Kind.{Kind}
 use Rattle.cert_check.specs.declared.kind.Kind.TheVariants.{OfRow, OfColumn, OfDerived}
@@ -34,7 +34,7 @@ next_answer at = add_answer (whole at) one_ℚ
 abbrev pub lower_answer : Problem → List Side → ℕ → Result (Option Rational) NoFit
 lower_answer p [] j = Ok (lower_under p [] j)
 lower_answer p (Low s ∷ sides) j = lower_answer p sides j
-lower_answer p (High s ∷ sides) j = if s.column == j then and_then (next_answer s.at) (λ b. and_then (lower_answer p sides j) (λ o. Ok (Some (greater o b)))) else lower_answer p sides j
+lower_answer p (High s ∷ sides) j = if narrows s j then and_then (next_answer s.at) (λ b. and_then (lower_answer p sides j) (λ o. Ok (Some (greater o b)))) else lower_answer p sides j
 
 abbrev pub row_bound : Rational → Option Row → Option Rational
 row_bound w None = None
@@ -60,8 +60,13 @@ abbrev pub are_there : (Item → Result (Option Rational) NoFit) → List Item �
 are_there f [] = Ok true
 are_there f (i ∷ is) = and_then (f i) (λ o. then_there o (are_there f is))
 
+-- no item: version 1 has no weights of splits
+abbrev pub are_none : List Item → Bool
+are_none [] = true
+are_none (i ∷ is) = false
+
 abbrev pub all_there : Setting → Weights → Result Bool NoFit
-all_there s w = and_also (are_there (bound_of s OfRow) w.rows) (and_also (are_there (bound_of s OfColumn) w.columns) (are_there (bound_of s OfDerived) w.derived))
+all_there s w = and_also (are_there (bound_of s OfRow) w.rows) (and_also (are_there (bound_of s OfColumn) w.columns) (and_also (are_there (bound_of s OfDerived) w.derived) (Ok (are_none w.splits))))
 
 -- ---- R
 

@@ -1,7 +1,7 @@
 // The bounds of columns under the splits on the way to a node.
 ghost use Rattle.std.specs.Prelude.{◌≡◌, ◌≤◌, ◌+ℤ◌, pos, [], length, unsigned_abs, IfSome};
 ghost use Rattle.fraction.specs.Fits.{part_max};
-ghost use Rattle.verdicts.specs.Proves.{lower_under, upper_under};
+ghost use Rattle.verdicts.specs.Proves.{narrows, lower_under, upper_under};
 ghost use Rattle.certificate.specs.Ways.{side_of, way};
 ghost use Rattle.cert_check.specs.Sums.{next_answer, lower_answer};
 ghost use Rattle.cert_check.specs.Walk.{found_lower, found_upper, merged_lower, merged_upper};
@@ -55,7 +55,7 @@ fn with_lower(
     match side {
         Side::Low => Ok(found),
         Side::High => {
-            if split.column() != column {
+            if !is_split_of(split, column) {
                 return Ok(found);
             }
             let bound = next(split.at())?;
@@ -70,12 +70,19 @@ fn with_upper(found: Option<Frac>, split: Split, side: Side, column: u32) -> Opt
     match side {
         Side::High => found,
         Side::Low => {
-            if split.column() != column {
+            if !is_split_of(split, column) {
                 return found;
             }
             Some(lesser(found, split.at().to_frac()))
         }
     }
+}
+
+// The split is of the column.
+fn is_split_of(split: Split, column: u32) -> bool
+    ensures { result ≡ narrows split column }
+{
+    split.column() == column
 }
 
 // at + 1.

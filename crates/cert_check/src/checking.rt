@@ -25,6 +25,7 @@ pub fn check(problem: &Instance, certificate: &Certificate) -> Result<Checked, C
     ensures no_fit { IfErr result (λ e. HoldsUpTo (part_of e.part) (tests problem.now certificate.now)) }
     ensures operation { IfErr result (λ e. DoesNotFit e.fault) }
 {
+    let _rows = certificate.rows();
     check_parts(problem, certificate)
 }
 

@@ -1,9 +1,11 @@
 // The test of the nodes of a tree.
-ghost use Rattle.std.specs.Prelude.{◌≡◌, ◌+◌, ◌-◌, ◌≤◌, [], ◌∷◌, length, Some};
+ghost use Rattle.std.specs.Prelude.{◌≡◌, ◌+◌, ◌-◌, ◌≤◌, ◌&&◌, [], ◌∷◌, length, Some};
 ghost use Rattle.rational.specs.Rational.{zero_ℚ, ◌*ℚ◌};
 ghost use Rattle.milp.specs.Points.{sign_of};
 ghost use Rattle.verdicts.specs.WeightedSums.{coefficient_of};
 ghost use Rattle.rational.specs.Compare.{is_less};
+ghost use Rattle.verdicts.specs.Certificate.{One};
+ghost use Rattle.verdicts.specs.Proves.{is_whole_form, may_split};
 ghost use Rattle.certificate.specs.Values.{node_of};
 ghost use Rattle.certificate.specs.Written.{open_after};
 ghost use Rattle.certificate.specs.Ways.{way};
@@ -17,9 +19,9 @@ use crate::forms::is_form;
 use crate::part::{CheckFault, Checked, Part};
 use crate::setting::Setting;
 use crate::sums::{all_there, bound_sum};
-use certificate::{Derived, Tree, TreeNode, Weights};
+use certificate::{Derived, Split, Tree, TreeNode, Weights};
 use fraction::{Frac, NoFit};
-use instance::signed;
+use instance::{Instance, signed};
 
 // F is zero, and R above 0.
 pub(crate) fn empty_passes(setting: &Setting, weights: &Weights) -> Result<bool, NoFit>
@@ -61,12 +63,19 @@ fn is_objective(setting: &Setting, weights: &Weights) -> Result<bool, NoFit>
     is_form(setting, weights, form, Some(problem.direction()))
 }
 
+// The split is of an integer column.
+fn may_split(problem: &Instance, split: Split) -> bool
+    ensures { result ≡ (may_split One split.form && is_whole_form problem.now split.form) }
+{
+    is_integer(problem, split.column())
+}
+
 // A node passes under the splits on its way.
 fn node_passes(setting: &Setting, goal: Option<Frac>, node: &TreeNode) -> Result<bool, NoFit>
     ensures { result ≡ node_answer setting.now goal (node_of node.now) }
 {
     match node {
-        TreeNode::Branch(split) => Ok(is_integer(setting.problem(), split.column())),
+        TreeNode::Branch(split) => Ok(may_split(setting.problem(), *split)),
         TreeNode::Empty(weights) => empty_passes(setting, weights),
         TreeNode::Bound(weights) => match goal {
             None => Ok(false),

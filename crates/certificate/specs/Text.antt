@@ -4,6 +4,7 @@ use Rattle.std.specs.Fmt.{decimal}
 use Rattle.rational.specs.Rational.{Rational, whole}
 use Rattle.fraction.specs.Text.{text_of}
 use Rattle.milp.specs.Form.{Entry}
+use Rattle.certificate.specs.Written.{split_column}
 use Rattle.verdicts.specs.Certificate.{Verdict, Optimal, Infeasible, Unbounded, Item, Weights, FormSplit, Proof, Plain, BySplit, Derived, TreeNode, Branch, Empty, Bound, Certificate}
 
 -- `kindI:w`
@@ -45,7 +46,7 @@ derived_rows_text [] = []
 derived_rows_text (d ∷ ds) = derived_text d ++ derived_rows_text ds
 
 abbrev pub node_text : TreeNode → List ℕ
-node_text (Branch s) = codes "branch " ++ (decimal (s.column + 1) ++ (codes " " ++ (text_of (whole s.at) ++ codes "\n")))
+node_text (Branch s) = codes "branch " ++ (decimal (split_column s + 1) ++ (codes " " ++ (text_of (whole s.at) ++ codes "\n")))
 node_text (Empty w) = codes "empty" ++ (weights_text w ++ codes "\n")
 node_text (Bound w) = codes "bound" ++ (weights_text w ++ codes "\n")
 

@@ -1,11 +1,11 @@
 -- Which certificates the grammar of their text has a text for.
-use Rattle.std.specs.Prelude.{ℕ, pos, ◌+◌, ◌-◌, ◌*◌, ◌^◌, ◌<◌, ◌≤◌, ◌≡◌, ◌≢◌, Bool, true, false, zero, suc, List, [], ◌∷◌, length, int_lt, IsTrue, Option, Some, None, if◌then◌else◌}
+use Rattle.std.specs.Prelude.{ℕ, ℤ, pos, ◌+◌, ◌-◌, ◌*◌, ◌^◌, ◌<◌, ◌≤◌, ◌≡◌, ◌≢◌, Bool, true, false, zero, suc, List, [], ◌∷◌, length, int_lt, IsTrue, Option, Some, None, if◌then◌else◌}
 use Rattle.std.specs.List.{AllByRecursion}
-use Rattle.rational.specs.Rational.{Rational}
+use Rattle.rational.specs.Rational.{Rational, one_ℚ}
 use Rattle.fraction.specs.Fits.{num_fits, fits}
 use Rattle.milp.specs.Form.{Entry}
 use Rattle.instance.specs.WellFormed.{are_entries}
-use Rattle.verdicts.specs.Certificate.{Verdict, Optimal, Infeasible, Unbounded, Item, Weights, Split, FormSplit, Proof, Plain, BySplit, Derived, TreeNode, Branch, Empty, Bound, Certificate}
+use Rattle.verdicts.specs.Certificate.{One, Verdict, Optimal, Infeasible, Unbounded, Item, Weights, Split, FormSplit, Proof, Plain, BySplit, Derived, TreeNode, Branch, Empty, Bound, Certificate}
 
 -- the greatest count or index of a text, where indices count from 1
 abbrev pub count_max : ℕ
@@ -37,14 +37,33 @@ pub record AreWeights (w : Weights) : Type 0 where
   pub rows : AreItemsFrom 0 w.rows
   pub columns : AreItemsFrom 0 w.columns
   pub derived : AreItemsFrom 0 w.derived
+  pub splits : w.splits ≡ []
 
 -- entries in ascending order of column, none with the coefficient 0
 pub record IsForm (form : List Entry) : Type 0 where
   pub entries : IsTrue (are_entries count_max form)
   pub numbers : AllByRecursion (λ e. IsTrue (fits e.coefficient)) form
 
+-- the form that is one column
+abbrev pub column_form : ℕ → List Entry
+column_form j = record { column = j; coefficient = one_ℚ } ∷ []
+
+-- the split of one column
+abbrev pub column_split : ℕ → ℤ → Split
+column_split j at = record { form = column_form j; at = at }
+
+abbrev pub first_column : List Entry → ℕ
+first_column [] = 0
+first_column (e ∷ es) = e.column
+
+-- the column of such a split
+abbrev pub split_column : Split → ℕ
+split_column s = first_column s.form
+
+-- a split of one column
 pub record IsSplit (s : Split) : Type 0 where
-  pub column : s.column < count_max
+  pub form : s.form ≡ column_form (split_column s)
+  pub column : split_column s < count_max
   pub at : IsTrue (num_fits s.at)
 
 pub record IsFormSplit (s : FormSplit) : Type 0 where
@@ -114,6 +133,7 @@ HasParts c Unbounded = (c.value ≡ None) × HasPoint c.columns c.point × HasPo
 
 -- the certificate has a text
 pub record HasText (c : Certificate) : Type 0 where
+  pub version : c.version ≡ One
   pub rows : c.rows ≤ count_max
   pub columns : c.columns ≤ count_max
   pub parts : HasParts c c.verdict

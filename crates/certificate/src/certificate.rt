@@ -3,7 +3,7 @@ ghost use Rattle.std.specs.Prelude.{◌≡◌, [], length, IsTrue, Some, None};
 ghost use Rattle.std.specs.Option.{option_map};
 ghost use Rattle.std.specs.List.{AllByRecursion};
 ghost use Rattle.fraction.specs.Fits.{fits};
-ghost use Rattle.verdicts.specs.Certificate.{Optimal as is_optimal, Infeasible as is_infeasible, Unbounded as is_unbounded};
+ghost use Rattle.verdicts.specs.Certificate.{One, Optimal as is_optimal, Infeasible as is_infeasible, Unbounded as is_unbounded};
 ghost use Rattle.certificate.specs.Written.{is_tree, HasText};
 ghost use Rattle.certificate.specs.Values.{verdict_of};
 
@@ -39,15 +39,15 @@ pub struct Certificate {
 }
 
 impl Model for Certificate {
-    ghost use Rattle.verdicts.specs.Certificate.{Certificate as CertificateOf};
+    ghost use Rattle.verdicts.specs.Certificate.{One, Certificate as CertificateOf};
     ghost use Rattle.certificate.specs.Written.{HasText};
     ghost use Rattle.certificate.specs.Values.{verdict_of};
 
     ghost Value = { CertificateOf };
 
-    ghost view = { λ c. record { rows = c.rows; columns = c.columns; verdict = verdict_of c.verdict; value = c.value; point = c.point; ray = c.ray; derived = c.derived; tree = c.tree } };
+    ghost view = { λ c. record { version = One; rows = c.rows; columns = c.columns; verdict = verdict_of c.verdict; value = c.value; point = c.point; ray = c.ray; derived = c.derived; tree = c.tree } };
 
-    ghost invariant = { λ c. HasText (record { rows = c.rows; columns = c.columns; verdict = verdict_of c.verdict; value = c.value; point = c.point; ray = c.ray; derived = c.derived; tree = c.tree }) };
+    ghost invariant = { λ c. HasText (record { version = One; rows = c.rows; columns = c.columns; verdict = verdict_of c.verdict; value = c.value; point = c.point; ray = c.ray; derived = c.derived; tree = c.tree }) };
 }
 
 // Each number is within 128 bits.
@@ -72,7 +72,7 @@ impl Certificate {
     ) -> Self
         requires size { length point ≡ columns }
         requires tree { IsTrue (is_tree tree) }
-        ensures { result ≡ record { rows = rows; columns = columns; verdict = is_optimal; value = Some value; point = Some point; ray = None; derived = derived; tree = tree } }
+        ensures { result ≡ record { version = One; rows = rows; columns = columns; verdict = is_optimal; value = Some value; point = Some point; ray = None; derived = derived; tree = tree } }
     {
         parts_fit(value);
         numbers_fit(point.as_slice());
@@ -94,7 +94,7 @@ impl Certificate {
     /// takes no memory.
     pub fn infeasible(rows: u32, columns: u32, derived: DerivedRows, tree: Tree) -> Self
         requires { IsTrue (is_tree tree) }
-        ensures { result ≡ record { rows = rows; columns = columns; verdict = is_infeasible; value = None; point = None; ray = None; derived = derived; tree = tree } }
+        ensures { result ≡ record { version = One; rows = rows; columns = columns; verdict = is_infeasible; value = None; point = None; ray = None; derived = derived; tree = tree } }
     {
         let _derived = derived.as_slice();
         let _nodes = tree.as_slice();
@@ -114,7 +114,7 @@ impl Certificate {
     pub fn unbounded(alloc: Global, rows: u32, columns: u32, point: Point, ray: Point) -> Self
         requires point { length point ≡ columns }
         requires ray { length ray ≡ columns }
-        ensures { result ≡ record { rows = rows; columns = columns; verdict = is_unbounded; value = None; point = Some point; ray = Some ray; derived = []; tree = [] } }
+        ensures { result ≡ record { version = One; rows = rows; columns = columns; verdict = is_unbounded; value = None; point = Some point; ray = Some ray; derived = []; tree = [] } }
     {
         numbers_fit(point.as_slice());
         numbers_fit(ray.as_slice());

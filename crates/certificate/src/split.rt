@@ -1,6 +1,6 @@
 // Splits of columns, and turns on the way from the root of a tree to a node.
 ghost use Rattle.std.specs.Prelude.{◌≡◌, ◌<◌};
-ghost use Rattle.certificate.specs.Written.{count_max, IsSplit};
+ghost use Rattle.certificate.specs.Written.{count_max, column_split, split_column, IsSplit};
 
 use crate::WholeNumber;
 use std::marker::Model;
@@ -15,22 +15,22 @@ pub struct Split {
 
 impl Model for Split {
     ghost use Rattle.verdicts.specs.Certificate.{Split as SplitOf};
-    ghost use Rattle.certificate.specs.Written.{IsSplit};
+    ghost use Rattle.certificate.specs.Written.{column_split, split_column, IsSplit};
 
     ghost Value = { SplitOf };
 
-    ghost view = { λ s. record { column = s.column; at = s.at } };
+    ghost view = { λ s. column_split s.column s.at };
 
-    ghost invariant = { λ s. IsSplit (record { column = s.column; at = s.at }) };
+    ghost invariant = { λ s. IsSplit (column_split s.column s.at) };
 
-    ghost inverse = { λ s. record { column = s.column; at = s.at } };
+    ghost inverse = { λ s. record { column = split_column s; at = s.at } };
 }
 
 impl Split {
     /// The split of a column.
     pub fn new(column: u32, at: WholeNumber) -> Self
         requires { column < count_max }
-        ensures { result ≡ record { column = column; at = at } }
+        ensures { result ≡ column_split column at }
     {
         let _at = at.get();
         Split { column, at }
@@ -38,7 +38,7 @@ impl Split {
 
     /// The column's index, from 0. The split has a text.
     pub fn column(self) -> u32
-        ensures column { result ≡ self.column }
+        ensures column { result ≡ split_column self }
         ensures written { IsSplit self }
     {
         self.column

@@ -94,12 +94,13 @@ pub struct Weights {
 }
 
 impl Model for Weights {
+    ghost use Rattle.std.specs.Prelude.{[]};
     ghost use Rattle.verdicts.specs.Certificate.{Weights as WeightsOf};
     ghost use Rattle.certificate.specs.Written.{AreItemsFrom};
 
     ghost Value = { WeightsOf };
 
-    ghost view = { λ w. record { rows = w.rows; columns = w.columns; derived = w.derived } };
+    ghost view = { λ w. record { rows = w.rows; columns = w.columns; derived = w.derived; splits = [] } };
 
     ghost invariant = { λ w. AreItemsFrom 0 w.rows × AreItemsFrom 0 w.columns × AreItemsFrom 0 w.derived };
 }
@@ -107,14 +108,14 @@ impl Model for Weights {
 impl Weights {
     /// No weights.
     pub fn none(alloc: Global) -> Self
-        ensures { result ≡ record { rows = []; columns = []; derived = [] } }
+        ensures { result ≡ record { rows = []; columns = []; derived = []; splits = [] } }
     {
         Weights::new(Items::new(alloc), Items::new(alloc), Items::new(alloc))
     }
 
     /// These weights. It takes no memory.
     pub fn new(rows: Items, columns: Items, derived: Items) -> Self
-        ensures { result ≡ record { rows = rows; columns = columns; derived = derived } }
+        ensures { result ≡ record { rows = rows; columns = columns; derived = derived; splits = [] } }
     {
         let _rows = rows.as_slice();
         let _columns = columns.as_slice();

@@ -139,4 +139,4 @@ weights_of fields = do
   columns ← items_of (code (codes "c")) 0 rows.1
   derived ← items_of (code (codes "d")) 0 columns.1
   end ← ended derived.1
-  Ok (record { rows = rows.0; columns = columns.0; derived = derived.0 })
+  Ok (record { rows = rows.0; columns = columns.0; derived = derived.0; splits = [] })

@@ -9,10 +9,10 @@ use Rattle.rational.specs.Rational.{Rational, whole}
 use Rattle.fraction.specs.Text.{text_of}
 use Rattle.fraction.specs.Fits.{fits, num_fits}
 use Rattle.milp.specs.Form.{Entry}
-use Rattle.verdicts.specs.Certificate.{Verdict, Optimal, Infeasible, Unbounded, Weights, Proof, Plain, BySplit, Derived, TreeNode, Branch, Empty, Bound, Certificate}
+use Rattle.verdicts.specs.Certificate.{Version, One, Verdict, Optimal, Infeasible, Unbounded, Weights, Proof, Plain, BySplit, Derived, TreeNode, Branch, Empty, Bound, Certificate}
 use Rattle.certificate_lines.specs.declared.fault.FaultKind.{FaultKind}
 use Rattle.certificate_lines.specs.declared.fault.CertFault.{CertFault}
-use Rattle.certificate.specs.Written.{count_max, open_after, fills, AreWeights, IsForm, IsProof, IsDerived, IsNode, IsPoint, HasTree, HasParts, HasText}
+use Rattle.certificate.specs.Written.{count_max, split_column, open_after, fills, AreWeights, IsForm, IsProof, IsDerived, IsNode, IsPoint, HasTree, HasParts, HasText}
 use Rattle.certificate.specs.Text.{weights_text, form_text, numbers_text, proof_text, derived_text, derived_rows_text, node_text, tree_text, head_text, shown_text, certificate_text}
 use Rattle.certificate_lines.specs.Fields.{◌>>=◌, fields_of}
 use Rattle.certificate_lines.specs.Lines.{Rest, is_feed, line_by}
@@ -165,9 +165,10 @@ node_of_fields word fs node solid all read text = record { line = word ++ blanke
 
 node_again : Texts → (node : TreeNode) → IsNode node → NodeAgain node
 node_again law (Branch s) h =
-    let a : List ℕ = decimal (s.column + 1) in
+    let j : ℕ = split_column s in
+    let a : List ℕ = decimal (j + 1) in
     let b : List ℕ = text_of (whole s.at) in
-    node_of_fields (codes "branch") (a ∷ b ∷ []) (Branch s) refl (both _ _ (decimal_solid (s.column + 1) (omega (arith, h.column))) (both _ _ (whole_solid s.at h.at) refl)) (rw (index_again law s.column h.column, whole_again law s.at h.at) refl)
+    node_of_fields (codes "branch") (a ∷ b ∷ []) (Branch s) refl (both _ _ (decimal_solid (j + 1) (omega (arith, h.column))) (both _ _ (whole_solid s.at h.at) refl)) (rw (index_again law j h.column, whole_again law s.at h.at) (ap (λ (form : List Entry). Ok (Branch (record { form = form; at = s.at }))) (sym h.form)))
     (sym (ap (λ (r : List ℕ). (codes "branch " ++ (a ++ (32 ∷ r))) ++ (10 ∷ [])) (append-nil b) ∙ ap (λ (r : List ℕ). codes "branch " ++ r) (append_assoc a (32 ∷ b) (10 ∷ []))))
 node_again law (Empty w) h =
     node_of_fields (codes "empty") (weights_fields w) (Empty w) refl (weights_solid w h) (rw (weights_again law w h) refl) (ap (λ (r : List ℕ). (codes "empty" ++ r) ++ (10 ∷ [])) (sym (weights_blanked w)))
@@ -201,7 +202,7 @@ shown_again law derived tree h n rest =
     (nodes.0, ap (λ (t : List ℕ). shown_at (left n t)) glue ∙ rw (count_line_again law (length derived) h.count n (derived_rows_text derived ++ second)) (rw rows.1 (rw mark (rw nodes.1 refl))))
 
 abbrev with_parts : ℕ → ℕ → Verdict → Option Rational → Option (List Rational) → Option (List Rational) → List Derived → List TreeNode → Certificate
-with_parts rows columns v value point ray derived tree = record { rows = rows; columns = columns; verdict = v; value = value; point = point; ray = ray; derived = derived; tree = tree }
+with_parts rows columns v value point ray derived tree = record { version = One; rows = rows; columns = columns; verdict = v; value = value; point = point; ray = ray; derived = derived; tree = tree }
 
 body_again : Texts → (rows columns : ℕ) (v : Verdict) (value : Option Rational) (point ray : Option (List Rational)) (derived : List Derived) (tree : List TreeNode) → HasParts (with_parts rows columns v value point ray derived tree) v → (n : ℕ) (rest : List ℕ)
     → (m : ℕ) × (body_at rows columns v (left n (parts_text (with_parts rows columns v value point ray derived tree) v ++ rest)) ≡ Ok (with_parts rows columns v value point ray derived tree, left m rest))
@@ -231,16 +232,28 @@ body_again law rows columns Unbounded None (Some x) (Some r) [] [] h n rest =
     let second : List ℕ = (codes "ray" ++ numbers_text r) ++ (10 ∷ rest) in
     (n + 1 + 1, ap (λ (t : List ℕ). unbounded_at rows columns (left n t)) glue ∙ rw (point_again law columns x h.1 n second) (rw (ray_again law columns r h.2 (n + 1) rest) refl))
 
-pub certificate_again : Texts → (c : Certificate) → HasText c → read_of (certificate_text c) ≡ Ok c
+-- the certificate, of version 1
+abbrev at_one : Certificate → Certificate
+at_one c = with_parts c.rows c.columns c.verdict c.value c.point c.ray c.derived c.tree
+
+at_one_is : (c : Certificate) → c.version ≡ One → at_one c ≡ c
+at_one_is c e = ap (λ (v : Version). record { version = v; rows = c.rows; columns = c.columns; verdict = c.verdict; value = c.value; point = c.point; ray = c.ray; derived = c.derived; tree = c.tree }) (sym e)
+
+at_one_again : Texts → (c : Certificate) → HasText (at_one c) → read_of (certificate_text (at_one c)) ≡ Ok (at_one c)
 unfolding certificate_at
-certificate_again law c h =
-    let parts : List ℕ = parts_text c c.verdict in
+at_one_again law c h =
+    let parts : List ℕ = parts_text (at_one c) c.verdict in
     let last : List ℕ = codes "end" ++ (10 ∷ []) in
     let fourth : List ℕ = parts ++ last in
     let third : List ℕ = (codes "verdict " ++ name_of c.verdict) ++ (10 ∷ fourth) in
     let second : List ℕ = (codes "size " ++ (decimal c.rows ++ (codes " " ++ decimal c.columns))) ++ (10 ∷ third) in
-    let whole : certificate_text c ≡ codes "cert 1" ++ (10 ∷ second) =
-    ap (λ (t : List ℕ). head_text c.rows c.columns ++ (t ++ codes "end\n")) (body-parts c c.verdict) ∙ sym (whole_glue (decimal c.rows) (decimal c.columns) (name_of c.verdict) parts) in
+    let whole : certificate_text (at_one c) ≡ codes "cert 1" ++ (10 ∷ second) =
+    ap (λ (t : List ℕ). head_text c.rows c.columns ++ (t ++ codes "end\n")) (body-parts (at_one c) c.verdict) ∙ sym (whole_glue (decimal c.rows) (decimal c.columns) (name_of c.verdict) parts) in
     let body = body_again law c.rows c.columns c.verdict c.value c.point c.ray c.derived c.tree h.parts 4 last in
     ap (λ (t : List ℕ). certificate_at (left 1 t)) whole
     ∙ rw (version_again 1 second) (rw (size_again law c.rows c.columns h.rows h.columns 2 third) (rw (verdict_again c.verdict 3 fourth) (rw body.1 refl)))
+
+pub certificate_again : Texts → (c : Certificate) → HasText c → read_of (certificate_text c) ≡ Ok c
+certificate_again law c h =
+    let same = at_one_is c h.version in
+    subst (λ (d : Certificate). read_of (certificate_text d) ≡ Ok d) same (at_one_again law c (subst HasText (sym same) h))

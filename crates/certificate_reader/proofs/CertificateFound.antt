@@ -6,7 +6,7 @@ use Rattle.std.specs.List.{AllByRecursion, slice_split, join_with_byte}
 use Rattle.std.proofs.lemmas.List.Splits.{join_with_byte-slice_split}
 use Rattle.rational.specs.Rational.{whole}
 use Rattle.fraction.specs.Text.{text_of}
-use Rattle.verdicts.specs.Certificate.{Verdict, Optimal, Infeasible, Unbounded, FormSplit, Proof, Plain, BySplit, Derived, TreeNode, Certificate}
+use Rattle.verdicts.specs.Certificate.{One, Verdict, Optimal, Infeasible, Unbounded, FormSplit, Proof, Plain, BySplit, Derived, TreeNode, Certificate}
 use Rattle.certificate_lines.specs.declared.fault.FaultKind.{FaultKind}
 use Rattle.certificate_lines.specs.declared.fault.FaultKind.TheVariants.{Unended, Extra}
 use Rattle.certificate.specs.Written.{count_max, open_after, IsProof, IsDerived, IsNode, HasTree, HasParts, HasText}
@@ -192,6 +192,7 @@ body-parts c Unbounded = refl
 
 pub record BodyFound (rows columns : ℕ) (v : Verdict) (start : Rest) (c : Certificate) (rest : Rest) : Type 0 where
   pub text : feeds start.pieces ≡ parts_text c v ++ feeds rest.pieces
+  pub has_version : c.version ≡ One
   pub has_rows : c.rows ≡ rows
   pub has_columns : c.columns ≡ columns
   pub has_verdict : c.verdict ≡ v
@@ -203,29 +204,29 @@ optimal_glue v x s f = simp append_assoc
 optimal_found : Texts → (rows columns : ℕ) (start : Rest) (x : Certificate × Rest) → optimal_at rows columns start ≡ Ok x → BodyFound rows columns Optimal start x.0 x.1
 unfolding optimal_at
 optimal_found law rows columns start x h =
-    let a = bind_ok (line_by value_in start) (λ value. line_by (point_in (codes "point") columns) value.1 >>= λ point. shown_at point.1 >>= λ shown. Ok (record { rows = rows; columns = columns; verdict = Optimal; value = Some value.0; point = Some point.0; ray = None; derived = shown.0.derived; tree = shown.0.tree }, shown.1)) x h in
-    let b = bind_ok (line_by (point_in (codes "point") columns) a.0.1) (λ point. shown_at point.1 >>= λ shown. Ok (record { rows = rows; columns = columns; verdict = Optimal; value = Some a.0.0; point = Some point.0; ray = None; derived = shown.0.derived; tree = shown.0.tree }, shown.1)) x a.2 in
-    let c = bind_ok (shown_at b.0.1) (λ shown. Ok (record { rows = rows; columns = columns; verdict = Optimal; value = Some a.0.0; point = Some b.0.0; ray = None; derived = shown.0.derived; tree = shown.0.tree }, shown.1)) x b.2 in
+    let a = bind_ok (line_by value_in start) (λ value. line_by (point_in (codes "point") columns) value.1 >>= λ point. shown_at point.1 >>= λ shown. Ok (record { version = One; rows = rows; columns = columns; verdict = Optimal; value = Some value.0; point = Some point.0; ray = None; derived = shown.0.derived; tree = shown.0.tree }, shown.1)) x h in
+    let b = bind_ok (line_by (point_in (codes "point") columns) a.0.1) (λ point. shown_at point.1 >>= λ shown. Ok (record { version = One; rows = rows; columns = columns; verdict = Optimal; value = Some a.0.0; point = Some point.0; ray = None; derived = shown.0.derived; tree = shown.0.tree }, shown.1)) x a.2 in
+    let c = bind_ok (shown_at b.0.1) (λ shown. Ok (record { version = One; rows = rows; columns = columns; verdict = Optimal; value = Some a.0.0; point = Some b.0.0; ray = None; derived = shown.0.derived; tree = shown.0.tree }, shown.1)) x b.2 in
     let value = line_found value_in start a.0.0 a.0.1 a.1 in
     let v = value_line law value.0 a.0.0 value.1 in
     let point = line_found (point_in (codes "point") columns) a.0.1 b.0.0 b.0.1 b.1 in
     let p = point_line law (codes "point") point.0 columns b.0.0 point.1 in
     let s = shown_found law b.0.1 c.0 c.1 in
     let f : List ℕ = feeds c.0.1.pieces in
-    let made : Certificate = record { rows = rows; columns = columns; verdict = Optimal; value = Some a.0.0; point = Some b.0.0; ray = None; derived = c.0.0.derived; tree = c.0.0.tree } in
+    let made : Certificate = record { version = One; rows = rows; columns = columns; verdict = Optimal; value = Some a.0.0; point = Some b.0.0; ray = None; derived = c.0.0.derived; tree = c.0.0.tree } in
     let text : feeds start.pieces ≡ parts_text made Optimal ++ f =
     value.2 ∙ ap (λ (l : List ℕ). l ++ (10 ∷ feeds a.0.1.pieces)) v.0
     ∙ ap (λ (t : List ℕ). (codes "value " ++ text_of a.0.0) ++ (10 ∷ t)) (point.2 ∙ ap (λ (l : List ℕ). l ++ (10 ∷ feeds b.0.1.pieces)) p.0 ∙ ap (λ (t : List ℕ). (codes "point" ++ numbers_text b.0.0) ++ (10 ∷ t)) s.text)
     ∙ optimal_glue (text_of a.0.0) (numbers_text b.0.0) (shown_text c.0.0.derived c.0.0.tree) f in
-    subst (λ (y : Certificate × Rest). BodyFound rows columns Optimal start y.0 y.1) (made_is (made, c.0.1) x c.2) (record { text = text; has_rows = refl; has_columns = refl; has_verdict = refl; parts = (v.1, p.1, refl, s.written) })
+    subst (λ (y : Certificate × Rest). BodyFound rows columns Optimal start y.0 y.1) (made_is (made, c.0.1) x c.2) (record { text = text; has_version = refl; has_rows = refl; has_columns = refl; has_verdict = refl; parts = (v.1, p.1, refl, s.written) })
 
 infeasible_found : Texts → (rows columns : ℕ) (start : Rest) (x : Certificate × Rest) → infeasible_at rows columns start ≡ Ok x → BodyFound rows columns Infeasible start x.0 x.1
 unfolding infeasible_at
 infeasible_found law rows columns start x h =
-    let a = bind_ok (shown_at start) (λ shown. Ok (record { rows = rows; columns = columns; verdict = Infeasible; value = None; point = None; ray = None; derived = shown.0.derived; tree = shown.0.tree }, shown.1)) x h in
+    let a = bind_ok (shown_at start) (λ shown. Ok (record { version = One; rows = rows; columns = columns; verdict = Infeasible; value = None; point = None; ray = None; derived = shown.0.derived; tree = shown.0.tree }, shown.1)) x h in
     let s = shown_found law start a.0 a.1 in
-    let made : Certificate = record { rows = rows; columns = columns; verdict = Infeasible; value = None; point = None; ray = None; derived = a.0.0.derived; tree = a.0.0.tree } in
-    subst (λ (y : Certificate × Rest). BodyFound rows columns Infeasible start y.0 y.1) (made_is (made, a.0.1) x a.2) (record { text = s.text; has_rows = refl; has_columns = refl; has_verdict = refl; parts = (refl, refl, refl, s.written) })
+    let made : Certificate = record { version = One; rows = rows; columns = columns; verdict = Infeasible; value = None; point = None; ray = None; derived = a.0.0.derived; tree = a.0.0.tree } in
+    subst (λ (y : Certificate × Rest). BodyFound rows columns Infeasible start y.0 y.1) (made_is (made, a.0.1) x a.2) (record { text = s.text; has_version = refl; has_rows = refl; has_columns = refl; has_verdict = refl; parts = (refl, refl, refl, s.written) })
 
 pub unbounded_glue : (x r f : List ℕ) → (codes "point" ++ x) ++ (10 ∷ ((codes "ray" ++ r) ++ (10 ∷ f))) ≡ ((codes "point" ++ (x ++ codes "\n")) ++ (codes "ray" ++ (r ++ codes "\n"))) ++ f
 unbounded_glue x r f = simp append_assoc
@@ -233,19 +234,19 @@ unbounded_glue x r f = simp append_assoc
 unbounded_found : Texts → (rows columns : ℕ) (start : Rest) (x : Certificate × Rest) → unbounded_at rows columns start ≡ Ok x → BodyFound rows columns Unbounded start x.0 x.1
 unfolding unbounded_at
 unbounded_found law rows columns start x h =
-    let a = bind_ok (line_by (point_in (codes "point") columns) start) (λ point. line_by (point_in (codes "ray") columns) point.1 >>= λ ray. Ok (record { rows = rows; columns = columns; verdict = Unbounded; value = None; point = Some point.0; ray = Some ray.0; derived = []; tree = [] }, ray.1)) x h in
-    let b = bind_ok (line_by (point_in (codes "ray") columns) a.0.1) (λ ray. Ok (record { rows = rows; columns = columns; verdict = Unbounded; value = None; point = Some a.0.0; ray = Some ray.0; derived = []; tree = [] }, ray.1)) x a.2 in
+    let a = bind_ok (line_by (point_in (codes "point") columns) start) (λ point. line_by (point_in (codes "ray") columns) point.1 >>= λ ray. Ok (record { version = One; rows = rows; columns = columns; verdict = Unbounded; value = None; point = Some point.0; ray = Some ray.0; derived = []; tree = [] }, ray.1)) x h in
+    let b = bind_ok (line_by (point_in (codes "ray") columns) a.0.1) (λ ray. Ok (record { version = One; rows = rows; columns = columns; verdict = Unbounded; value = None; point = Some a.0.0; ray = Some ray.0; derived = []; tree = [] }, ray.1)) x a.2 in
     let point = line_found (point_in (codes "point") columns) start a.0.0 a.0.1 a.1 in
     let p = point_line law (codes "point") point.0 columns a.0.0 point.1 in
     let ray = line_found (point_in (codes "ray") columns) a.0.1 b.0.0 b.0.1 b.1 in
     let r = point_line law (codes "ray") ray.0 columns b.0.0 ray.1 in
     let f : List ℕ = feeds b.0.1.pieces in
-    let made : Certificate = record { rows = rows; columns = columns; verdict = Unbounded; value = None; point = Some a.0.0; ray = Some b.0.0; derived = []; tree = [] } in
+    let made : Certificate = record { version = One; rows = rows; columns = columns; verdict = Unbounded; value = None; point = Some a.0.0; ray = Some b.0.0; derived = []; tree = [] } in
     let text : feeds start.pieces ≡ parts_text made Unbounded ++ f =
     point.2 ∙ ap (λ (l : List ℕ). l ++ (10 ∷ feeds a.0.1.pieces)) p.0
     ∙ ap (λ (t : List ℕ). (codes "point" ++ numbers_text a.0.0) ++ (10 ∷ t)) (ray.2 ∙ ap (λ (l : List ℕ). l ++ (10 ∷ f)) r.0)
     ∙ unbounded_glue (numbers_text a.0.0) (numbers_text b.0.0) f in
-    subst (λ (y : Certificate × Rest). BodyFound rows columns Unbounded start y.0 y.1) (made_is (made, b.0.1) x b.2) (record { text = text; has_rows = refl; has_columns = refl; has_verdict = refl; parts = (refl, p.1, r.1, refl, refl) })
+    subst (λ (y : Certificate × Rest). BodyFound rows columns Unbounded start y.0 y.1) (made_is (made, b.0.1) x b.2) (record { text = text; has_version = refl; has_rows = refl; has_columns = refl; has_verdict = refl; parts = (refl, p.1, r.1, refl, refl) })
 
 body_found : Texts → (rows columns : ℕ) (v : Verdict) (start : Rest) (x : Certificate × Rest) → body_at rows columns v start ≡ Ok x → BodyFound rows columns v start x.0 x.1
 body_found law rows columns Optimal start x h = optimal_found law rows columns start x h
@@ -300,6 +301,7 @@ found_from law start d h =
     let glued : feeds start.pieces ≡ head_text b.0.0.0 b.0.0.1 ++ (body_text c e.0.0 ++ codes "end\n") = first ∙ whole_glue m n v (parts_text c e.0.0) ∙ ap (λ (t : List ℕ). head_text b.0.0.0 b.0.0.1 ++ (t ++ codes "end\n")) (sym (body-parts c e.0.0)) in
     let text : feeds start.pieces ≡ certificate_text c = glued ∙ ap (λ (r : ℕ). head_text r b.0.0.1 ++ (body_text c e.0.0 ++ codes "end\n")) (sym body.has_rows) ∙ ap (λ (r : ℕ). head_text c.rows r ++ (body_text c e.0.0 ++ codes "end\n")) (sym body.has_columns) ∙ ap (λ (w : Verdict). head_text c.rows c.columns ++ (body_text c w ++ codes "end\n")) (sym body.has_verdict) in
     let written : HasText c = record {
+      version = body.has_version;
       rows = subst (λ (r : ℕ). r ≤ count_max) (sym body.has_rows) s.1;
       columns = subst (λ (r : ℕ). r ≤ count_max) (sym body.has_columns) s.2;
       parts = subst (λ (w : Verdict). HasParts c w) (sym body.has_verdict) body.parts;

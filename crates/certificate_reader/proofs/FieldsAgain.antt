@@ -353,13 +353,16 @@ not_columns : (ds : List Item) → NotOf 99 (items_fields 100 ds)
 not_columns [] = tt
 not_columns (d ∷ ds) = refl
 
+abbrev with_splits : Weights → List Item → Weights
+with_splits w splits = record { rows = w.rows; columns = w.columns; derived = w.derived; splits = splits }
+
 pub weights_again : Texts → (w : Weights) → AreWeights w → weights_of (weights_fields w) ≡ Ok w
 unfolding weights_of
 weights_again law w h =
     let rows = items_again law 114 0 w.rows (items_fields 99 w.columns ++ items_fields 100 w.derived) h.rows (not_rows w.columns w.derived) in
     let columns = items_again law 99 0 w.columns (items_fields 100 w.derived) h.columns (not_columns w.derived) in
     let derived : items_of 100 0 (items_fields 100 w.derived) ≡ Ok (w.derived, []) = ap (items_of 100 0) (sym (append-nil (items_fields 100 w.derived))) ∙ items_again law 100 0 w.derived [] h.derived tt in
-    rw (rows, columns, derived) refl
+    rw (rows, columns, derived) (ap (λ (splits : List Item). Ok (with_splits w splits)) (sym h.splits))
 
 pub weights_solid : (w : Weights) → AreWeights w → are_solid (weights_fields w) ≡ true
 weights_solid w h = are_solid-append (items_fields 114 w.rows) (items_fields 99 w.columns ++ items_fields 100 w.derived) (items_solid 114 0 w.rows refl h.rows) (are_solid-append (items_fields 99 w.columns) (items_fields 100 w.derived) (items_solid 99 0 w.columns refl h.columns) (items_solid 100 0 w.derived refl h.derived))

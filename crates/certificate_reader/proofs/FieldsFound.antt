@@ -228,17 +228,17 @@ items_found law kind least (field ∷ fields) x h =
 pub weights_found : Texts → (fields : List (List ℕ)) (w : Weights) → weights_of fields ≡ Ok w → (blanked fields ≡ weights_text w) × AreWeights w
 unfolding weights_of
 weights_found law fields w h =
-    let a = bind_ok (items_of 114 0 fields) (λ rows. items_of 99 0 rows.1 >>= λ columns. items_of 100 0 columns.1 >>= λ derived. ended derived.1 >>= λ _. Ok (record { rows = rows.0; columns = columns.0; derived = derived.0 })) w h in
-    let b = bind_ok (items_of 99 0 a.0.1) (λ columns. items_of 100 0 columns.1 >>= λ derived. ended derived.1 >>= λ _. Ok (record { rows = a.0.0; columns = columns.0; derived = derived.0 })) w a.2 in
-    let c = bind_ok (items_of 100 0 b.0.1) (λ derived. ended derived.1 >>= λ _. Ok (record { rows = a.0.0; columns = b.0.0; derived = derived.0 })) w b.2 in
-    let d = bind_ok (ended c.0.1) (λ _. Ok (record { rows = a.0.0; columns = b.0.0; derived = c.0.0 })) w c.2 in
+    let a = bind_ok (items_of 114 0 fields) (λ rows. items_of 99 0 rows.1 >>= λ columns. items_of 100 0 columns.1 >>= λ derived. ended derived.1 >>= λ _. Ok (record { rows = rows.0; columns = columns.0; derived = derived.0; splits = [] })) w h in
+    let b = bind_ok (items_of 99 0 a.0.1) (λ columns. items_of 100 0 columns.1 >>= λ derived. ended derived.1 >>= λ _. Ok (record { rows = a.0.0; columns = columns.0; derived = derived.0; splits = [] })) w a.2 in
+    let c = bind_ok (items_of 100 0 b.0.1) (λ derived. ended derived.1 >>= λ _. Ok (record { rows = a.0.0; columns = b.0.0; derived = derived.0; splits = [] })) w b.2 in
+    let d = bind_ok (ended c.0.1) (λ _. Ok (record { rows = a.0.0; columns = b.0.0; derived = c.0.0; splits = [] })) w c.2 in
     let rows = items_found law 114 0 fields a.0 a.1 in
     let columns = items_found law 99 0 a.0.1 b.0 b.1 in
     let derived = items_found law 100 0 b.0.1 c.0 c.1 in
     let none : blanked c.0.1 ≡ [] = ap blanked (ended_found c.0.1 d.0 d.1) in
-    let made : Weights = record { rows = a.0.0; columns = b.0.0; derived = c.0.0 } in
+    let made : Weights = record { rows = a.0.0; columns = b.0.0; derived = c.0.0; splits = [] } in
     let r : List ℕ = items_text (114 ∷ []) a.0.0 in
     let l : List ℕ = items_text (99 ∷ []) b.0.0 in
     let e : List ℕ = items_text (100 ∷ []) c.0.0 in
     subst (λ (x : Weights). (blanked fields ≡ weights_text x) × AreWeights x) (made_of_is made w d.2)
-    (rows.text ∙ ap (λ (u : List ℕ). r ++ u) (columns.text ∙ ap (λ (u : List ℕ). l ++ u) (derived.text ∙ ap (λ (u : List ℕ). e ++ u) none ∙ append-nil e)), record { rows = rows.written; columns = columns.written; derived = derived.written })
+    (rows.text ∙ ap (λ (u : List ℕ). r ++ u) (columns.text ∙ ap (λ (u : List ℕ). l ++ u) (derived.text ∙ ap (λ (u : List ℕ). e ++ u) none ∙ append-nil e)), record { rows = rows.written; columns = columns.written; derived = derived.written; splits = refl })

@@ -1,5 +1,5 @@
 -- What lines are read as is what they write.
-use Rattle.std.proofs.Common.{◌≡◌, ◌∙◌, ℕ, ◌+◌, ◌≤◌, List, [], ◌∷◌, ◌++◌, Ok, Err, IsTrue, ap, subst, if◌then◌else◌, inl, inr, append_assoc}
+use Rattle.std.proofs.Common.{◌≡◌, ◌∙◌, ℕ, ◌+◌, ◌≤◌, List, [], ◌∷◌, ◌++◌, Ok, Err, IsTrue, refl, ap, subst, if◌then◌else◌, inl, inr, append_assoc}
 use Rattle.std.specs.Prelude.{codes}
 use Rattle.std.specs.Fmt.{decimal}
 use Rattle.std.specs.Str.{bytes_eq}
@@ -11,7 +11,7 @@ use Rattle.fraction.specs.Fits.{fits, num_fits}
 use Rattle.milp.specs.Form.{Entry}
 use Rattle.verdicts.specs.Certificate.{Verdict, Optimal, Infeasible, Unbounded, Weights, Split, TreeNode, Branch, Empty, Bound}
 use Rattle.certificate_lines.specs.declared.fault.FaultKind.TheVariants.{BadLine}
-use Rattle.certificate.specs.Written.{count_max, AreWeights, IsForm, IsNode, IsPoint}
+use Rattle.certificate.specs.Written.{count_max, column_split, AreWeights, IsForm, IsNode, IsPoint}
 use Rattle.certificate.specs.Text.{weights_text, form_text, numbers_text, node_text}
 use Rattle.certificate_lines.specs.Fields.{◌>>=◌, count_of, index_of, number_of, whole_of, fields_of, next_field, first_by, after_word, ended, numbers_of, form_of, weights_of}
 use Rattle.certificate_reader.specs.Reading.{version_in, size_in, verdict_named, verdict_in, value_in, point_in, count_in, word_in, derive_in, side_in, ProofLine, PlainLine, SplitLine, plain_in, split_in, proof_after, proof_in, branch_in, empty_in, bound_in, node_after, node_in}
@@ -172,17 +172,17 @@ no_node x h = cc
 
 branch_line : Texts → (line word : List ℕ) (fields : List (List ℕ)) (x : TreeNode) → line ≡ word ++ blanked fields → word ≡ codes "branch" → branch_in fields ≡ Ok x → WritesNode line x
 branch_line law line word fields x is same h =
-    let a = bind_ok (first_by index_of fields) (λ column. first_by whole_of column.1 >>= λ at. ended at.1 >>= λ _. Ok (Branch (record { column = column.0; at = at.0 }))) x h in
-    let b = bind_ok (first_by whole_of a.0.1) (λ at. ended at.1 >>= λ _. Ok (Branch (record { column = a.0.0; at = at.0 }))) x a.2 in
-    let c = bind_ok (ended b.0.1) (λ _. Ok (Branch (record { column = a.0.0; at = b.0.0 }))) x b.2 in
+    let a = bind_ok (first_by index_of fields) (λ column. first_by whole_of column.1 >>= λ at. ended at.1 >>= λ _. Ok (Branch (column_split column.0 at.0))) x h in
+    let b = bind_ok (first_by whole_of a.0.1) (λ at. ended at.1 >>= λ _. Ok (Branch (column_split a.0.0 at.0))) x a.2 in
+    let c = bind_ok (ended b.0.1) (λ _. Ok (Branch (column_split a.0.0 b.0.0))) x b.2 in
     let column = first_found index_of fields a.0 a.1 in
     let at = first_found whole_of a.0.1 b.0 b.1 in
     let i = index_found law column.0 a.0.0 column.2 in
     let z = whole_found law at.0 b.0.0 at.2 in
-    let split : Split = record { column = a.0.0; at = b.0.0 } in
+    let split : Split = column_split a.0.0 b.0.0 in
     let parts : fields ≡ decimal (a.0.0 + 1) ∷ text_of (whole b.0.0) ∷ [] = column.1 ∙ ap (λ (f : List ℕ). f ∷ a.0.1) i.0 ∙ ap (λ (fs : List (List ℕ)). decimal (a.0.0 + 1) ∷ fs) (at.1 ∙ ap (λ (f : List ℕ). f ∷ b.0.1) z.0 ∙ ap (λ (fs : List (List ℕ)). text_of (whole b.0.0) ∷ fs) (ended_found b.0.1 c.0 c.1)) in
     let text : line ≡ codes "branch " ++ (decimal (a.0.0 + 1) ++ (codes " " ++ text_of (whole b.0.0))) = is ∙ ap (λ (w : List ℕ). w ++ blanked fields) same ∙ ap (λ (fs : List (List ℕ)). codes "branch" ++ blanked fs) parts ∙ ap (λ (r : List ℕ). codes "branch " ++ (decimal (a.0.0 + 1) ++ (codes " " ++ r))) (append-nil (text_of (whole b.0.0))) in
-    subst (WritesNode line) (made_of_is (Branch split) x c.2) (ap (λ (l : List ℕ). l ++ (10 ∷ [])) text ∙ ap (λ (l : List ℕ). codes "branch " ++ l) (append_assoc (decimal (a.0.0 + 1)) (codes " " ++ text_of (whole b.0.0)) (10 ∷ [])), record { column = i.1; at = z.1 })
+    subst (WritesNode line) (made_of_is (Branch split) x c.2) (ap (λ (l : List ℕ). l ++ (10 ∷ [])) text ∙ ap (λ (l : List ℕ). codes "branch " ++ l) (append_assoc (decimal (a.0.0 + 1)) (codes " " ++ text_of (whole b.0.0)) (10 ∷ [])), record { form = refl; column = i.1; at = z.1 })
 
 empty_line : Texts → (line word : List ℕ) (fields : List (List ℕ)) (x : TreeNode) → line ≡ word ++ blanked fields → word ≡ codes "empty" → empty_in fields ≡ Ok x → WritesNode line x
 empty_line law line word fields x is same h =

@@ -4,9 +4,9 @@ use Rattle.std.specs.Str.{bytes_eq}
 use Rattle.std.specs.List.{slice_split}
 use Rattle.rational.specs.Rational.{Rational}
 use Rattle.milp.specs.Form.{Entry}
-use Rattle.verdicts.specs.Certificate.{Verdict, Optimal, Infeasible, Unbounded, Weights, Proof, Plain, BySplit, Derived, TreeNode, Branch, Empty, Bound, Certificate}
+use Rattle.verdicts.specs.Certificate.{One, Verdict, Optimal, Infeasible, Unbounded, Weights, Proof, Plain, BySplit, Derived, TreeNode, Branch, Empty, Bound, Certificate}
 use Rattle.instance.specs.WellFormed.{are_entries}
-use Rattle.certificate.specs.Written.{count_max, open_after}
+use Rattle.certificate.specs.Written.{count_max, column_split, open_after}
 use Rattle.certificate_lines.specs.Fields.{◌>>=◌, count_of, index_of, number_of, whole_of, fields_of, next_field, first_by, after_word, ended, numbers_of, form_of, weights_of}
 use Rattle.certificate_lines.specs.Lines.{Rest, is_feed, fault_at, line_of, closed, line_by, is_over}
 use Rattle.certificate_lines.specs.declared.fault.FaultKind.{FaultKind}
@@ -104,7 +104,7 @@ derived_rows_at (suc n) rest = do
 -- ---- the tree
 
 abbrev pub branch_in : List (List ℕ) → Result TreeNode FaultKind
-branch_in fields = first_by index_of fields >>= λ column. first_by whole_of column.1 >>= λ at. ended at.1 >>= λ _. Ok (Branch (record { column = column.0; at = at.0 }))
+branch_in fields = first_by index_of fields >>= λ column. first_by whole_of column.1 >>= λ at. ended at.1 >>= λ _. Ok (Branch (column_split column.0 at.0))
 
 abbrev pub empty_in : List (List ℕ) → Result TreeNode FaultKind
 empty_in fields = weights_of fields >>= λ w. Ok (Empty w)
@@ -151,18 +151,18 @@ optimal_at rows columns rest = do
   value ← line_by value_in rest
   point ← line_by (point_in (codes "point") columns) value.1
   shown ← shown_at point.1
-  Ok (record { rows = rows; columns = columns; verdict = Optimal; value = Some value.0; point = Some point.0; ray = None; derived = shown.0.derived; tree = shown.0.tree }, shown.1)
+  Ok (record { version = One; rows = rows; columns = columns; verdict = Optimal; value = Some value.0; point = Some point.0; ray = None; derived = shown.0.derived; tree = shown.0.tree }, shown.1)
 
 unfoldable pub infeasible_at : ℕ → ℕ → Rest → Result (Certificate × Rest) CertFault
 infeasible_at rows columns rest = do
   shown ← shown_at rest
-  Ok (record { rows = rows; columns = columns; verdict = Infeasible; value = None; point = None; ray = None; derived = shown.0.derived; tree = shown.0.tree }, shown.1)
+  Ok (record { version = One; rows = rows; columns = columns; verdict = Infeasible; value = None; point = None; ray = None; derived = shown.0.derived; tree = shown.0.tree }, shown.1)
 
 unfoldable pub unbounded_at : ℕ → ℕ → Rest → Result (Certificate × Rest) CertFault
 unbounded_at rows columns rest = do
   point ← line_by (point_in (codes "point") columns) rest
   ray ← line_by (point_in (codes "ray") columns) point.1
-  Ok (record { rows = rows; columns = columns; verdict = Unbounded; value = None; point = Some point.0; ray = Some ray.0; derived = []; tree = [] }, ray.1)
+  Ok (record { version = One; rows = rows; columns = columns; verdict = Unbounded; value = None; point = Some point.0; ray = Some ray.0; derived = []; tree = [] }, ray.1)
 
 abbrev pub body_at : ℕ → ℕ → Verdict → Rest → Result (Certificate × Rest) CertFault
 body_at rows columns Optimal rest = optimal_at rows columns rest

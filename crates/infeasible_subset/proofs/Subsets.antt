@@ -6,9 +6,9 @@ use Rattle.milp.specs.Form.{Entry, number_at, sum_at}
 use Rattle.milp.specs.Problem.{Column, Row, Problem}
 use Rattle.milp.specs.Points.{IsWithin, IsWhole, Feasible}
 use Rattle.verdicts.specs.WeightedSums.{Weighted}
-use Rattle.verdicts.specs.Certificate.{Item, Weights}
+use Rattle.verdicts.specs.Certificate.{One, Item, Weights}
 use Rattle.verdicts.specs.Proves.{term, bound_used, row_term, column_term, joined, gathered, terms, refutes}
-use Rattle.verdicts.proofs.Laws.{leaf_empty, inside_own}
+use Rattle.verdicts.proofs.Laws.{leaf_empty}
 use Rattle.infeasible_subset.specs.Members.{Side, Lower, Upper, Member, OfRow, OfColumn, same_member}
 use Rattle.infeasible_subset.specs.Subsets.{kept_if, sub_row, sub_rows, sub_column, sub_columns, sub, without, side_used, row_used, column_used, AllUse, UsesOnly, Refutes}
 
@@ -101,7 +101,7 @@ gathered_same : (f g : Item → Option Weighted) (member : Item → Member) (kee
 gathered_same f g member keep [] a b h k e = e
 gathered_same f g member keep (i ∷ is) a b h k e = rw (h i k.0, gathered_same f g member keep is a b h k.1 e) refl
 
-terms_same : (p : Problem) (keep : Member → Bool) (w : Weights) → UsesOnly keep w → terms (sub p keep) [] [] w ≡ terms p [] [] w
+terms_same : (p : Problem) (keep : Member → Bool) (w : Weights) → UsesOnly keep w → terms (sub p keep) [] [] [] w ≡ terms p [] [] [] w
 terms_same p keep w h =
     gathered_same _ _ row_used keep w.rows _ _ (row_same p keep) h.rows
     (gathered_same _ _ column_used keep w.columns _ _ (column_same p keep) h.columns refl)
@@ -111,7 +111,7 @@ pub refuted_with : (p : Problem) (keep : Member → Bool) (w : Weights) → Uses
 refuted_with p keep w h r = record { passes = rw (column_count (λ j s. keep (OfColumn j s)) p.columns, terms_same p keep w h) r.passes }
 
 pub none_meets : (p : Problem) (w : Weights) → Refutes p w → (x : List Rational) → ¬ (Feasible p x)
-none_meets p w r x f = leaf_empty p None [] [] w x r.passes f.relaxed (inside_own p x f.relaxed) (λ k. tt)
+none_meets p w r x f = leaf_empty p One None [] [] w x r.passes f.relaxed tt (λ k. tt)
 
 -- ---- without one more
 
@@ -161,7 +161,7 @@ gathered_kept f member keep h (i ∷ is) a ts e = go (gathered_kept f member kee
     go more (Some t) None u v k = cc
     go more (Some t) (Some us) u v k = let rest = more us v in ((h i t u, rest.0), rest.1)
 
-terms_kept : (p : Problem) (keep : Member → Bool) (w : Weights) (ts : List Weighted) → terms (sub p keep) [] [] w ≡ Some ts → UsesOnly keep w
+terms_kept : (p : Problem) (keep : Member → Bool) (w : Weights) (ts : List Weighted) → terms (sub p keep) [] [] [] w ≡ Some ts → UsesOnly keep w
 terms_kept p keep w ts h =
     let rows = gathered_kept (row_term (sub p keep)) row_used keep (row_kept p keep) w.rows _ ts h in
     let columns = gathered_kept (column_term (sub p keep) []) column_used keep (column_kept p keep) w.columns _ rows.1.0 rows.1.1 in
@@ -169,9 +169,9 @@ terms_kept p keep w ts h =
 
 -- weights that refute the problem with some bounds use those alone, and refute the problem
 pub trial_refutes : (p : Problem) (keep : Member → Bool) (w : Weights) → Refutes (sub p keep) w → UsesOnly keep w × Refutes p w
-trial_refutes p keep w r = go (terms (sub p keep) [] [] w) refl r.passes
+trial_refutes p keep w r = go (terms (sub p keep) [] [] [] w) refl r.passes
   where
-    go : (o : Option (List Weighted)) → terms (sub p keep) [] [] w ≡ o → refutes (length (sub_columns (λ j s. keep (OfColumn j s)) p.columns)) o ≡ true → UsesOnly keep w × Refutes p w
+    go : (o : Option (List Weighted)) → terms (sub p keep) [] [] [] w ≡ o → refutes (length (sub_columns (λ j s. keep (OfColumn j s)) p.columns)) o ≡ true → UsesOnly keep w × Refutes p w
     go None e k = cc
     go (Some ts) e k =
         let u = terms_kept p keep w ts e in

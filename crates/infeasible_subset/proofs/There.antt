@@ -60,7 +60,7 @@ item_column_there p i t h =
     let found : IsTrue (has (column_bounds 0 p.columns) (OfColumn i.index (side_used i.weight))) = subst (λ n. IsTrue (has (column_bounds 0 p.columns) (OfColumn n (side_used i.weight)))) on (column_there 0 i.index p.columns i.weight (record { column = i.index; coefficient = one_ℚ } ∷ []) t h) in
     behind (row_bounds 0 p.rows) (column_bounds 0 p.columns) (column_used i) found
 
-terms_there : (p : Problem) (w : Weights) (ts : List Weighted) → terms p [] [] w ≡ Some ts → UsesOnly (has (all_bounds p)) w
+terms_there : (p : Problem) (w : Weights) (ts : List Weighted) → terms p [] [] [] w ≡ Some ts → UsesOnly (has (all_bounds p)) w
 terms_there p w ts h =
     let rows = gathered_kept (row_term p) row_used (has (all_bounds p)) (item_row_there p) w.rows _ ts h in
     let columns = gathered_kept (column_term p []) column_used (has (all_bounds p)) (item_column_there p) w.columns _ rows.1.0 rows.1.1 in
@@ -68,9 +68,9 @@ terms_there p w ts h =
 
 -- weights that refute the problem use bounds that it has
 pub bounds_there : (p : Problem) (w : Weights) → Refutes p w → UsesOnly (has (all_bounds p)) w
-bounds_there p w r = go (terms p [] [] w) refl r.passes
+bounds_there p w r = go (terms p [] [] [] w) refl r.passes
   where
-    go : (o : Option (List Weighted)) → terms p [] [] w ≡ o → refutes (length p.columns) o ≡ true → UsesOnly (has (all_bounds p)) w
+    go : (o : Option (List Weighted)) → terms p [] [] [] w ≡ o → refutes (length p.columns) o ≡ true → UsesOnly (has (all_bounds p)) w
     go None e k = cc
     go (Some ts) e k = terms_there p w ts e
 

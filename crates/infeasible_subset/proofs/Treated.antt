@@ -7,7 +7,7 @@ use Rattle.milp.specs.Form.{Entry, sum_at}
 use Rattle.milp.specs.Problem.{Column, Problem}
 use Rattle.milp.specs.Points.{IsImprovingRay, sign_of}
 use Rattle.instance.specs.WellFormed.{IsWellFormed}
-use Rattle.verdicts.specs.Certificate.{Weights, TreeNode, Empty}
+use Rattle.verdicts.specs.Certificate.{One, Weights, TreeNode, Empty}
 use Rattle.verdicts.specs.Proves.{node_passes}
 use Rattle.cert_check.proofs.Laws.{node_ok}
 use Rattle.simplex.proofs.Laws.{over_columns}
@@ -20,8 +20,8 @@ use Rattle.infeasible_subset.specs.Subsets.{sub, Refutes}
 use Rattle.infeasible_subset.proofs.Subsets.{column_or_none, get_column}
 use Rattle.infeasible_subset.specs.Faults.{IsRootFault}
 
-passing : (p : Problem) (node : TreeNode) → NodePasses p None [] [] node → node_passes p None [] [] node ≡ true
-passing p node h = let P : Result Bool NoFit → Type 0 = λ r. IfOk r (λ b. b ≡ node_passes p None [] [] node) in sym (subst P h (node_ok p None [] [] node))
+passing : (p : Problem) (node : TreeNode) → NodePasses p None [] [] node → node_passes p One None [] [] node ≡ true
+passing p node h = let P : Result Bool NoFit → Type 0 = λ r. IfOk r (λ b. b ≡ node_passes p One None [] [] node) in sym (subst P h (node_ok p None [] [] node))
 
 pub refuted : (p : Problem) (w : Weights) → NodePasses p None [] [] (Empty w) → Refutes p w
 refuted p w h = record { passes = passing p (Empty w) h }

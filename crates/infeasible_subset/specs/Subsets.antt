@@ -4,7 +4,7 @@ use Rattle.rational.specs.Rational.{Rational, zero_ℚ}
 use Rattle.rational.specs.Compare.{is_less}
 use Rattle.milp.specs.Problem.{Column, Row, Problem}
 use Rattle.milp.specs.Points.{Feasible}
-use Rattle.verdicts.specs.Certificate.{Item, Weights, Empty}
+use Rattle.verdicts.specs.Certificate.{One, Item, Weights, Empty}
 use Rattle.verdicts.specs.Proves.{node_passes}
 use Rattle.infeasible_subset.specs.Members.{Side, Lower, Upper, Member, OfRow, OfColumn, same_member, has}
 
@@ -67,4 +67,4 @@ pub record UsesOnly (keep : Member → Bool) (w : Weights) : Type 0 where
 
 -- the weights refute the problem
 pub record Refutes (p : Problem) (w : Weights) : Type 0 where
-  pub passes : node_passes p None [] [] (Empty w) ≡ true
+  pub passes : node_passes p One None [] [] (Empty w) ≡ true

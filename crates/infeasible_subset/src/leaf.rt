@@ -1,6 +1,6 @@
 // The weights of a certificate of one leaf.
 ghost use Rattle.std.specs.Prelude.{◌≡◌, [], None, true, IfOk};
-ghost use Rattle.verdicts.specs.Certificate.{Infeasible as is_infeasible};
+ghost use Rattle.verdicts.specs.Certificate.{One, Infeasible as is_infeasible};
 ghost use Rattle.verdicts.specs.Proves.{Proves, node_passes};
 ghost use Rattle.certificate.specs.Values.{node_of};
 ghost use Rattle.branch_search.specs.Plain.{NoneInteger, IsPlainCertificate};
@@ -28,7 +28,7 @@ pub(crate) fn refuting(
 
 fn weights_of(alloc: Global, problem: &Instance, node: &TreeNode) -> Result<Weights, AllocError>
     requires continuous { NoneInteger problem.now.columns }
-    requires passes { node_passes problem.now None [] [] (node_of node.now) ≡ true }
+    requires passes { node_passes problem.now One None [] [] (node_of node.now) ≡ true }
     ensures { IfOk result (λ weights. Refutes problem.now weights) }
 {
     match node {

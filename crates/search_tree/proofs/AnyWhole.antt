@@ -1,5 +1,5 @@
 -- Far out on a face of optimal points no split is honest.
-use Rattle.std.proofs.Common.{◌≡◌, ◌∙◌, ℕ, zero, suc, ◌<◌, List, [], ◌∷◌, Option, Some, None, true, refl, sym, ap, subst, arith}
+use Rattle.std.proofs.Common.{◌≡◌, ◌∙◌, ℕ, zero, suc, ◌<◌, [], Some, None, true, sym, ap, subst, arith}
 use Rattle.std.proofs.lemmas.Option.{same_Some}
 use Rattle.std.specs.Prelude.{ℤ, pos, ◌+ℤ◌}
 use Rattle.std.proofs.lemmas.Int.{ints}
@@ -7,6 +7,7 @@ use Rattle.rational.specs.Rational.{Rational, whole, zero_ℚ, one_ℚ, ◌+ℚ�
 use Rattle.rational.proofs.Laws as Q
 use Rattle.milp.specs.Form.{number_at}
 use Rattle.verdicts.specs.Certificate.{Split}
+use Rattle.certificate.specs.Written.{split_column}
 use Rattle.basis.specs.System.{System}
 use Rattle.basis.specs.Node.{system_of, integer_at}
 use Rattle.search_tree.specs.AnyWhole.{any_whole_x}
@@ -29,7 +30,7 @@ one_more q e = never (Q.add_left_cancel q one_ℚ zero_ℚ (e ∙ sym (Q.add-zer
     never e = let f : pos 1 ≡ pos 0 = ap (λ (a : Rational). a.numerator) e in cc
 
 pub no_split : (t : Split) → ¬ (IsHonestSplit any_whole_x [] [] t)
-no_split t h = at_column t.column h.integer h.pinned h.above h.below
+no_split t h = at_column (split_column t) h.integer h.pinned h.above h.below
   where
     at_column : (j : ℕ) → integer_at any_whole_x j ≡ true → IsPinned (system_of any_whole_x [] []) h.point j → whole t.at <ℚ number_at h.point j → number_at h.point j <ℚ whole (t.at +ℤ pos 1) → ⊥
     at_column (suc j) e pinned above below = cc

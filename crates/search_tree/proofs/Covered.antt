@@ -4,38 +4,39 @@ use Rattle.rational.specs.Rational.{Rational}
 use Rattle.rational.proofs.Laws as Q
 use Rattle.milp.specs.Problem.{Problem}
 use Rattle.milp.specs.Points.{Feasible}
-use Rattle.verdicts.specs.Certificate.{Side as SideOf, Low, High, Weights, Derived, Empty, Bound}
-use Rattle.verdicts.specs.Proves.{derived_passes, node_passes, MeetsDerived, AllDerived, InsideBounds}
-use Rattle.verdicts.proofs.Laws.{derived_sound, inside_own, leaf_bound, leaf_empty, on_a_side}
+use Rattle.verdicts.specs.Certificate.{One, Side as SideOf, Low, High, Weights, Derived, Empty, Bound}
+use Rattle.verdicts.specs.Proves.{derived_passes, node_passes, MeetsDerived, AllDerived, TakesAll}
+use Rattle.verdicts.proofs.Laws.{derived_sound, leaf_bound, leaf_empty, on_a_side}
 use Rattle.search_tree.specs.declared.leaf.Leaf.TheVariants.{Todo, Treated, Leased, Refuted, Bounded, NotFitting, AtLimit}
 use Rattle.search_tree.specs.Tree.{Tree, Divided, AtLeaf, AllSplits, AllLeaves, SomeLeaf}
 use Rattle.search_tree.specs.Nodes.{IsHonestSplit, Beats, KeepsLeaf}
 use Rattle.search_tree.specs.Board.{Board, value_of}
 use Rattle.search_tree.specs.Kept.{AllPass, IsKept, IsCovered, LiesIn}
 use Rattle.search_tree.proofs.Passing.{node_test, cut_tests}
+use Rattle.search_tree.proofs.HonestSplits.{whole_form}
 
 cuts_hold : (p : Problem) (ds : List Derived) → AllPass p ds → (x : List Rational) → Feasible p x → AllDerived x ds
 cuts_hold p ds h x f k = go (slice_get ds k) (cut_tests p ds h k)
   where
-    go : (o : Option Derived) → IfSome o (λ d. derived_passes p d ≡ true) → IfSome o (MeetsDerived x)
+    go : (o : Option Derived) → IfSome o (λ d. derived_passes p [] d ≡ true) → IfSome o (MeetsDerived x)
     go None k = tt
-    go (Some d) k = derived_sound p x d f k
+    go (Some d) k = derived_sound p [] x d f (λ n. tt) k
 
--- no better point is inside the bounds of a leaf whose test passes
-none_bounded : (p : Problem) (goal : Option Rational) (ds : List Derived) (sides : List SideOf) (w : Weights) (x : List Rational) → AllDerived x ds → node_passes p goal ds sides (Bound w) ≡ true → Feasible p x → Beats p goal x → InsideBounds p sides x → ⊥
+-- no better point is on the sides taken to a leaf whose test passes
+none_bounded : (p : Problem) (goal : Option Rational) (ds : List Derived) (sides : List SideOf) (w : Weights) (x : List Rational) → AllDerived x ds → node_passes p One goal ds sides (Bound w) ≡ true → Feasible p x → Beats p goal x → TakesAll x sides → ⊥
 none_bounded p None ds sides w x d t f b i = cc
-none_bounded p (Some v) ds sides w x d t f b i = Q.lt-not-le _ _ b (leaf_bound p v ds sides w x t f.relaxed i d)
+none_bounded p (Some v) ds sides w x d t f b i = Q.lt-not-le _ _ b (leaf_bound p One v ds sides w x t f.relaxed i d)
 
-lies : (p : Problem) (ds : List Derived) (limit : ℕ) (goal : Option Rational) (x : List Rational) → AllDerived x ds → Feasible p x → Beats p goal x → (t : Tree) (sides : List SideOf) → AllSplits (IsHonestSplit p ds) sides t → AllLeaves (KeepsLeaf p ds limit goal) sides t → InsideBounds p sides x → SomeLeaf (LiesIn p x) sides t
+lies : (p : Problem) (ds : List Derived) (limit : ℕ) (goal : Option Rational) (x : List Rational) → AllDerived x ds → Feasible p x → Beats p goal x → (t : Tree) (sides : List SideOf) → AllSplits (IsHonestSplit p ds) sides t → AllLeaves (KeepsLeaf p ds limit goal) sides t → TakesAll x sides → SomeLeaf (LiesIn x) sides t
 lies p ds limit goal x d f b (Divided s low high) sides splits leaves i =
-    ⊎_elim (λ l. inl (lies p ds limit goal x d f b low (Low s ∷ sides) splits.1 leaves.0 l)) (λ l. inr (lies p ds limit goal x d f b high (High s ∷ sides) splits.2 leaves.1 l)) (on_a_side p s sides x f splits.0.integer i)
+    ⊎_elim (λ l. inl (lies p ds limit goal x d f b low (Low s ∷ sides) splits.1 leaves.0 (l, i))) (λ l. inr (lies p ds limit goal x d f b high (High s ∷ sides) splits.2 leaves.1 (l, i))) (on_a_side p s x f (whole_form p ds sides s splits.0))
 lies p ds limit goal x d f b (AtLeaf (Todo hint)) sides splits leaves i = (refl, i)
 lies p ds limit goal x d f b (AtLeaf (Treated hint)) sides splits leaves i = (refl, i)
 lies p ds limit goal x d f b (AtLeaf (Leased lease)) sides splits leaves i = (refl, i)
-lies p ds limit goal x d f b (AtLeaf (Refuted w)) sides splits leaves i = absurd (leaf_empty p goal ds sides w x (node_test p goal ds sides (Empty w) leaves) f.relaxed i d)
+lies p ds limit goal x d f b (AtLeaf (Refuted w)) sides splits leaves i = absurd (leaf_empty p One goal ds sides w x (node_test p goal ds sides (Empty w) leaves) f.relaxed i d)
 lies p ds limit goal x d f b (AtLeaf (Bounded w)) sides splits leaves i = absurd (none_bounded p goal ds sides w x d (node_test p goal ds sides (Bound w) leaves) f b i)
 lies p ds limit goal x d f b (AtLeaf (NotFitting e)) sides splits leaves i = (refl, i)
 lies p ds limit goal x d f b (AtLeaf (AtLimit bases)) sides splits leaves i = (refl, i)
 
 pub covered : (b : Board) → IsKept b → IsCovered b
-covered b k = record { covers = λ x f better. lies b.problem b.cuts b.pivot_limit (value_of b) x (cuts_hold b.problem b.cuts k.cuts x f) f better b.tree [] k.splits k.leaves (inside_own b.problem x f.relaxed) }
+covered b k = record { covers = λ x f better. lies b.problem b.cuts b.pivot_limit (value_of b) x (cuts_hold b.problem b.cuts k.cuts x f) f better b.tree [] k.splits k.leaves tt }

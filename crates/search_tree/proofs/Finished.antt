@@ -25,6 +25,7 @@ use Rattle.search_tree.specs.Board.{Board, value_of}
 use Rattle.search_tree.specs.Kept.{AllPass, HasSums, IsKept, closed_node}
 use Rattle.search_tree.specs.Work.{node_setting}
 use Rattle.search_tree.specs.Nodes.{IsHonestSplit, KeepsLeaf}
+use Rattle.search_tree.proofs.HonestSplits.{passes}
 use Rattle.search_tree.specs.Finished.{IsThere, nodes_of, verdict_of, certificate_of, IsFinished}
 
 -- a test that passes, and then accepted ones
@@ -53,7 +54,7 @@ tree_then p ds limit goal (Divided s low high) sides places rest splits h c g k 
     let low_then = tree_then p ds limit goal low (Low s ∷ sides) ((High s ∷ sides) ∷ places) (nodes_of high ++ rest) splits.1 h.0 c.0 high_then in
     let P : List TreeNode → Type 0 = λ nodes. outcome (node_trials p (form_goal p goal) ds (k + 1) ((Low s ∷ sides) ∷ (High s ∷ sides) ∷ places) nodes) ≡ Acceptance in
     then_accepted (Part.Node k) (node_answer (node_setting p ds sides) (form_goal p goal) (Branch s)) (outcome (node_trials p (form_goal p goal) ds (k + 1) ((Low s ∷ sides) ∷ (High s ∷ sides) ∷ places) ((nodes_of low ++ nodes_of high) ++ rest)))
-    (ap Ok splits.0.integer) (subst P (sym (append_assoc (nodes_of low) (nodes_of high) rest)) (low_then (k + 1)))
+    (ap Ok (passes p ds sides s splits.0)) (subst P (sym (append_assoc (nodes_of low) (nodes_of high) rest)) (low_then (k + 1)))
 
 tree_accepted : (b : Board) → IsKept b → IsFinished b → outcome (tree_trials b.problem (form_goal b.problem (value_of b)) (certificate_of b)) ≡ Acceptance
 tree_accepted b k f =
@@ -99,7 +100,7 @@ finished_accepted b k f =
     (by_best b.problem (certificate_of b) b.best k.best refl refl (tree_accepted b k f))
 
 pub finished_proves : (b : Board) → IsKept b → IsFinished b → Proves b.problem (certificate_of b)
-finished_proves b k f = check_accepted b.problem (certificate_of b) (Ok Accepted) (sym (finished_accepted b k f)) refl
+finished_proves b k f = check_accepted b.problem (certificate_of b) (Ok Accepted) refl (sym (finished_accepted b k f)) refl
 
 -- ---- one whole tree
 

@@ -1,7 +1,7 @@
 -- The laws of trees and boards that other crates cite.
 
 -- a tree's preorder
-pub use Rattle.search_tree.proofs.Slots.{nodes_count, one_tree}
+pub use Rattle.search_tree.proofs.Slots.{nodes_count}
 -- trees with another one in a place
 pub use Rattle.search_tree.proofs.Trees.{made_reclaimed, made_replaced, none_leased, reclaimed_none_leased, sum_replaced, todo_not_leased}
 -- histories, and the boards that are kept

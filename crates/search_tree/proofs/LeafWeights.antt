@@ -13,7 +13,7 @@ use Rattle.instance.specs.Sums.{and_then, form_of}
 use Rattle.verdicts.specs.WeightedSums.{Weighted, coefficient_of}
 use Rattle.rational.specs.Compare.{is_less, is_same}
 use Rattle.verdicts.specs.Certificate.{Item, Weights, Side, Derived}
-use Rattle.verdicts.specs.Proves.{lower_under, upper_under, term, bound_used, row_term, column_term, derived_term, joined, gathered, terms}
+use Rattle.verdicts.specs.Proves.{lower_under, upper_under, term, bound_used, row_term, column_term, derived_term, split_term, joined, gathered, terms}
 use Rattle.basis.specs.Weights.{IsNodeWeights}
 use Rattle.basis.specs.Numbers.{IsSitePair, sum_onto, IsNodeBase, IsNodeProducts, node_numbers, AllWeights, AreNodeWeights}
 use Rattle.cert_check.specs.Sums.{and_also, with_product, lower_answer, row_bound, derived_bound, then_there, are_there, all_there, with_bound, with_bounds, bound_sum, Product, products, derived_form, item_products, weight_products, with_products, are_forms}
@@ -311,14 +311,23 @@ module _ (p : Problem) (ds : List Derived) (sides : List Side) where
     are_derived : AreTerms (derived_term ds) w.derived derived
     whole : all ≡ rows ++ (columns ++ derived)
 
-  parted : (w : Weights) (all : List Weighted) → terms p ds sides w ≡ Some all → IsParted w all
+  -- no split may have a weight
+  no_splits : (items : List Item) (ts : List Weighted) → gathered (split_term []) items (Some []) ≡ Some ts → ts ≡ []
+  no_splits [] ts e = sym (same_Some [] ts e)
+  no_splits (i ∷ is) ts e = go (is_less zero_ℚ i.weight) e
+    where
+      go : (b : Bool) → joined (if b then None else None) (gathered (split_term []) is (Some [])) ≡ Some ts → ts ≡ []
+      go true e = cc
+      go false e = cc
+
+  parted : (w : Weights) (all : List Weighted) → terms p ds sides [] w ≡ Some all → IsParted w all
   parted w all e =
-      let nothing : Option (List Weighted) = Some [] in
-      let derived = gathered (derived_term ds) w.derived nothing in
+      let splits : Option (List Weighted) = gathered (split_term []) w.splits (Some []) in
+      let derived = gathered (derived_term ds) w.derived splits in
       let first = begins (row_term p) w.rows (gathered (column_term p sides) w.columns derived) all e in
       let second = begins (column_term p sides) w.columns derived first.us first.more in
-      let third = begins (derived_term ds) w.derived nothing second.us second.more in
-      let last : second.us ≡ third.ts = third.whole ∙ ap (λ (us : List Weighted). third.ts ++ us) (sym (same_Some [] third.us third.more)) ∙ append-nil third.ts in
+      let third = begins (derived_term ds) w.derived splits second.us second.more in
+      let last : second.us ≡ third.ts = third.whole ∙ ap (λ (us : List Weighted). third.ts ++ us) (no_splits w.splits third.us third.more) ∙ append-nil third.ts in
       record {
         rows = first.ts;
         columns = second.ts;
@@ -345,7 +354,7 @@ module _ (p : Problem) (ds : List Derived) (sides : List Side) where
     all_there_told =
         also_told (node_numbers p ds sides) (are_there row_bound_at w.rows) _ (there_told (row_term p) row_form_at row_bound_at (rows_kind forms.rows) w.rows)
         (λ e. also_told (node_numbers p ds sides) (are_there column_bound_at w.columns) _ (there_told (column_term p sides) unit_form_at column_bound_at columns_kind w.columns)
-        (λ f. there_told (derived_term ds) derived_form_at derived_bound_at (deriveds_kind forms.derived) w.derived))
+        (λ f. also_told (node_numbers p ds sides) (are_there derived_bound_at w.derived) _ (there_told (derived_term ds) derived_form_at derived_bound_at (deriveds_kind forms.derived) w.derived) (λ g. tt)))
 
     coefficients_thin : (all : List Weighted) (j : ℕ) → IsParted w all → Thinned (weight_products (node_setting p ds sides) w j) (map (at_column j) all)
     coefficients_thin all j parts =
@@ -384,14 +393,14 @@ module _ (p : Problem) (ds : List Derived) (sides : List Side) where
         (whole ∙ sym (append-append rows columns derived) ∙ ap (λ (ns : List Rational). (rows ++ columns) ++ ns) (sym (append-nil derived))) c
         (ec ∙ ap (λ (s : Rational). sum_onto s columns) er ∙ sym (sum-append zero_ℚ rows columns))))
 
-    are_all : all_there (node_setting p ds sides) w ≡ Ok true → true ≡ is_some (terms p ds sides w)
-    are_all e = let P : Result Bool NoFit → Type 0 = λ r. IfOk r (λ b. b ≡ is_some (terms p ds sides w)) in subst P e (all_there_ok (node_setting p ds sides) w)
+    are_all : all_there (node_setting p ds sides) w ≡ Ok true → true ≡ is_some (terms p ds sides [] w)
+    are_all e = let P : Result Bool NoFit → Type 0 = λ r. IfOk r (λ b. b ≡ is_some (terms p ds sides [] w)) in subst P e (all_there_ok (node_setting p ds sides) w)
 
     pub shown_told : (wanted : ℕ → Rational) (enough : Rational → Bool) → IsNodeWeights p ds sides w → Told (node_numbers p ds sides) (shown_answer (node_setting p ds sides) w wanted enough)
     shown_told wanted enough weights =
-        also_told (node_numbers p ds sides) (all_there (node_setting p ds sides) w) _ all_there_told (λ there. rest (some_terms (terms p ds sides w) (are_all there)))
+        also_told (node_numbers p ds sides) (all_there (node_setting p ds sides) w) _ all_there_told (λ there. rest (some_terms (terms p ds sides [] w) (are_all there)))
       where
-        rest : (all : List Weighted) × (terms p ds sides w ≡ Some all) → Told (node_numbers p ds sides) (and_also (are_forms (weight_products (node_setting p ds sides) w) wanted 0 p.columns) (and_then (bound_sum (node_setting p ds sides) zero_ℚ w) (λ r. Ok (enough r))))
+        rest : (all : List Weighted) × (terms p ds sides [] w ≡ Some all) → Told (node_numbers p ds sides) (and_also (are_forms (weight_products (node_setting p ds sides) w) wanted 0 p.columns) (and_then (bound_sum (node_setting p ds sides) zero_ℚ w) (λ r. Ok (enough r))))
         rest found =
             let all = found.0 in
             let parts = parted w all found.1 in

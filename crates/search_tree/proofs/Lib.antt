@@ -1,6 +1,7 @@
 mod Slots
 mod Trees
 mod Passing
+mod HonestSplits
 mod Covered
 mod Steps
 mod Histories

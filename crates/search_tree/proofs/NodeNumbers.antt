@@ -1,5 +1,5 @@
 -- Numbers of a node that are its base numbers.
-use Rattle.std.proofs.Common.{◌≡◌, ◌∙◌, ℕ, zero, suc, ◌+◌, ◌==◌, List, [], ◌∷◌, length, slice_get, Bool, true, false, Option, Some, None, Ok, refl, ap, subst}
+use Rattle.std.proofs.Common.{◌≡◌, ◌∙◌, ℕ, zero, suc, ◌+◌, List, [], ◌∷◌, length, slice_get, Bool, true, false, Option, Some, None, Ok, refl, ap, subst}
 use Rattle.std.specs.Prelude.{pos, ◌+ℤ◌, option_map, option_and_then, if◌then◌else◌}
 use Rattle.std.proofs.lemmas.Option.{slice_get_within}
 use Rattle.rational.specs.Rational.{Rational, zero_ℚ, one_ℚ, whole}
@@ -8,7 +8,7 @@ use Rattle.milp.specs.Problem.{Column, Row, Problem}
 use Rattle.rational.specs.Compare.{is_less, is_at_most}
 use Rattle.instance.specs.Sums.{and_then}
 use Rattle.verdicts.specs.Certificate.{Side, Low, High, Derived}
-use Rattle.verdicts.specs.Proves.{bound_used, lower_under, upper_under, greater, lesser}
+use Rattle.verdicts.specs.Proves.{narrows, bound_used, lower_under, upper_under, greater, lesser}
 use Rattle.basis.specs.Node.{system_of}
 use Rattle.basis.specs.Numbers.{base_number, left_base, at_of, IsGivenNumber, IsRunBase, IsProblemNumber, IsNodeBase, node_numbers, AllOf}
 use Rattle.basis.proofs.Laws.{row_form, derived_form, row-lower, row-upper, derived-lower}
@@ -108,7 +108,7 @@ module _ (p : Problem) (ds : List Derived) (sides : List Side) where
       go None k e = absurd cc
       go (Some c) k e = IsNodeBase.of_problem (IsProblemNumber.of_column_lower j c k e)
   lower_from (Low s ∷ rest) h j b e = lower_from rest h.1 j b e
-  lower_from (High s ∷ rest) h j b e = go (s.column == j) (λ c k. lower_from rest h.1 j c k) e
+  lower_from (High s ∷ rest) h j b e = go (narrows s j) (λ c k. lower_from rest h.1 j c k) e
     where
       go : (t : Bool) → ((c : Rational) → lower_under p rest j ≡ Some c → IsNodeBase p ds sides c) → (if t then Some (greater (lower_under p rest j) (whole (s.at +ℤ pos 1))) else lower_under p rest j) ≡ Some b → IsNodeBase p ds sides b
       go true k e = greater_one (IsNodeBase p ds sides) (lower_under p rest j) (whole (s.at +ℤ pos 1)) b k h.0.1 e
@@ -120,7 +120,7 @@ module _ (p : Problem) (ds : List Derived) (sides : List Side) where
       go : (o : Option Column) → slice_get p.columns j ≡ o → option_and_then (λ (c : Column). c.upper) o ≡ Some b → IsNodeBase p ds sides b
       go None k e = absurd cc
       go (Some c) k e = IsNodeBase.of_problem (IsProblemNumber.of_column_upper j c k e)
-  upper_from (Low s ∷ rest) h j b e = go (s.column == j) (λ c k. upper_from rest h.1 j c k) e
+  upper_from (Low s ∷ rest) h j b e = go (narrows s j) (λ c k. upper_from rest h.1 j c k) e
     where
       go : (t : Bool) → ((c : Rational) → upper_under p rest j ≡ Some c → IsNodeBase p ds sides c) → (if t then Some (lesser (upper_under p rest j) (whole s.at)) else upper_under p rest j) ≡ Some b → IsNodeBase p ds sides b
       go true k e = lesser_one (IsNodeBase p ds sides) (upper_under p rest j) (whole s.at) b k h.0.0 e
@@ -134,7 +134,7 @@ module _ (p : Problem) (ds : List Derived) (sides : List Side) where
   lower_told_from : (rest : List Side) → AreSplits rest → (j : ℕ) → Told (node_numbers p ds sides) (lower_answer p rest j)
   lower_told_from [] h j = tt
   lower_told_from (Low s ∷ rest) h j = lower_told_from rest h.1 j
-  lower_told_from (High s ∷ rest) h j = go (s.column == j) (lower_told_from rest h.1 j)
+  lower_told_from (High s ∷ rest) h j = go (narrows s j) (lower_told_from rest h.1 j)
     where
       go : (t : Bool) → Told (node_numbers p ds sides) (lower_answer p rest j)
           → Told (node_numbers p ds sides) (if t then and_then (next_answer s.at) (λ b. and_then (lower_answer p rest j) (λ o. Ok (Some (greater o b)))) else lower_answer p rest j)

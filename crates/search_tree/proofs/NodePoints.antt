@@ -3,7 +3,7 @@ use Rattle.std.proofs.Common.{◌≡◌, ◌∙◌, ℕ, zero, suc, ◌+◌, ◌
 use Rattle.std.specs.Prelude.{ℤ, pos, ◌+ℤ◌}
 use Rattle.std.proofs.lemmas.Bool.{eqb-true, eq-eqb}
 use Rattle.std.proofs.lemmas.Bool.Decides.{nat_tests}
-use Rattle.std.proofs.lemmas.Option.{slice_get_read, slice_get_past}
+use Rattle.std.proofs.lemmas.Option.{same_Some, slice_get_read, slice_get_past}
 use Rattle.rational.specs.Rational.{Rational, zero_ℚ, one_ℚ, whole, ◌≤ℚ◌}
 use Rattle.fraction.specs.declared.frac.NoFit.{NoFit}
 use Rattle.fraction.specs.Answers.{add_answer}
@@ -15,15 +15,19 @@ use Rattle.cert_check.proofs.Laws.{next_ok}
 use Rattle.rational.specs.Compare.{is_at_most}
 use Rattle.rational.proofs.Laws.{at_most_true, at_most_false, lt-not-le, le_trans, le_of_lt}
 use Rattle.verdicts.specs.Certificate.{Split, Side, Low, High, Derived}
-use Rattle.verdicts.specs.Proves.{InsideBounds, AllDerived, greater, lesser, lower_under, upper_under}
-use Rattle.verdicts.proofs.Laws.{inside_own, inside_low, inside_high}
+use Rattle.verdicts.specs.Proves.{InsideBounds, AllDerived, TakesSide, TakesAll, narrows, greater, lesser, lower_under, upper_under}
+use Rattle.verdicts.proofs.Laws.{inside_taken, takes_low}
 use Rattle.basis.specs.Node.{IsNodePoint}
+use Rattle.certificate.specs.Written.{split_column}
+use Rattle.certificate.proofs.Laws.{column_narrows, column_value}
 use Rattle.certificate.specs.Ways.{side_of}
+use Rattle.certificate.specs.declared.split.Side.{Side as TakenSide}
+use Rattle.certificate.specs.declared.split.Side.TheVariants.{Low as LowTaken, High as HighTaken}
 use Rattle.search_node.specs.Sides.{sides_of}
 use Rattle.search_node.specs.declared.node.SplitTaken.{SplitTaken}
 use Rattle.instance.specs.Sums.{sum_answer}
 use Rattle.search_tree.specs.Faults.{IsCutFault}
-use Rattle.search_tree.specs.Points.{AreInColumns, AreInRows, IsOnSide, AreOnSides}
+use Rattle.search_tree.specs.Points.{AreInColumns, AreInRows, IsOnSide, IsOfColumn, AreOnSides, IsOffSide}
 
 pub at_most_is : (a b : Rational) → is_at_most a b ≡ true → a ≤ℚ b
 at_most_is a b h = at_most_true a b h
@@ -31,34 +35,23 @@ at_most_is a b h = at_most_true a b h
 pub not_at_most : (a b : Rational) → is_at_most a b ≡ false → a ≤ℚ b → ⊥
 not_at_most a b h k = lt-not-le b a (at_most_false a b h) k
 
--- on each of the sides
-abbrev AllOnSides : List Rational → List Side → Type 0
-AllOnSides x [] = Unit {0}
-AllOnSides x (t ∷ sides) = IsOnSide x t × AllOnSides x sides
+-- ---- on each side
 
-on_both : (x : List Rational) (ts us : List Side) → AllOnSides x ts → AllOnSides x us → AllOnSides x (ts ++ us)
-on_both x [] us h k = k
-on_both x (t ∷ ts) us h k = (h.0, on_both x ts us h.1 k)
+takes : (s : Split) (side : TakenSide) (x : List Rational) → IsOfColumn s → IsOnSide x (side_of s side) → TakesSide x (side_of s side)
+takes s LowTaken x e h = let P : Rational → Type 0 = λ v. v ≤ℚ whole s.at in takes_low s x (subst P (sym (column_value x s e)) h)
+takes s HighTaken x e h = let P : Rational → Type 0 = λ v. whole (s.at +ℤ pos 1) ≤ℚ v in subst P (sym (column_value x s e)) h
 
-all_on_sides : (x : List Rational) (taken : List SplitTaken) → AreOnSides x taken → AllOnSides x (sides_of taken)
-all_on_sides x [] h = tt
-all_on_sides x (t ∷ taken) h = on_both x (sides_of taken) (side_of t.split t.side ∷ []) (all_on_sides x taken (λ k. h (suc k))) (h zero, tt)
+takes_both : (x : List Rational) (ts us : List Side) → TakesAll x ts → TakesAll x us → TakesAll x (ts ++ us)
+takes_both x [] us h k = k
+takes_both x (t ∷ ts) us h k = (h.0, takes_both x ts us h.1 k)
 
-each_of_both : (x : List Rational) (ts us : List Side) → AllOnSides x (ts ++ us) → AllOnSides x ts × AllOnSides x us
-each_of_both x [] us h = (tt, h)
-each_of_both x (t ∷ ts) us h = let k = each_of_both x ts us h.1 in ((h.0, k.0), k.1)
+takes_all : (x : List Rational) (taken : List SplitTaken) → AreOnSides x taken → TakesAll x (sides_of taken)
+takes_all x [] h = tt
+takes_all x (t ∷ taken) h =
+    let first : IsOfColumn t.split × IsOnSide x (side_of t.split t.side) = h zero in
+    takes_both x (sides_of taken) (side_of t.split t.side ∷ []) (takes_all x taken (λ k. h (suc k))) (takes t.split t.side x first.0 first.1, tt)
 
-each_on_its_side : (x : List Rational) (taken : List SplitTaken) → AllOnSides x (sides_of taken) → AreOnSides x taken
-each_on_its_side x [] h k = tt
-each_on_its_side x (t ∷ taken) h zero = (each_of_both x (sides_of taken) (side_of t.split t.side ∷ []) h).1.0
-each_on_its_side x (t ∷ taken) h (suc k) = each_on_its_side x taken (each_of_both x (sides_of taken) (side_of t.split t.side ∷ []) h).0 k
-
-inside : (p : Problem) (x : List Rational) → Relaxed p x → (sides : List Side) → AllOnSides x sides → InsideBounds p sides x
-inside p x r [] h = inside_own p x r
-inside p x r (Low s ∷ sides) h = inside_low p s sides x (inside p x r sides h.1) h.0
-inside p x r (High s ∷ sides) h = inside_high p s sides x (inside p x r sides h.1) h.0
-
--- ---- and back: inside the bounds under the sides, a point is on each of them
+-- ---- and back: inside the bounds under the sides, a point is on each that is one of a column
 
 from_greater : (o : Option Rational) (b v : Rational) → greater o b ≤ℚ v → IfSome o (λ a. a ≤ℚ v) × (b ≤ℚ v)
 from_greater None b v h = (tt, h)
@@ -76,44 +69,75 @@ from_lesser (Some a) b v h = go (is_at_most a b) refl h
     go true e k = (k, le_trans v a b k (at_most_true a b e))
     go false e k = (le_trans v b a k (le_of_lt b a (at_most_false a b e)), k)
 
-above_next : (p : Problem) (s : Split) (at : List Side) (x : List Rational) → InsideBounds p (High s ∷ at) x → InsideBounds p at x × IsOnSide x (High s)
-above_next p s at x h = (record { within = λ j. record { low = before j (s.column == j) (h.within j).low; high = (h.within j).high } }, on (s.column == s.column) (eq-eqb s.column s.column refl) (h.within s.column).low)
+-- a split of a column narrows its bounds
+narrows_own : (s : Split) → IsOfColumn s → narrows s (split_column s) ≡ true
+narrows_own s e = column_narrows s (split_column s) e ∙ eq-eqb (split_column s) (split_column s) refl
+
+-- where the split is one of a column
+abbrev OnOwnSide : List Rational → Side → Type 0
+OnOwnSide x (Low s) = IsOfColumn s → IsOnSide x (Low s)
+OnOwnSide x (High s) = IsOfColumn s → IsOnSide x (High s)
+
+own_side : (x : List Rational) (s : Split) (side : TakenSide) → OnOwnSide x (side_of s side) → IsOfColumn s → IsOnSide x (side_of s side)
+own_side x s LowTaken h = h
+own_side x s HighTaken h = h
+
+above_next : (p : Problem) (s : Split) (at : List Side) (x : List Rational) → InsideBounds p (High s ∷ at) x → InsideBounds p at x × OnOwnSide x (High s)
+above_next p s at x h = (record { within = λ j. record { low = before j (narrows s j) (h.within j).low; high = (h.within j).high } }, λ e. on (narrows s j) (narrows_own s e) (h.within j).low)
   where
+    j : ℕ
+    j = split_column s
+
     before : (j : ℕ) (t : Bool) → IfSome (if t then Some (greater (lower_under p at j) (whole (s.at +ℤ pos 1))) else lower_under p at j) (λ b. b ≤ℚ number_at x j) → IfSome (lower_under p at j) (λ b. b ≤ℚ number_at x j)
     before j true k = (from_greater (lower_under p at j) (whole (s.at +ℤ pos 1)) (number_at x j) k).0
     before j false k = k
 
-    on : (t : Bool) → t ≡ true → IfSome (if t then Some (greater (lower_under p at s.column) (whole (s.at +ℤ pos 1))) else lower_under p at s.column) (λ b. b ≤ℚ number_at x s.column) → whole (s.at +ℤ pos 1) ≤ℚ number_at x s.column
-    on true e k = (from_greater (lower_under p at s.column) (whole (s.at +ℤ pos 1)) (number_at x s.column) k).1
+    on : (t : Bool) → t ≡ true → IfSome (if t then Some (greater (lower_under p at j) (whole (s.at +ℤ pos 1))) else lower_under p at j) (λ b. b ≤ℚ number_at x j) → whole (s.at +ℤ pos 1) ≤ℚ number_at x j
+    on true e k = (from_greater (lower_under p at j) (whole (s.at +ℤ pos 1)) (number_at x j) k).1
     on false e k = let never : false ≡ true = e in cc
 
-below_it : (p : Problem) (s : Split) (at : List Side) (x : List Rational) → InsideBounds p (Low s ∷ at) x → InsideBounds p at x × IsOnSide x (Low s)
-below_it p s at x h = (record { within = λ j. record { low = (h.within j).low; high = before j (s.column == j) (h.within j).high } }, on (s.column == s.column) (eq-eqb s.column s.column refl) (h.within s.column).high)
+below_it : (p : Problem) (s : Split) (at : List Side) (x : List Rational) → InsideBounds p (Low s ∷ at) x → InsideBounds p at x × OnOwnSide x (Low s)
+below_it p s at x h = (record { within = λ j. record { low = (h.within j).low; high = before j (narrows s j) (h.within j).high } }, λ e. on (narrows s j) (narrows_own s e) (h.within j).high)
   where
+    j : ℕ
+    j = split_column s
+
     before : (j : ℕ) (t : Bool) → IfSome (if t then Some (lesser (upper_under p at j) (whole s.at)) else upper_under p at j) (λ b. number_at x j ≤ℚ b) → IfSome (upper_under p at j) (λ b. number_at x j ≤ℚ b)
     before j true k = (from_lesser (upper_under p at j) (whole s.at) (number_at x j) k).0
     before j false k = k
 
-    on : (t : Bool) → t ≡ true → IfSome (if t then Some (lesser (upper_under p at s.column) (whole s.at)) else upper_under p at s.column) (λ b. number_at x s.column ≤ℚ b) → number_at x s.column ≤ℚ whole s.at
-    on true e k = (from_lesser (upper_under p at s.column) (whole s.at) (number_at x s.column) k).1
+    on : (t : Bool) → t ≡ true → IfSome (if t then Some (lesser (upper_under p at j) (whole s.at)) else upper_under p at j) (λ b. number_at x j ≤ℚ b) → number_at x j ≤ℚ whole s.at
+    on true e k = (from_lesser (upper_under p at j) (whole s.at) (number_at x j) k).1
     on false e k = let never : false ≡ true = e in cc
 
-on_all_sides : (p : Problem) (x : List Rational) (sides : List Side) → InsideBounds p sides x → AllOnSides x sides
-on_all_sides p x [] h = tt
-on_all_sides p x (Low s ∷ sides) h = let k = below_it p s sides x h in (k.1, on_all_sides p x sides k.0)
-on_all_sides p x (High s ∷ sides) h = let k = above_next p s sides x h in (k.1, on_all_sides p x sides k.0)
+abbrev OnOwnSides : List Rational → List Side → Type 0
+OnOwnSides x [] = Unit {0}
+OnOwnSides x (t ∷ sides) = OnOwnSide x t × OnOwnSides x sides
+
+on_own_sides : (p : Problem) (x : List Rational) (sides : List Side) → InsideBounds p sides x → OnOwnSides x sides
+on_own_sides p x [] h = tt
+on_own_sides p x (Low s ∷ sides) h = let k = below_it p s sides x h in (k.1, on_own_sides p x sides k.0)
+on_own_sides p x (High s ∷ sides) h = let k = above_next p s sides x h in (k.1, on_own_sides p x sides k.0)
+
+each_of_both : (x : List Rational) (ts us : List Side) → OnOwnSides x (ts ++ us) → OnOwnSides x ts × OnOwnSides x us
+each_of_both x [] us h = (tt, h)
+each_of_both x (t ∷ ts) us h = let k = each_of_both x ts us h.1 in ((h.0, k.0), k.1)
+
+on_its_side : (x : List Rational) (taken : List SplitTaken) → OnOwnSides x (sides_of taken) → (k : ℕ) (t : SplitTaken) → slice_get taken k ≡ Some t → IsOfColumn t.split → IsOnSide x (side_of t.split t.side)
+on_its_side x [] h k t e = cc
+on_its_side x (u ∷ taken) h zero t e =
+    let P : SplitTaken → Type 0 = λ v. OnOwnSide x (side_of v.split v.side) in
+    own_side x t.split t.side (subst P (same_Some u t e) (each_of_both x (sides_of taken) (side_of u.split u.side ∷ []) h).1.0)
+on_its_side x (u ∷ taken) h (suc k) t e = on_its_side x taken (each_of_both x (sides_of taken) (side_of u.split u.side ∷ []) h).0 k t e
 
 -- the parts of a point of the node's relaxation
 pub in_columns : (p : Problem) (ds : List Derived) (sides : List Side) (x : List Rational) → IsNodePoint p ds sides x → AreInColumns p.columns x
 in_columns p ds sides x h = record { size = h.relaxed.size; within = h.relaxed.columns }
 
-pub on_its_sides : (p : Problem) (ds : List Derived) (taken : List SplitTaken) (x : List Rational) → IsNodePoint p ds (sides_of taken) x → AreOnSides x taken
-on_its_sides p ds taken x h = each_on_its_side x taken (on_all_sides p x (sides_of taken) h.columns)
-
 pub node_point : (p : Problem) (ds : List Derived) (taken : List SplitTaken) (x : List Rational) → AreInColumns p.columns x → AreInRows p.rows x → AllDerived x ds → AreOnSides x taken → IsNodePoint p ds (sides_of taken) x
 node_point p ds taken x columns rows cuts sides =
     let r : Relaxed p x = record { size = columns.size; columns = columns.within; rows = rows } in
-    record { relaxed = r; columns = inside p x r (sides_of taken) (all_on_sides x taken sides); derived = cuts }
+    record { relaxed = r; columns = inside_taken p (sides_of taken) x r (takes_all x taken sides); derived = cuts }
 
 -- the same, by parts that are lent
 pub node_point_by : (p : Problem) (ds : List Derived) (taken : List SplitTaken) (x : List Rational) (columns : List Column) (rows : List Row) (cuts : List Derived) (y : List Rational) → columns ≡ p.columns → rows ≡ p.rows → cuts ≡ ds → y ≡ x
@@ -131,12 +155,12 @@ same_within l m u v a b e f g h = rw (sym e, sym f, sym g) h
 pub meets_by : (a b v u : Rational) → a ≡ b → v ≡ u → a ≤ℚ v → b ≤ℚ u
 meets_by a b v u e f h = rw (sym e, sym f) h
 
--- not on each side, by parts that are lent
-pub not_node_point : (p : Problem) (ds : List Derived) (taken splits : List SplitTaken) (x y : List Rational) → taken ≡ splits → y ≡ x → (AreOnSides y taken → ⊥) → IsNodePoint p ds (sides_of splits) x → ⊥
-not_node_point p ds taken splits x y e f fails point =
-    let P : List SplitTaken → Type 0 = λ ts. AreOnSides y ts in
-    let Q : List Rational → Type 0 = λ z. AreOnSides z splits in
-    fails (subst P (sym e) (subst Q (sym f) (on_its_sides p ds splits x point)))
+-- off a side, by parts that are lent
+pub not_node_point : (p : Problem) (ds : List Derived) (taken splits : List SplitTaken) (x y : List Rational) → taken ≡ splits → y ≡ x → IsOffSide y taken → IsNodePoint p ds (sides_of splits) x → ⊥
+not_node_point p ds taken splits x y e f off point =
+    let P : List SplitTaken → Type 0 = λ ts. slice_get ts off.place ≡ Some off.split in
+    let Q : List Rational → Type 0 = λ z. ¬ (IsOnSide z (side_of off.split.split off.split.side)) in
+    subst Q f off.off (on_its_side x splits (on_own_sides p x (sides_of splits) point.columns) off.place off.split (subst P e off.there) off.form)
 
 -- ---- along a list
 

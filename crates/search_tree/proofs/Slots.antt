@@ -1,10 +1,7 @@
 -- A tree's preorder.
-use Rattle.std.proofs.Common.{◌≡◌, ◌+◌, ◌*◌, length, length-append, arith, refl, sym, ap}
+use Rattle.std.proofs.Common.{◌≡◌, ◌+◌, ◌*◌, length, length-append, arith, refl}
 use Rattle.search_tree.specs.Tree.{Tree, Divided, AtLeaf, made}
-use Rattle.search_tree.specs.Slots.{slots_of, AreOneTree, tree_again}
-
-pub one_tree : (t : Tree) → AreOneTree (slots_of t)
-one_tree t = ap slots_of (sym (tree_again t))
+use Rattle.search_tree.specs.Slots.{slots_of}
 
 -- splits are half of the nodes
 pub nodes_count : (t : Tree) → length (slots_of t) ≡ made t * 2 + 1

@@ -6,7 +6,7 @@ use Rattle.milp.specs.Problem.{Problem}
 use Rattle.milp.specs.Points.{Feasible, objective_value, sign_of}
 use Rattle.instance.specs.Sums.{value_answer, meets_answer}
 use Rattle.verdicts.specs.Certificate.{Side, Derived, TreeNode, Empty, Bound}
-use Rattle.verdicts.specs.Proves.{InsideBounds}
+use Rattle.verdicts.specs.Proves.{TakesAll}
 use Rattle.cert_check.specs.Parts.{derived_answer}
 use Rattle.search_tree.specs.declared.leaf.Leaf.{Leaf}
 use Rattle.search_tree.specs.declared.leaf.Leaf.TheVariants.{Todo, Treated, Leased, Refuted, Bounded, NotFitting, AtLimit}
@@ -51,10 +51,10 @@ closed_node (Bounded w) = Some (Bound w)
 closed_node (NotFitting e) = None
 closed_node (AtLimit bases) = None
 
--- x lies in a leaf that is not closed
-abbrev pub LiesIn : Problem → List Rational → List Side → Leaf → Type 0
-LiesIn p x sides leaf = (closed_node leaf ≡ None) × InsideBounds p sides x
+-- x lies in a leaf that is not closed: it is on the side taken of each split on the way to it
+abbrev pub LiesIn : List Rational → List Side → Leaf → Type 0
+LiesIn x sides leaf = (closed_node leaf ≡ None) × TakesAll x sides
 
 -- each feasible point that is better than the best lies in a leaf that is not closed
 pub record IsCovered (b : Board) : Type 0 where
-  pub covers : (x : List Rational) → Feasible b.problem x → Beats b.problem (value_of b) x → SomeLeaf (LiesIn b.problem x) [] b.tree
+  pub covers : (x : List Rational) → Feasible b.problem x → Beats b.problem (value_of b) x → SomeLeaf (LiesIn x) [] b.tree

@@ -5,6 +5,7 @@ use Rattle.milp.specs.Form.{number_at}
 use Rattle.milp.specs.Problem.{Problem}
 use Rattle.milp.specs.Points.{IsWhole, IsBetter, objective_value, sign_of}
 use Rattle.verdicts.specs.Certificate.{Split, Side, Derived, TreeNode, Empty, Bound}
+use Rattle.certificate.specs.Written.{column_form, split_column}
 use Rattle.basis.specs.Node.{system_of, integer_at, IsNodePoint}
 use Rattle.cert_check.specs.Parts.{node_answer}
 use Rattle.cert_check.specs.Outcome.{form_goal}
@@ -19,16 +20,17 @@ pub record IsRelaxedOptimum (p : Problem) (ds : List Derived) (sides : List Side
   pub point : IsNodePoint p ds sides x
   pub none_better : (y : List Rational) → IsNodePoint p ds sides y → ¬ (IsBetter p y x)
 
--- The split is on an integer column, whose number at an optimal point of the node's relaxation is strictly between its sides, and
+-- The split is one of an integer column, whose number at an optimal point of the node's relaxation is strictly between its sides, and
 -- is told by what rests at that point. So far out on a face of optimal points that has no end there is no honest split: the
 -- numbers that can be told so are those of the vertices.
 pub record IsHonestSplit (p : Problem) (ds : List Derived) (sides : List Side) (s : Split) : Type 0 where
-  pub integer : integer_at p s.column ≡ true
+  pub form : s.form ≡ column_form (split_column s)
+  pub integer : integer_at p (split_column s) ≡ true
   pub point : List Rational
   pub is_optimum : IsRelaxedOptimum p ds sides point
-  pub pinned : IsPinned (system_of p ds sides) point s.column
-  pub above : whole s.at <ℚ number_at point s.column
-  pub below : number_at point s.column <ℚ whole (s.at +ℤ pos 1)
+  pub pinned : IsPinned (system_of p ds sides) point (split_column s)
+  pub above : whole s.at <ℚ number_at point (split_column s)
+  pub below : number_at point (split_column s) <ℚ whole (s.at +ℤ pos 1)
 
 -- x is better than the value, or any point where there is none
 abbrev pub Beats : Problem → Option Rational → List Rational → Type 0

@@ -10,7 +10,7 @@ ghost use Rattle.search_node.specs.Sides.{sides_of};
 ghost use Rattle.rational.specs.Rational.{zero_ℚ};
 ghost use Rattle.instance.specs.Sums.{sum_answer};
 ghost use Rattle.cert_check.specs.Sums.{next_answer};
-ghost use Rattle.search_tree.specs.Points.{AreInColumns, AreInRows, IsOnSide, AreOnSides};
+ghost use Rattle.search_tree.specs.Points.{AreInColumns, AreInRows, IsOnSide, IsOfColumn, AreOnSides, IsOffSide};
 ghost use Rattle.search_tree.specs.Faults.{IsRowFault, IsCutFault, IsSideFault, AreSideFaults, IsPointFault};
 
 use certificate::{Derived, DerivedRows, Side, WholeNumber};
@@ -103,7 +103,7 @@ fn meets_cuts(cuts: &[Derived], x: &[Frac]) -> Result<bool, NoFit>
 // The point is on the side of each split.
 fn is_on_sides(splits: &[SplitTaken], x: &[Frac]) -> Result<bool, NoFit>
     ensures yes { IfOk result (λ b. b ≡ true → AreOnSides x.now splits.now) }
-    ensures no { IfOk result (λ b. b ≡ false → ¬ (AreOnSides x.now splits.now)) }
+    ensures no { IfOk result (λ b. b ≡ false → IsOffSide x.now splits.now) }
     ensures fault { IfErr result (AreSideFaults splits.now) }
 {
     let mut k = 0;
@@ -116,10 +116,11 @@ fn is_on_sides(splits: &[SplitTaken], x: &[Frac]) -> Result<bool, NoFit>
     Ok(true)
 }
 
-// The point is on the side of a split.
+// The point is on the side of a split, which is one of a column.
 fn is_on_side(taken: &SplitTaken, x: &[Frac]) -> Result<bool, NoFit>
     ensures yes { IfOk result (λ b. b ≡ true → IsOnSide x.now (side_of taken.now.split taken.now.side)) }
     ensures no { IfOk result (λ b. b ≡ false → ¬ (IsOnSide x.now (side_of taken.now.split taken.now.side))) }
+    ensures form { IsOfColumn taken.now.split }
     ensures fault { IfErr result (IsSideFault (side_of taken.now.split taken.now.side)) }
 {
     let value = number(x, taken.split.column());

@@ -1,7 +1,8 @@
 -- Bounds under splits.
-use Rattle.std.specs.Prelude.{ℕ, ◌<◌, ◌≡◌, pos, ◌+ℤ◌, List, get_or, Some, None, IfSome, slice_get}
+use Rattle.std.specs.Prelude.{ℕ, ◌≡◌, pos, ◌+ℤ◌, List, get_or, Some, None, IfSome, slice_get}
 use Rattle.rational.specs.Rational.{Rational, one_ℚ, whole}
 use Rattle.verdicts.specs.Certificate.{Side, Low, High}
+use Rattle.verdicts.specs.WeightedSums.{AllBelow}
 use Rattle.verdicts.specs.Proves.{lesser, greater}
 use Rattle.basis.specs.System.{Bounds}
 use Rattle.basis.specs.Numbers.{at_of}
@@ -21,9 +22,9 @@ no_bounds = record { lower = None; upper = None }
 abbrev pub bounds_at : List Bounds → ℕ → Bounds
 bounds_at bounds j = get_or bounds j no_bounds
 
--- all splits are on the first n columns
+-- all splits are of forms over the first n columns
 abbrev pub AreOnColumns : ℕ → List SplitTaken → Type 0
-AreOnColumns n taken = (k : ℕ) → IfSome (slice_get taken k) (λ t. t.split.column < n)
+AreOnColumns n taken = (k : ℕ) → IfSome (slice_get taken k) (λ t. AllBelow n t.split.form)
 
 -- f is the sum of a and 1, and does not fit
 pub record IsNextFault (a : Rational) (f : NoFit) : Type 0 where

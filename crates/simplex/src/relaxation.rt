@@ -79,18 +79,18 @@ fn narrowed_bounds(
 {
     let mut bounds = bounds_of(alloc, instance.columns())?;
     for taken in splits {
-        bounds = narrow(bounds, taken)?;
+        let column = taken.split.column() as usize;
+        bounds = narrow(bounds, column, taken)?;
     }
     Ok(bounds)
 }
 
-// One more split.
-fn narrow(mut bounds: Vec<Bounds>, taken: &SplitTaken) -> Result<Vec<Bounds>, NoFit>
-    requires { taken.now.split.column < length bounds.items }
-    ensures ok { IfOk result (λ b. b.items ≡ set bounds.items taken.now.split.column (narrowed_by (side_of taken.now.split taken.now.side) (bounds_at bounds.items taken.now.split.column))) }
+// One more split, of this column.
+fn narrow(mut bounds: Vec<Bounds>, column: usize, taken: &SplitTaken) -> Result<Vec<Bounds>, NoFit>
+    requires { column < length bounds.items }
+    ensures ok { IfOk result (λ b. b.items ≡ set bounds.items column (narrowed_by (side_of taken.now.split taken.now.side) (bounds_at bounds.items column))) }
     ensures err { IfErr result (IsSplitFault (side_of taken.now.split taken.now.side)) }
 {
-    let column = taken.split.column() as usize;
     bounds[column] = narrowed(bounds[column], taken.split, taken.side)?;
     Ok(bounds)
 }

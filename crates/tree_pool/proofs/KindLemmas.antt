@@ -145,6 +145,3 @@ sum_is f (Divided s low high) =
 
 pub leased_is : (kinds : List Kind) (t : Tree) → kinds ≡ map kind_of (slots_of t) → lease_count kinds ≡ leased t
 leased_is kinds t are = ap lease_count are ∙ sum_is (λ n. 1) t
-
-pub count_more : (kinds rest : List Kind) (count more : ℕ) (k : Kind) → kinds ≡ k ∷ rest → more ≡ of_kind (λ m. 1) k → count + more + lease_count rest ≡ count + lease_count kinds
-count_more kinds rest count more k e is_more = let f = ap lease_count e in omega arith

@@ -10,7 +10,6 @@ use Rattle.verdicts.specs.Certificate.{Split}
 use Rattle.search_tree.specs.declared.leaf.Slot.{Slot}
 use Rattle.search_tree.specs.declared.leaf.Slot.TheVariants as slot
 use Rattle.tree_pool.specs.declared.refs.NodeRef.{NodeRef}
-use Rattle.tree_pool.specs.declared.refs.NodeRef.TheVariants.{Again}
 use Rattle.search_node.specs.declared.node.SplitTaken.{SplitTaken}
 use Rattle.search_tree.specs.Tree.{Tree, Divided, AtLeaf, at_place, replaced, made, reclaimed, given_back, lease_of}
 use Rattle.search_tree.proofs.Laws.{made_reclaimed, made_replaced}
@@ -355,18 +354,3 @@ all_back node t paths refs news are many back same = record {
   where
     old : (p : ℕ) → p < length news → p < length refs
     old p within = subst (λ n. p < n) many within
-
--- ---- the root alone
-
-pub one_node : (node : NodeRef → Slot) (leaf : Leaf) → node Again ≡ slot.Leaf leaf → AreNodes node (AtLeaf leaf) ([] ∷ []) (Again ∷ [])
-one_node node leaf is_leaf = record {
-  count = refl;
-  each = refl;
-  root = refl;
-  stands = λ p within. subst (λ n. IsOn (AtLeaf leaf) (path_at ([] ∷ []) n) (node (ref_at (Again ∷ []) n))) (sym (first p within)) (record { there = ap Some (sym is_leaf); are_taken = refl });
-  sides = λ p s within e. absurd (no_split leaf s (sym is_leaf ∙ ap (λ n. node (ref_at (Again ∷ []) n)) (sym (first p within)) ∙ e));
-  apart = λ p q less also e. first p less ∙ sym (first q also);
-}
-  where
-    first : (p : ℕ) → p < length (Again ∷ []) → p ≡ 0
-    first p within = omega arith

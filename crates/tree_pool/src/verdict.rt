@@ -1,5 +1,6 @@
 // The certificate of a board's verdict.
 ghost use Rattle.std.specs.Prelude.{◌≡◌, length, true, IsTrue, IfSome, Some, None, is_some};
+ghost use Rattle.verdicts.specs.Certificate.{One};
 ghost use Rattle.certificate.specs.Written.{is_tree};
 ghost use Rattle.search_tree.specs.Finished.{verdict_of};
 
@@ -19,7 +20,7 @@ pub(crate) fn certificate_with(
     requires tree { IsTrue (is_tree tree) }
     requires size { IfSome best (λ x. length x ≡ columns) }
     requires value { is_some value ≡ is_some best }
-    ensures { result ≡ record { rows = rows; columns = columns; verdict = verdict_of best; value = value; point = best; ray = None; derived = cuts; tree = tree } }
+    ensures { result ≡ record { version = One; rows = rows; columns = columns; verdict = verdict_of best; value = value; point = best; ray = None; derived = cuts; tree = tree } }
 {
     match best {
         None => Certificate::infeasible(rows, columns, cuts, tree),

@@ -34,7 +34,7 @@ abbrev origin : List Rational
 origin = zero_ℚ ∷ []
 
 abbrev no_weights : Weights
-no_weights = record { rows = []; columns = []; derived = [] }
+no_weights = record { rows = []; columns = []; derived = []; splits = [] }
 
 point_fits : (integer : Bool) → IsOk (point_answer (any_x integer) (Some origin))
 point_fits true = refl

@@ -27,7 +27,7 @@ at_root integer form = system_of (over_x integer [] form) [] []
 
 -- this number as the weight on x, unless it is 0
 abbrev pub weighed : Rational → Weights
-weighed g = record { rows = []; columns = items_at 0 (nonzero g) ++ []; derived = [] }
+weighed g = record { rows = []; columns = items_at 0 (nonzero g) ++ []; derived = []; splits = [] }
 
 -- x is 0 and rises, and the objective falls
 pub record IsRising (d : Dictionary) (x r : ℕ → Rational) : Type 0 where

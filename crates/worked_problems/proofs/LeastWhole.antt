@@ -114,13 +114,13 @@ no_operation a op c (IsNodeOperation.of_ray b d x q r v u k e o f) = never_unbou
 
 -- this number as the weight on the column, unless it is 0
 abbrev weighed : Rational → Weights
-weighed g = record { rows = []; columns = items_at 0 (nonzero g) ++ []; derived = [] }
+weighed g = record { rows = []; columns = items_at 0 (nonzero g) ++ []; derived = []; splits = [] }
 
 module _ (x : List Rational) (w : Weights) (b : List Place) (d : Dictionary) (h : IsOptimalRelaxation least_whole [] [] x w b d) where
   point_is : x ≡ whole (pos 2) ∷ []
   point_is = h.point ∙ ap (λ a. a ∷ []) (at_two h.values (at_first (λ c. IsBasicPoint s c h.values) b h.is_optimal.before h.is_optimal.is_run h.is_optimal.is_point))
 
-  weights_are : w ≡ record { rows = []; columns = record { index = 0; weight = one_ℚ } ∷ []; derived = [] }
+  weights_are : w ≡ record { rows = []; columns = record { index = 0; weight = one_ℚ } ∷ []; derived = []; splits = [] }
   weights_are = h.weights ∙ ap weighed (gain_one d (at_first (λ c. IsDictionary s c d) b h.is_optimal.before h.is_optimal.is_run h.is_optimal.is_dictionary))
 
 value_fits : IsOk (value_answer least_whole (whole (pos 2) ∷ []))
@@ -130,7 +130,7 @@ value_fits = refl
 point_fits : IsOk (point_answer least_whole (Some (whole (pos 2) ∷ [])))
 point_fits = refl
 
-bound_fits : (goal : Option Rational) → IsOk (node_answer (node_setting least_whole [] []) goal (Bound (record { rows = []; columns = record { index = 0; weight = one_ℚ } ∷ []; derived = [] })))
+bound_fits : (goal : Option Rational) → IsOk (node_answer (node_setting least_whole [] []) goal (Bound (record { rows = []; columns = record { index = 0; weight = one_ℚ } ∷ []; derived = []; splits = [] })))
 unfolding ◌+ℚ◌ ◌*ℚ◌ over gcd gcd_within
 bound_fits None = refl
 bound_fits (Some v) = refl

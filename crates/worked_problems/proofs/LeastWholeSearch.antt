@@ -9,6 +9,7 @@ use Rattle.milp.specs.Form.{number_at}
 use Rattle.milp.specs.Points.{IsBetter, IsImprovingRay, IsOptimal, IsWhole, IsWithin, Feasible, Relaxed, objective_value}
 use Rattle.verdicts.specs.Certificate.{Split}
 use Rattle.verdicts.specs.Proves.{lower_under, upper_under}
+use Rattle.certificate.specs.Written.{split_column}
 use Rattle.basis.specs.Node.{IsNodePoint, integer_at}
 use Rattle.search_tree.specs.Nodes.{IsHonestSplit, IsRelaxedOptimum}
 use Rattle.branch_search.specs.declared.whole_fault.Wanted.TheVariants.{Best, Any}
@@ -66,7 +67,7 @@ module _ (x : List Rational) (h : IsRelaxedOptimum least_whole [] [] x) where
 -- ---- no split is honest
 
 no_split : (s : Split) → ¬ (IsHonestSplit least_whole [] [] s)
-no_split s h = at_column s.column h.integer h.above h.below
+no_split s h = at_column (split_column s) h.integer h.above h.below
   where
     at_column : (j : ℕ) → integer_at least_whole j ≡ true → whole s.at <ℚ number_at h.point j → number_at h.point j <ℚ whole (s.at +ℤ pos 1) → ⊥
     at_column zero e above below = never_between h.point h.is_optimum s.at above below

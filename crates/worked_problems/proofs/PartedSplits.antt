@@ -1,5 +1,5 @@
 -- min x, 1 <= 3 x <= 2, x >= 0 and whole: one split is honest, and none below it.
-use Rattle.std.proofs.Common.{◌≡◌, ◌∙◌, ℕ, zero, suc, ◌<◌, ◌≤◌, List, [], ◌∷◌, true, refl, sym, subst, arith, inl, inr}
+use Rattle.std.proofs.Common.{◌≡◌, ◌∙◌, ℕ, zero, suc, ◌<◌, ◌≤◌, List, [], ◌∷◌, true, refl, sym, ap, subst, arith, inl, inr}
 use mathlib.Core.Path.{ap₂}
 use Rattle.std.specs.Prelude.{ℤ, pos, negsuc, ◌+ℤ◌, IfSome, slice_get}
 use Rattle.std.proofs.lemmas.Int.{ints}
@@ -9,6 +9,7 @@ use Rattle.milp.specs.Form.{number_at}
 use Rattle.milp.specs.Points.{Relaxed, Feasible, IsImprovingRay}
 use Rattle.verdicts.specs.Certificate.{Side, Low, High, Split, Weights}
 use Rattle.verdicts.specs.WeightedSums.{AllBelow}
+use Rattle.certificate.specs.Written.{column_form, split_column}
 use Rattle.basis.specs.Dictionary.{Dictionary}
 use Rattle.basis.specs.Node.{system_of, integer_at, IsOverColumns}
 use Rattle.basis.specs.Relaxation.{IsOptimalRelaxation}
@@ -71,10 +72,12 @@ integer_is_x zero e = refl
 integer_is_x (suc j) e = cc
 
 root_split : (t : Split) → IsHonestSplit parted [] [] t → t ≡ at_zero
-root_split t h = ap₂ (λ j n. let u : Split = record { column = j; at = n } in u) at_x (split_at h.point h.is_optimum.point.relaxed t.at (subst (λ j. whole t.at <ℚ number_at h.point j) at_x h.above) (subst (λ j. number_at h.point j <ℚ whole (t.at +ℤ pos 1)) at_x h.below))
+root_split t h =
+    ap₂ (λ f n. let u : Split = record { form = f; at = n } in u) (h.form ∙ ap column_form at_x)
+    (split_at h.point h.is_optimum.point.relaxed t.at (subst (λ j. whole t.at <ℚ number_at h.point j) at_x h.above) (subst (λ j. number_at h.point j <ℚ whole (t.at +ℤ pos 1)) at_x h.below))
   where
-    at_x : t.column ≡ 0
-    at_x = integer_is_x t.column h.integer
+    at_x : split_column t ≡ 0
+    at_x = integer_is_x (split_column t) h.integer
 
 none_on_low : (t : Split) → ¬ (IsHonestSplit parted [] (Low at_zero ∷ []) t)
 none_on_low t h = never_low h.point h.is_optimum.point.relaxed (let column = h.is_optimum.point.columns.within 0 in column.high)
@@ -127,6 +130,7 @@ is_over_columns = record { objective = (omega arith, tt); rows = rows; derived =
 
 pub is_honest : BasisLaws → OptimaAreShown → OptimaArePinned → IsHonestSplit parted [] [] at_zero
 is_honest laws shown pinned = record {
+  form = refl;
   integer = refl;
   point = third ∷ [];
   is_optimum = shown _ _ _ _ is_over_columns (is_relaxation laws);

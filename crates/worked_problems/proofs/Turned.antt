@@ -30,7 +30,7 @@ of_row integer a lo hi o = over_x integer (row_of_x a lo hi ∷ []) (times_x o)
 
 -- these numbers as the weights on the row and on x, unless they are 0
 abbrev pub weighed : Rational → Rational → Weights
-weighed row column = record { rows = items_at 0 (nonzero row) ++ []; columns = items_at 0 (nonzero column) ++ []; derived = [] }
+weighed row column = record { rows = items_at 0 (nonzero row) ++ []; columns = items_at 0 (nonzero column) ++ []; derived = []; splits = [] }
 
 pub in_order_never_crossed : (s : System) (v : ℕ) → AreBoundsInOrder s → ¬ (IsContradictory s v)
 in_order_never_crossed s v h k = Q.lt-not-le _ _ k.crossed (ordered (lower_of s v) (upper_of s v) (h v) k.is_lower k.is_upper)

@@ -2,6 +2,7 @@
 use Rattle.std.proofs.Common.{◌≡◌, ℕ, ◌≤◌, List, [], ◌∷◌, Bool, true, false, subst, arith}
 use Rattle.milp.specs.Problem.{Problem}
 use Rattle.verdicts.specs.Certificate.{Derived, Side, Low, High, Split}
+use Rattle.certificate.specs.Written.{split_column}
 use Rattle.fraction.specs.declared.frac.NoFit.{NoFit}
 use Rattle.basis.specs.Node.{system_of, integer_at}
 use Rattle.basis.specs.declared.Place.{Place}
@@ -17,7 +18,7 @@ use Rattle.worked_problems.specs.Unhindered.{IsUnhindered}
 
 -- a split is of a column that is to be whole
 pub none_whole : (p : Problem) → ((j : ℕ) → integer_at p j ≡ false) → (s : Split) → ¬ (IsHonestSplit p [] [] s)
-none_whole p real s h = true_or_false (integer_at p s.column) h.integer (real s.column)
+none_whole p real s h = true_or_false (integer_at p (split_column s)) h.integer (real (split_column s))
   where
     true_or_false : (t : Bool) → t ≡ true → t ≡ false → ⊥
     true_or_false t e f = cc

@@ -4,6 +4,7 @@ use Rattle.rational.specs.Rational.{Rational, zero_ℚ, one_ℚ, whole}
 use Rattle.milp.specs.Form.{Entry}
 use Rattle.milp.specs.Problem.{Row, Problem}
 use Rattle.verdicts.specs.Certificate.{Split}
+use Rattle.certificate.specs.Written.{column_split}
 use Rattle.milp.specs.declared.Direction.TheVariants.{Min}
 
 -- the form a * x
@@ -39,7 +40,7 @@ parted = over_x true (row_of_x (whole (pos 3)) (Some one_ℚ) (Some (whole (pos 
 
 -- the split of x at 0
 abbrev pub at_zero : Split
-at_zero = record { column = 0; at = pos 0 }
+at_zero = column_split 0 (pos 0)
 
 -- min 0, x >= 0 and whole
 abbrev pub any_whole : Problem

@@ -2,7 +2,7 @@ use Rattle.std.proofs.Common.{◌≡◌, List, true, false, Bool, subst}
 use Rattle.basis.specs.Node.{IsNodePoint}
 use Rattle.search_node.specs.Sides.{sides_of}
 use Rattle.search_node.specs.declared.node.SplitTaken.{SplitTaken}
-use Rattle.search_tree.specs.Points.{AreOnSides}
+use Rattle.search_tree.specs.Points.{AreOnSides, IsOffSide}
 use Rattle.search_tree.proofs.NodePoints.{node_point_by, not_node_point, if_ok}
 use Rattle.search_tree.proofs.points.is_node_point.Goals as goal
 
@@ -23,7 +23,7 @@ pub returns-clause-no : goal.returns-clause-no
 returns-clause-no c =
     let x = c.as_slice-x.result.now in
     let taken = c.as_slice-taken.result.now in
-    let P : Bool → Type 0 = λ b. b ≡ false → ¬ (AreOnSides x taken) in
+    let P : Bool → Type 0 = λ b. b ≡ false → IsOffSide x taken in
     let Q : Bool → Type 0 = λ b. b ≡ false → ¬ (IsNodePoint c.args.problem.now c.args.cuts.now (sides_of c.args.splits.now) c.args.point.now) in
     if_ok c.is_on_sides.result P Q
     (λ b off t. not_node_point c.args.problem.now c.args.cuts.now taken c.args.splits.now c.args.point.now x c.as_slice-taken.ensures c.as_slice-x.ensures (off t))

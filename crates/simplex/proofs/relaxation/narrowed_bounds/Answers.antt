@@ -1,6 +1,9 @@
-use Rattle.std.proofs.Common.{◌∙◌, ◌<◌, length, map, take, subst, sym, ap}
+use Rattle.std.proofs.Common.{◌∙◌, ◌<◌, length, map, set, take, subst, sym, ap}
+use Rattle.certificate.specs.Written.{split_column}
 use Rattle.search_node.specs.Sides.{sides_of}
+use Rattle.certificate.specs.Ways.{side_of}
 use Rattle.simplex.specs.Bounds.{column_bounds}
+use Rattle.simplex.specs.Narrowed.{narrowed_by, bounds_at}
 use Rattle.simplex.proofs.NodeParts.{columns_alone}
 use Rattle.simplex.proofs.RayNumbers.{fault_from}
 use Rattle.simplex.proofs.Narrowing.{split_read, split_on, length_under, split_fault, one_more_split}
@@ -14,8 +17,9 @@ narrow-requires c =
     let p = c.args.instance.now in
     let taken = c.args.splits.now in
     let i = c.loop-taken.taken-index in
-    let inside : c.taken-item.result.split.column < length p.columns = split_on (length p.columns) taken i c.taken-item.result c.requires (split_read taken i c.taken-item.result c.loop-taken-test.true c.taken-item.is) in
-    subst (λ n. c.taken-item.result.split.column < n) (sym (length_under p (sides_of (take i taken)) c.loop-taken.bounds.items c.loop-taken.invariant)) inside
+    let inside : split_column c.taken-item.result.split < length p.columns =
+    split_on (length p.columns) taken i c.taken-item.result c.requires (split_read taken i c.taken-item.result c.loop-taken-test.true c.taken-item.is) c.column-column.ensures.written in
+    subst (λ n. n < length c.loop-taken.bounds.items) (sym c.column-column.ensures.column) (subst (λ n. split_column c.taken-item.result.split < n) (sym (length_under p (sides_of (take i taken)) c.loop-taken.bounds.items c.loop-taken.invariant)) inside)
 
 pub returns-in_err-bounds-2-clause-err : goal.returns-in_err-bounds-2-clause-err
 returns-in_err-bounds-2-clause-err c =
@@ -28,4 +32,7 @@ pub loop-taken-preserved : goal.loop-taken-preserved
 loop-taken-preserved c =
     let taken = c.args.splits.now in
     let i = c.loop-taken.taken-index in
-    one_more_split c.args.instance.now taken i c.taken-item.result c.loop-taken.bounds.items c.in_ok-bounds-2.bounds.items c.requires (split_read taken i c.taken-item.result c.loop-taken-test.true c.taken-item.is) c.loop-taken.invariant c.in_ok-bounds-2.ensures.ok
+    let old = c.loop-taken.bounds.items in
+    let t = c.taken-item.result in
+    let made = c.in_ok-bounds-2.ensures.ok ∙ ap (λ j. set old j (narrowed_by (side_of t.split t.side) (bounds_at old j))) c.column-column.ensures.column in
+    one_more_split c.args.instance.now taken i t old c.in_ok-bounds-2.bounds.items c.requires (split_read taken i t c.loop-taken-test.true c.taken-item.is) c.column-column.ensures.written c.loop-taken.invariant made
