@@ -4,7 +4,6 @@ use Rattle.std.proofs.lemmas.List.{append_assoc}
 use Rattle.milp.specs.Problem.{Problem, Row}
 use Rattle.gmpl_value.specs.declared.symbol.Symbol.{Symbol}
 use Rattle.gmpl_member_names.specs.Names.{member_name}
-use Rattle.gmpl_solution.specs.declared.member.Member.{Member}
 use Rattle.gmpl_rows.specs.Demanded.{Demanded}
 use Rattle.gmpl_rows.specs.Draft.{Draft, row_member}
 use Rattle.gmpl_rows.specs.MemberColumn.{MemberColumn, is_used}
