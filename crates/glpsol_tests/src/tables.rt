@@ -12,6 +12,8 @@ const READ: &str = "\
 0 OPTIMAL$objective z 7/2$column x[a] 3$column x[b] 1/2$row z 7/2$row r[a] 3$row r[b] 1/2$3.5$ <- --math f <- set K; param v{K}; table t IN 'CSV' 'c': K<-[k]; table u IN 'CSV' 'd': [k], v; var x{K} >= 0; minimize z: sum{i in K} x[i]; s.t. r{i in K}: x[i] >= v[i]; solve; printf '%.1f\\n', z; end; <- k$a$b$ <- v,k$0.5,b$3,a$
 2 OPTIMAL$objective z 1$column x 1$row z 1$model fault: statement 4, line 1: DivZero$ <- --math f <- var x >= 1; minimize z: x; solve; table t{i in 1..2} OUT 'CSV' 'y': 1/(x-1) ~ v; end;
 2 syntax fault: statement 3, line 1: NotAStatement$ <- --math f <- set K; solve; table t IN 'CSV' 'c': K<-[k]; end; <- k$a$
+0 OPTIMAL$objective z 5$column x 5$row z 5$display = 5$ <- --math f <- param u{1..1} default 5; var x >= 0, <= u[1]; maximize z: x; table t IN \"CSV\" \"c\": [k], u; solve; display x.ub; end; <- k,u$1,7$
+0 OPTIMAL$objective z 5$column x 5$row z 5$0 5 7$ <- --math f <- param u{1..1} default 5; var x >= 0, <= u[1]; var y <= u[1]; maximize z: x; table t IN 'CSV' 'c': [k], u; solve; printf '%d %d %d\\n', x.lb, x.ub, y.ub; end; <- k,u$1,7$
 ";
 
 #[test]

@@ -12,7 +12,7 @@ use fraction::Frac;
 use gmpl_functions::{Form, Variable};
 use gmpl_meaning::Bounds;
 use gmpl_operations::Value;
-use gmpl_solution::{Member, Solution, SolvedRow};
+use gmpl_solution::{Member, Solution, SolvedMember};
 use gmpl_syntax::Suffix;
 use gmpl_value::{EvalFault, Tuple};
 use std::alloc::Global;
@@ -102,27 +102,75 @@ pub(crate) fn variable_value(
     }
 }
 
-// What is asked of a row.
-fn row_asked(asked: Option<Suffix>, row: SolvedRow) -> Result<Value, EvalFault>
-    ensures { result ≡ members.row_asked asked row }
+// What is asked of a column or of a row.
+pub(crate) fn solved_asked(asked: Option<Suffix>, member: SolvedMember) -> Result<Value, EvalFault>
+    ensures { result ≡ members.solved_asked asked member }
 {
     match asked {
-        None => Ok(Value::number(row.value)),
+        None => Ok(Value::number(member.value)),
         Some(suffix) => match suffix {
-            Suffix::Value => Ok(Value::number(row.value)),
-            Suffix::LowerBound => bound_value(row.lower),
-            Suffix::UpperBound => bound_value(row.upper),
+            Suffix::Value => Ok(Value::number(member.value)),
+            Suffix::LowerBound => bound_value(member.lower),
+            Suffix::UpperBound => bound_value(member.upper),
             Suffix::LeftOut => Err(EvalFault::NoValue),
         },
     }
 }
 
-fn row_found(asked: Option<Suffix>, row: Option<SolvedRow>) -> Result<Value, EvalFault>
+fn asks_bound(asked: Option<Suffix>) -> bool
+    ensures { result ≡ members.asks_bound asked }
+{
+    match asked {
+        None => false,
+        Some(suffix) => match suffix {
+            Suffix::Value => false,
+            Suffix::LowerBound => true,
+            Suffix::UpperBound => true,
+            Suffix::LeftOut => false,
+        },
+    }
+}
+
+fn solved_column(
+    alloc: Global,
+    place: usize,
+    subscripts: &Tuple,
+    solution: &Solution,
+) -> Result<Option<SolvedMember>, EvalFault>
+    ensures { Gives result (Ok (solutions.column_of solution.now (solutions.member place subscripts.now))) }
+{
+    let member = member(alloc, place, subscripts)?;
+    Ok(solution.column(&member))
+}
+
+/// The column behind `solve` whose own bounds are asked for.
+pub(crate) fn bounded_column(
+    alloc: Global,
+    solution: &Option<Solution>,
+    place: usize,
+    asked: Option<Suffix>,
+    subscripts: &Tuple,
+) -> Result<Option<SolvedMember>, EvalFault>
+    ensures { Gives result (Ok (members.bounded_column solution.now place asked subscripts.now)) }
+{
+    match solution {
+        None => Ok(None),
+        Some(solution) => {
+            if asks_bound(asked) {
+                solved_column(alloc, place, subscripts, solution)
+            } else {
+                Ok(None)
+            }
+        }
+    }
+}
+
+fn row_found(asked: Option<Suffix>, row: Option<SolvedMember>) -> Result<Value, EvalFault>
     ensures { result ≡ members.row_found asked row }
 {
     match row {
         None => Err(EvalFault::OutOfDomain),
-        Some(row) => row_asked(asked, row),
+        Some(row) => solved_asked(asked, row),
     }
 }
 

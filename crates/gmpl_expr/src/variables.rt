@@ -9,7 +9,7 @@ ghost use Rattle.gmpl_meaning.specs.Right.{AreRight};
 
 use crate::attributes::{where_binary, with_bound};
 use crate::indexing::within_domain;
-use crate::solved::variable_value;
+use crate::solved::{bounded_column, solved_asked, variable_value};
 use crate::values::number;
 use gmpl_data::LoadedModel;
 use gmpl_meaning::{Bounds, Kept};
@@ -34,6 +34,32 @@ pub(crate) fn variable_member(
     requires right { AreRight model.now kept.old }
     ensures right { AreRight model.now kept.new }
     ensures value { Gives result (members.variable_member model.now (member model.now height) place variable.now asked subscripts.now) }
+{
+    match bounded_column(alloc, &model.solution, place, asked, subscripts) {
+        Err(fault) => Err(fault),
+        Ok(None) => evaluated_variable(
+            alloc, model, kept, height, room, place, variable, asked, subscripts,
+        ),
+        Ok(Some(column)) => solved_asked(asked, column),
+    }
+}
+
+// What is asked of a member of a variable whose bounds are evaluated.
+#[cycle(evaluation)]
+fn evaluated_variable(
+    alloc: Global,
+    model: &LoadedModel,
+    kept: &mut Kept,
+    height: u32,
+    room: u32,
+    place: usize,
+    variable: &Declaration,
+    asked: Option<Suffix>,
+    subscripts: &Tuple,
+) -> Result<Value, EvalFault>
+    requires right { AreRight model.now kept.old }
+    ensures right { AreRight model.now kept.new }
+    ensures value { Gives result (members.evaluated_variable model.now (member model.now height) place variable.now asked subscripts.now) }
 {
     match variable_bounds(alloc, model, kept, height, room, variable, subscripts) {
         Ok(bounds) => variable_value(alloc, place, subscripts, &model.solution, asked, bounds),

@@ -7,7 +7,7 @@ use gmpl_data::{DataTables, LoadedModel};
 use gmpl_expr::{Context, eval_value, member_value};
 use gmpl_operations::Value;
 use gmpl_resolved::Expr;
-use gmpl_solution::{Member, Solution, SolvedRow};
+use gmpl_solution::{Member, Solution, SolvedMember};
 use gmpl_value::{EvalFault, Tuple};
 use sqlite_items::Items;
 use std::alloc::{AllocError, Global};
@@ -18,15 +18,18 @@ const MODEL: &str = "\
 var x{1..3} >= 0, <= 5; var y; s.t. r{i in 1..2}: x[i] <= 4; maximize total: sum{i in 1..2} i * x[i]; solve; \
 param p{i in 1..3} := x[i] ** 2; ";
 
-// By hand after the language reference, where x[1] is 4 and x[2] is 3.
+// By hand after the language reference, where x[1] is 4 and x[2] is 3, and at its first demand x[1] was at most 7, and x[2] from 1 to 6.
 const SOLVED: &str = "\
 4 => x[1]
 4 => x[1].val
 3 => x[2].val
-0 => x[2].lb
-5 => x[2].ub
+!NoValue => x[1].lb
+7 => x[1].ub
+1 => x[2].lb
+6 => x[2].ub
 0 => x[3]
 0 => x[3].val
+0 => x[3].lb
 5 => x[3].ub
 0 => y
 0 => y.val
@@ -84,22 +87,22 @@ fn member(alloc: Global, statement: usize, subscript: &str) -> Result<Member, Al
     })
 }
 
-// With the value of a member of `x`.
-fn with_value(
+// With a column of `x`.
+fn with_column(
     alloc: Global,
     solution: Solution,
     subscript: &str,
-    value: Frac,
+    column: SolvedMember,
 ) -> Result<Solution, AllocError> {
     let mut made = solution;
     let member = member(alloc, 0, subscript)?;
-    made.add_value(member, value)?;
+    made.add_column(member, column)?;
     Ok(made)
 }
 
 // A row of `r`.
-fn row(value: Frac) -> SolvedRow {
-    SolvedRow {
+fn row(value: Frac) -> SolvedMember {
+    SolvedMember {
         value,
         lower: None,
         upper: Some(Frac::whole(4)),
@@ -124,7 +127,7 @@ fn with_objective(alloc: Global, solution: Solution) -> Result<Solution, AllocEr
         statement: 3,
         subscripts: Tuple::new(alloc),
     };
-    let free = SolvedRow {
+    let free = SolvedMember {
         value: Frac::whole(10),
         lower: None,
         upper: None,
@@ -134,8 +137,18 @@ fn with_objective(alloc: Global, solution: Solution) -> Result<Solution, AllocEr
 }
 
 fn solution(alloc: Global) -> Result<Solution, AllocError> {
-    let made = with_value(alloc, Solution::new(alloc), "1", Frac::whole(4))?;
-    let made = with_value(alloc, made, "2", Frac::whole(3))?;
+    let first = SolvedMember {
+        value: Frac::whole(4),
+        lower: None,
+        upper: Some(Frac::whole(7)),
+    };
+    let second = SolvedMember {
+        value: Frac::whole(3),
+        lower: Some(Frac::whole(1)),
+        upper: Some(Frac::whole(6)),
+    };
+    let made = with_column(alloc, Solution::new(alloc), "1", first)?;
+    let made = with_column(alloc, made, "2", second)?;
     let made = with_row(alloc, made, "1", Frac::whole(4))?;
     let made = with_row(alloc, made, "2", Frac::whole(3))?;
     with_objective(alloc, made)

@@ -1,4 +1,5 @@
 pub mod Factors
 pub mod Halves
+pub mod PutSteps
 pub mod ScalingSteps
 pub mod SumSteps

@@ -4,18 +4,20 @@ ghost use Rattle.std.specs.List.{IsDistinct};
 ghost use Rattle.std.specs.Option.{option_map};
 ghost use Rattle.rational.specs.Rational.{one_ℚ, zero_ℚ};
 ghost use Rattle.gmpl_value.specs.Outcome.{Gives, Follows};
-ghost use Rattle.gmpl_functions.specs.Linear.{Linear, linear, coefficient_of, variable_eq};
-ghost use Rattle.gmpl_functions.specs.Scalings.{scaled, scaled_terms, value_at, with_value_at};
+ghost use Rattle.gmpl_functions.specs.Linear.{Linear, linear, coefficient_of, terms_seen, variable_eq};
+ghost use Rattle.gmpl_functions.specs.Scalings.{scaled, scaled_terms};
 ghost use Rattle.gmpl_functions.specs.Sums.{combined, put_all, put_found};
 
+use crate::form_terms::FormTerms;
 use crate::scaling::Scaling;
-use crate::terms::{Sign, coefficient, put};
+use crate::terms::{Sign, coefficient_at, put, set_coefficient};
 use crate::variable::Variable;
 use fraction::Frac;
 use gmpl_value::EvalFault;
 use indexmap::IndexMap;
 use std::alloc::{AllocError, Global};
 use std::marker::Model;
+use std::mem::replace;
 
 /// A linear form: members with their coefficients, each member once, in the order of first mention, and a constant. A
 /// coefficient may be 0. Clauses see the list of its terms and its constant. It is one pointer, so that values move cheaply.
@@ -26,25 +28,21 @@ pub struct Form {
 
 #[derive(Drop)]
 struct Parts {
-    terms: IndexMap<Variable, Frac>,
+    terms: FormTerms,
     constant: Frac,
 }
 
 impl Model for Form {
-    ghost use Rattle.gmpl_functions.specs.Linear.{Linear, linear};
+    ghost use Rattle.gmpl_functions.specs.Linear.{Linear, linear, terms_seen};
 
     ghost Value = { Linear };
 
-    ghost view = { λ f. linear f.parts.value.terms.entries f.parts.value.constant };
+    ghost view = { λ f. linear (terms_seen f.parts.value.terms) f.parts.value.constant };
 }
 
 impl Form {
-    fn of_parts(
-        alloc: Global,
-        terms: IndexMap<Variable, Frac>,
-        constant: Frac,
-    ) -> Result<Form, AllocError>
-        ensures { IfOk result (λ made. made ≡ linear terms.entries constant) }
+    fn of_parts(alloc: Global, terms: FormTerms, constant: Frac) -> Result<Form, AllocError>
+        ensures { IfOk result (λ made. made ≡ linear (terms_seen terms) constant) }
     {
         let parts = Box::new(alloc, Parts { terms, constant })?;
         Ok(Form { parts })
@@ -54,16 +52,14 @@ impl Form {
     pub fn number(alloc: Global, constant: Frac) -> Result<Form, AllocError>
         ensures { IfOk result (λ made. made ≡ linear [] constant) }
     {
-        Form::of_parts(alloc, IndexMap::new(alloc), constant)
+        Form::of_parts(alloc, FormTerms::Many(IndexMap::new(alloc)), constant)
     }
 
     /// The form of a member, with the coefficient 1.
     pub fn variable(alloc: Global, variable: Variable) -> Result<Form, AllocError>
         ensures { IfOk result (λ made. made ≡ linear ((variable, one_ℚ) ∷ []) zero_ℚ) }
     {
-        let mut terms = IndexMap::new(alloc);
-        terms.insert(variable, Frac::one())?;
-        Form::of_parts(alloc, terms, Frac::zero())
+        Form::of_parts(alloc, FormTerms::One(variable, Frac::one()), Frac::zero())
     }
 
     /// The constant.
@@ -85,21 +81,24 @@ impl Form {
     pub fn term(&self, place: usize) -> Option<(&Variable, &Frac)>
         ensures { option_map (λ t. (t.0.now, t.1.now)) result ≡ slice_get self.now.terms place }
     {
-        self.parts.terms.get_index(place)
+        self.parts.terms.term(place)
     }
 
     /// The coefficient of a member, and 0 where the form has none.
     pub fn coefficient(&self, variable: &Variable) -> Frac
         ensures { result ≡ coefficient_of self.now.terms variable.now }
     {
-        coefficient(&self.parts.terms, variable)
+        self.parts.terms.coefficient(variable)
     }
 
     /// Adds another form or takes it off: its terms in order, and then the constant. A new member stands at the end.
     pub fn combine(&mut self, alloc: Global, sign: Sign, other: &Form) -> Result<(), EvalFault>
         ensures { Follows result self.new (combined sign self.old other.now) }
     {
-        put_all(alloc, &mut self.parts.terms, sign, other)?;
+        let none = FormTerms::Many(IndexMap::new(alloc));
+        let mut terms = replace(&mut self.parts.terms, none).into_map(alloc)?;
+        put_all(alloc, &mut terms, sign, other)?;
+        self.parts.terms = FormTerms::Many(terms);
         self.parts.constant = sign.applied(self.parts.constant, other.constant())?;
         Ok(())
     }
@@ -116,7 +115,7 @@ impl Form {
     pub fn scale(&mut self, scaling: &Scaling) -> Result<(), EvalFault>
         ensures { Follows result self.new (scaled scaling.now self.old) }
     {
-        scale_terms(&mut self.parts.terms, scaling)?;
+        scale_kept(&mut self.parts.terms, scaling)?;
         self.parts.constant = scaling.applied(self.parts.constant)?;
         Ok(())
     }
@@ -178,6 +177,18 @@ fn put_term(
     }
 }
 
+fn scale_kept(terms: &mut FormTerms, scaling: &Scaling) -> Result<(), EvalFault>
+    ensures { Follows result (terms_seen terms.new) (scaled_terms scaling.now (terms_seen terms.old)) }
+{
+    match terms {
+        FormTerms::One(_, coefficient) => {
+            *coefficient = scaling.applied(*coefficient)?;
+            Ok(())
+        }
+        FormTerms::Many(terms) => scale_terms(terms, scaling),
+    }
+}
+
 fn scale_terms(terms: &mut IndexMap<Variable, Frac>, scaling: &Scaling) -> Result<(), EvalFault>
     ensures { Follows result terms.new.entries (scaled_terms scaling.now terms.old.entries) }
 {
@@ -186,21 +197,4 @@ fn scale_terms(terms: &mut IndexMap<Variable, Frac>, scaling: &Scaling) -> Resul
         set_coefficient(terms, place, scaled);
     }
     Ok(())
-}
-
-fn coefficient_at(terms: &IndexMap<Variable, Frac>, place: usize) -> Frac
-    ensures { result ≡ value_at terms.now.entries place }
-{
-    match terms.get_index(place) {
-        Some((_, coefficient)) => *coefficient,
-        None => Frac::zero(),
-    }
-}
-
-fn set_coefficient(terms: &mut IndexMap<Variable, Frac>, place: usize, coefficient: Frac)
-    ensures { terms.new.entries ≡ with_value_at terms.old.entries place coefficient }
-{
-    if let Some(slot) = terms.get_index_mut(place) {
-        *slot = coefficient;
-    }
 }

@@ -3,6 +3,7 @@
 
 mod amount;
 mod form;
+mod form_terms;
 mod numbers;
 mod powers;
 mod rounding;

@@ -3,6 +3,7 @@ ghost use Rattle.std.specs.Prelude.{◌≡◌};
 ghost use Rattle.std.specs.Option.{unwrap_or};
 ghost use Rattle.gmpl_value.specs.Outcome.{Follows, Gives};
 ghost use Rattle.gmpl_functions.specs.Linear.{Terms, coefficient_of};
+ghost use Rattle.gmpl_functions.specs.Scalings.{value_at, with_value_at};
 ghost use Rattle.gmpl_functions.specs.Sums.{operation, put};
 
 use crate::variable::Variable;
@@ -40,7 +41,25 @@ pub(crate) fn coefficient(terms: &IndexMap<Variable, Frac>, variable: &Variable)
     }
 }
 
-// A member's coefficient with another added or taken off; a new member stands at the end.
+// The coefficient at a place, and 0 past the end.
+pub(crate) fn coefficient_at(terms: &IndexMap<Variable, Frac>, place: usize) -> Frac
+    ensures { result ≡ value_at terms.now.entries place }
+{
+    match terms.get_index(place) {
+        Some((_, coefficient)) => *coefficient,
+        None => Frac::zero(),
+    }
+}
+
+pub(crate) fn set_coefficient(terms: &mut IndexMap<Variable, Frac>, place: usize, coefficient: Frac)
+    ensures { terms.new.entries ≡ with_value_at terms.old.entries place coefficient }
+{
+    if let Some(slot) = terms.get_index_mut(place) {
+        *slot = coefficient;
+    }
+}
+
+// A member's coefficient with another added or taken off; a new member stands at the end. It is looked up once.
 pub(crate) fn put(
     alloc: Global,
     terms: &mut IndexMap<Variable, Frac>,
@@ -50,8 +69,8 @@ pub(crate) fn put(
 ) -> Result<(), EvalFault>
     ensures { Follows result terms.new.entries (put sign terms.old.entries variable.now change) }
 {
-    let before = coefficient(terms, variable);
-    let after = sign.applied(before, change)?;
-    terms.insert(variable.copied(alloc)?, after)?;
+    let (place, before) = terms.insert_full(variable.copied(alloc)?, change)?;
+    let after = sign.applied(before.unwrap_or(Frac::zero()), change)?;
+    set_coefficient(terms, place, after);
     Ok(())
 }

@@ -7,10 +7,11 @@ use Rattle.milp.specs.Problem.{Row}
 use Rattle.instance.specs.Sums.{sum_answer}
 use Rattle.gmpl_resolved.specs.declared.statement.Numbered.{Numbered}
 use Rattle.gmpl_solution.specs.declared.member.Member.{Member}
-use Rattle.gmpl_solution.specs.Solution.{Solution, nothing, with_value, with_row}
+use Rattle.gmpl_solution.specs.Solution.{Solution, nothing, with_column, with_row}
 use Rattle.gmpl_data.specs.declared.tables.LoadedModel.{LoadedModel}
 use Rattle.gmpl_rows.specs.Draft.{Draft}
 use Rattle.gmpl_rows.specs.Problem.{column_members, problem_of, row_members}
+use Rattle.gmpl_rows.specs.declared.members.ColumnMember.{ColumnMember}
 use Rattle.gmpl_generate.specs.declared.fault.ModelFault.{ModelFault}
 use Rattle.gmpl_generate.specs.declared.solved.Afterwards.{Afterwards}
 use Rattle.gmpl_generate.specs.Running.{Made, Ran, Running, ◌>>=◌, files_of, nothing_made}
@@ -23,11 +24,14 @@ RowsFit x (r ∷ rs) = IsOk (sum_answer x zero_ℚ r.entries) × RowsFit x rs
 
 -- ---- the numbers of members at a point
 
--- the columns' members have the numbers of the point
-abbrev pub with_values : List Member → List Rational → Solution → Solution
-with_values [] qs s = s
-with_values (m ∷ ms) [] s = s
-with_values (m ∷ ms) (q ∷ qs) s = with_values ms qs (with_value s m q)
+abbrev pub with_solved_column : ColumnMember → Rational → Solution → Solution
+with_solved_column c value s = with_column s c.member (record { value = value; lower = c.bounds.lower; upper = c.bounds.upper })
+
+-- the columns' members have the numbers of the point, and the columns' own bounds
+abbrev pub with_columns : List ColumnMember → List Rational → Solution → Solution
+with_columns [] qs s = s
+with_columns (c ∷ cs) [] s = s
+with_columns (c ∷ cs) (q ∷ qs) s = with_columns cs qs (with_solved_column c q s)
 
 abbrev pub with_solved_row : Member → Row → Rational → Solution → Solution
 with_solved_row m r value s = with_row s m (record { value = value; lower = r.lower; upper = r.upper })
@@ -38,8 +42,8 @@ with_rows x [] rs s = s
 with_rows x (m ∷ ms) [] s = s
 with_rows x (m ∷ ms) (r ∷ rs) s = with_rows x ms rs (with_solved_row m r (sum_at x r.entries) s)
 
-abbrev pub solution_by : List Member → List Member → List Row → List Rational → Solution
-solution_by columns rows rs x = with_rows x rows rs (with_values columns x nothing)
+abbrev pub solution_by : List ColumnMember → List Member → List Row → List Rational → Solution
+solution_by columns rows rs x = with_rows x rows rs (with_columns columns x nothing)
 
 -- of the problem of a draft
 abbrev pub solution_at : Draft → List Rational → Solution

@@ -13,7 +13,7 @@ use crate::progress::{Progress, TableFile};
 use crate::turns::{Pause, Stopped, executed_from, resumed_from};
 use gmpl_data::LoadedModel;
 use gmpl_expr::Context;
-use gmpl_rows::{Draft, column_members, finish, row_members};
+use gmpl_rows::{ColumnMember, Draft, column_members, finish, row_members};
 use gmpl_solution::Member;
 use gmpl_value::EvalFault;
 use instance::Instance;
@@ -45,7 +45,7 @@ pub enum End {
 #[derive(Drop)]
 pub struct Generated {
     pub problem: Instance,
-    pub columns: Vec<Member>,
+    pub columns: Vec<ColumnMember>,
     pub rows: Vec<Member>,
 }
 

@@ -16,7 +16,8 @@ use fraction::Frac;
 use gmpl_data::LoadedModel;
 use gmpl_expr::Context;
 use gmpl_resolved::Numbered;
-use gmpl_solution::{Member, Solution, SolvedRow};
+use gmpl_rows::ColumnMember;
+use gmpl_solution::{Member, Solution, SolvedMember};
 use gmpl_value::EvalFault;
 use instance::{Instance, Point, Row, activity};
 use sqlite_items::Boxed;
@@ -48,20 +49,36 @@ pub fn row_value(problem: &Instance, row: u32, point: &Point) -> Frac
     }
 }
 
-fn add_values(
+fn add_column(
     alloc: Global,
     solution: &mut Solution,
-    columns: &[Member],
+    column: &ColumnMember,
+    value: Frac,
+) -> Result<(), AllocError>
+    ensures { OnOk result (solution.new ≡ spec.with_solved_column column.now value solution.old) }
+{
+    let solved = SolvedMember {
+        value,
+        lower: column.bounds.lower,
+        upper: column.bounds.upper,
+    };
+    solution.add_column(column.member.copied(alloc)?, solved)
+}
+
+fn add_columns(
+    alloc: Global,
+    solution: &mut Solution,
+    columns: &[ColumnMember],
     point: &[Frac],
 ) -> Result<(), AllocError>
-    ensures { OnOk result (solution.new ≡ spec.with_values columns.now point.now solution.old) }
+    ensures { OnOk result (solution.new ≡ spec.with_columns columns.now point.now solution.old) }
 {
     let mut left = point;
-    for member in columns {
+    for column in columns {
         let Some((value, rest)) = left.split_first() else {
             return Ok(());
         };
-        solution.add_value(member.copied(alloc)?, *value)?;
+        add_column(alloc, solution, column, *value)?;
         left = rest;
     }
     Ok(())
@@ -76,7 +93,7 @@ fn add_row(
 ) -> Result<(), AllocError>
     ensures { OnOk result (solution.new ≡ spec.with_solved_row member.now row.now value solution.old) }
 {
-    let solved = SolvedRow {
+    let solved = SolvedMember {
         value,
         lower: row.lower(),
         upper: row.upper(),
@@ -111,7 +128,7 @@ fn add_rows(
 
 fn solution_by(
     alloc: Global,
-    columns: &[Member],
+    columns: &[ColumnMember],
     rows: &[Member],
     problem: &Instance,
     point: &Point,
@@ -121,7 +138,7 @@ fn solution_by(
     ensures { IfOk result (λ made. made ≡ spec.solution_by columns.now rows.now problem.now.rows point.now) }
 {
     let mut solution = Solution::new(alloc);
-    add_values(alloc, &mut solution, columns, point.as_slice())?;
+    add_columns(alloc, &mut solution, columns, point.as_slice())?;
     add_rows(alloc, &mut solution, rows, problem, point)?;
     Ok(solution)
 }
@@ -213,13 +230,13 @@ fn behind_solve(alloc: Global, model: &LoadedModel) -> Result<Afterwards, AllocE
 }
 
 /// The statements behind `solve`, in order, up to the first fault, where the members that the columns and rows of the problem come
-/// from have these numbers: what they print and write, and the fault.
+/// from have these numbers, and the columns' members those bounds: what they print and write, and the fault.
 /// Errors: want of memory.
 #[tactic(auto, unfolding(crate::specs::Solved::after_by))]
 pub fn after_solve(
     alloc: Global,
     model: Boxed<LoadedModel>,
-    columns: &[Member],
+    columns: &[ColumnMember],
     rows: &[Member],
     problem: &Instance,
     point: &Point,

@@ -16,7 +16,8 @@ use Rattle.gmpl_meaning.specs.declared.bounds.Bounds.{Bounds}
 use Rattle.gmpl_meaning.specs.declared.asked.Asked.{Asked}
 use Rattle.gmpl_meaning.specs.declared.asked.Asked.TheVariants.{Member, Range, Entry, Restriction}
 use Rattle.gmpl_meaning.specs.declared.value.KeptValue.{KeptValue}
-use Rattle.gmpl_meaning.specs.Right.{Table, asked_eq, with_value, with_bounds, IsRight, HasBounds, AreRight}
+use Rattle.gmpl_meaning.specs.declared.value.Alone.{Alone}
+use Rattle.gmpl_meaning.specs.Right.{Table, asked_eq, with_value, with_alone, with_bounds, IsRight, IsAlone, HasBounds, AreRight}
 
 -- ---- what is equal is the same
 
@@ -122,15 +123,23 @@ module _ (model : LoadedModel) where
   pub value_found : (k : Asked) (found : Option (Bor KeptValue)) (t : Table) → option_copied found ≡ lookup (asked_eq k) t.values → AreRight model t → IfSome found (λ v. IsRight model (k, v.now))
   value_found k found t is all = seen_right asked_eq (λ a v. IsRight model (a, v)) same_asked k found t.values is all.values_are
 
+  pub alone_found : (place : ℕ) (found : Option (Bor Alone)) (t : Table) → option_copied found ≡ lookup (nat_eq place) t.alone → AreRight model t → IfSome found (λ a. IsAlone model (place, a.now))
+  alone_found place found t is all = seen_right nat_eq (λ p a. IsAlone model (p, a)) eqb-true place found t.alone is all.alone_are
+
   pub bounds_found : (k : Variable) (found : Option (Bor Bounds)) (t : Table) → option_copied found ≡ lookup (variable_eq k) t.bounds → AreRight model t → IfSome found (λ b. HasBounds model (k, b.now))
   bounds_found k found t is all = seen_right variable_eq (λ a b. HasBounds model (a, b)) same_variable k found t.bounds is all.bounds_are
 
   pub value_kept : {E : Type 0} (k : Asked) (v : KeptValue) (old new : Table) (result : Result (Unit {0}) E) → OnOk result (new ≡ with_value old k v) → OnErr result (new ≡ old) → AreRight model old → IsRight model (k, v) → AreRight model new
   value_kept k v old new result ok err all right =
       either_kept model old new (with_value old k v) result ok err all
-      (record { values_are = kept_right asked_eq (λ a w. IsRight model (a, w)) same_asked k v old.values all.values_are right; bounds_are = all.bounds_are })
+      (record { values_are = kept_right asked_eq (λ a w. IsRight model (a, w)) same_asked k v old.values all.values_are right; alone_are = all.alone_are; bounds_are = all.bounds_are })
+
+  pub alone_kept : {E : Type 0} (place : ℕ) (alone : Alone) (old new : Table) (result : Result (Unit {0}) E) → OnOk result (new ≡ with_alone old place alone) → OnErr result (new ≡ old) → AreRight model old → IsAlone model (place, alone) → AreRight model new
+  alone_kept place alone old new result ok err all right =
+      either_kept model old new (with_alone old place alone) result ok err all
+      (record { values_are = all.values_are; alone_are = kept_right nat_eq (λ p a. IsAlone model (p, a)) eqb-true place alone old.alone all.alone_are right; bounds_are = all.bounds_are })
 
   pub bounds_kept : {E : Type 0} (k : Variable) (b : Bounds) (old new : Table) (result : Result (Unit {0}) E) → OnOk result (new ≡ with_bounds old k b) → OnErr result (new ≡ old) → AreRight model old → HasBounds model (k, b) → AreRight model new
   bounds_kept k b old new result ok err all right =
       either_kept model old new (with_bounds old k b) result ok err all
-      (record { values_are = all.values_are; bounds_are = kept_right variable_eq (λ a c. HasBounds model (a, c)) same_variable k b old.bounds all.bounds_are right })
+      (record { values_are = all.values_are; alone_are = all.alone_are; bounds_are = kept_right variable_eq (λ a c. HasBounds model (a, c)) same_variable k b old.bounds all.bounds_are right })

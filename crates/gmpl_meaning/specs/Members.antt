@@ -5,8 +5,8 @@ use Rattle.std.specs.Prelude.{ℕ, zero, suc, Bool, true, false, Option, Some, N
 use Rattle.rational.specs.Rational.{Rational, zero_ℚ, one_ℚ}
 use Rattle.gmpl_syntax.specs.declared.expression.Suffix.{Suffix}
 use Rattle.gmpl_syntax.specs.declared.expression.Suffix.TheVariants as suffix
-use Rattle.gmpl_solution.specs.declared.solution.SolvedRow.{SolvedRow}
-use Rattle.gmpl_solution.specs.Solution.{Solution, member as member_named, value_of, row_of}
+use Rattle.gmpl_solution.specs.declared.solution.SolvedMember.{SolvedMember}
+use Rattle.gmpl_solution.specs.Solution.{Solution, member as member_named, value_of, column_of, row_of}
 use Rattle.gmpl_resolved.specs.declared.expression.Expr.{Expr}
 use Rattle.gmpl_resolved.specs.declared.expression.Indexing.{Indexing}
 use Rattle.gmpl_resolved.specs.declared.statement.Attribute.{Attribute}
@@ -59,7 +59,7 @@ abbrev pub bound_value : Option Rational → Outcome Value
 bound_value None = Err NoValue
 bound_value (Some q) = Ok (of_number q)
 
--- what is asked of a member of a variable: before `solve` it is its form, and has no suffix
+-- what is asked of a member of a variable with these bounds: before `solve` it is its form, and has no suffix
 abbrev pub variable_asked : ℕ → List Symbol → Option Solution → Option Suffix → Bounds → Outcome Value
 variable_asked place subscripts None None bounds = Ok (Linear (linear ((variable place subscripts, one_ℚ) ∷ []) zero_ℚ))
 variable_asked place subscripts None (Some asked) bounds = Err NoValue
@@ -69,20 +69,32 @@ variable_asked place subscripts (Some s) (Some suffix.LowerBound) bounds = bound
 variable_asked place subscripts (Some s) (Some suffix.UpperBound) bounds = bound_value bounds.upper
 variable_asked place subscripts (Some s) (Some suffix.LeftOut) bounds = Err NoValue
 
--- what is asked of a member of a constraint or of an objective, which is its row's
-abbrev pub row_asked : Option Suffix → SolvedRow → Outcome Value
-row_asked None row = Ok (of_number row.value)
-row_asked (Some suffix.Value) row = Ok (of_number row.value)
-row_asked (Some suffix.LowerBound) row = bound_value row.lower
-row_asked (Some suffix.UpperBound) row = bound_value row.upper
-row_asked (Some suffix.LeftOut) row = Err NoValue
+-- what is asked of a column or of a row
+abbrev pub solved_asked : Option Suffix → SolvedMember → Outcome Value
+solved_asked None m = Ok (of_number m.value)
+solved_asked (Some suffix.Value) m = Ok (of_number m.value)
+solved_asked (Some suffix.LowerBound) m = bound_value m.lower
+solved_asked (Some suffix.UpperBound) m = bound_value m.upper
+solved_asked (Some suffix.LeftOut) m = Err NoValue
+
+abbrev pub asks_bound : Option Suffix → Bool
+asks_bound None = false
+asks_bound (Some suffix.Value) = false
+asks_bound (Some suffix.LowerBound) = true
+asks_bound (Some suffix.UpperBound) = true
+asks_bound (Some suffix.LeftOut) = false
+
+-- behind `solve` a column has its own bounds, those of its first demand, which are not evaluated again
+abbrev pub bounded_column : Option Solution → ℕ → Option Suffix → List Symbol → Option SolvedMember
+bounded_column None place asked subscripts = None
+bounded_column (Some s) place asked subscripts = if asks_bound asked then column_of s (member_named place subscripts) else None
 
 -- there is a row for each member of the domain
-abbrev pub row_found : Option Suffix → Option SolvedRow → Outcome Value
+abbrev pub row_found : Option Suffix → Option SolvedMember → Outcome Value
 row_found asked None = Err OutOfDomain
-row_found asked (Some row) = row_asked asked row
+row_found asked (Some row) = solved_asked asked row
 
--- before `solve` there is none
+-- what is asked of a member of a constraint or of an objective, which is its row's; before `solve` there is none
 abbrev pub row_member : Option Solution → ℕ → Option Suffix → List Symbol → Outcome Value
 row_member None place asked subscripts = Err NoValue
 row_member (Some s) place asked subscripts = row_found asked (row_of s (member_named place subscripts))
@@ -145,8 +157,15 @@ module _ (model : LoadedModel) (demand : Demanding) where
   abbrev pub variable_bounds : Declaration → List Symbol → Outcome Bounds
   variable_bounds d subscripts = then_do (bounds_within d) (domain_of d subscripts)
 
+  abbrev pub evaluated_variable : ℕ → Declaration → Option Suffix → List Symbol → Outcome Value
+  evaluated_variable place d asked subscripts = then_do (variable_asked place subscripts model.solution asked) (variable_bounds d subscripts)
+
+  abbrev pub variable_by : ℕ → Declaration → Option Suffix → List Symbol → Option SolvedMember → Outcome Value
+  variable_by place d asked subscripts None = evaluated_variable place d asked subscripts
+  variable_by place d asked subscripts (Some column) = solved_asked asked column
+
   abbrev pub variable_member : ℕ → Declaration → Option Suffix → List Symbol → Outcome Value
-  variable_member place d asked subscripts = then_do (variable_asked place subscripts model.solution asked) (variable_bounds d subscripts)
+  variable_member place d asked subscripts = variable_by place d asked subscripts (bounded_column model.solution place asked subscripts)
 
   -- no suffix stands behind a set or a parameter
   abbrev pub member_of : ℕ → Statement → Option Suffix → List Symbol → Outcome Value

@@ -1,5 +1,5 @@
 -- What is kept of a model is right: it is what the definition gives, evaluated anew.
-use Rattle.std.specs.Prelude.{◌≡◌, ℕ, Bool, Option, Some, None, Ok, Err, List, [], ◌∷◌}
+use Rattle.std.specs.Prelude.{◌≡◌, ℕ, Bool, Option, Some, None, Ok, Err, List, [], ◌∷◌, nat_eq}
 use Rattle.std.specs.List.{AllByRecursion}
 use Rattle.indexmap.specs.IndexMap.{insert_entry}
 use Rattle.rational.specs.Rational.{one_ℚ, zero_ℚ}
@@ -20,25 +20,30 @@ use Rattle.gmpl_meaning.specs.Written.{entry_set, restriction}
 use Rattle.gmpl_meaning.specs.contracts.asked.AskedPartialEq.TheImpl as impl
 use Rattle.gmpl_meaning.specs.declared.asked.Asked.{Asked}
 use Rattle.gmpl_meaning.specs.declared.asked.Asked.TheVariants as asked
+use Rattle.gmpl_meaning.specs.declared.value.Alone.{Alone}
 use Rattle.gmpl_meaning.specs.declared.value.KeptValue.{KeptValue}
 use Rattle.gmpl_meaning.specs.declared.value.KeptValue.TheVariants as kept
 
--- values by what was asked for, and the bounds of variables' members
+-- values by what was asked for, those of members without subscripts by the places of their objects, and the bounds of variables' members
 pub record Table : Type 0 where
   pub values : List (Asked × KeptValue)
+  pub alone : List (ℕ × Alone)
   pub bounds : List (Variable × Bounds)
 
 abbrev pub nothing_kept : Table
-nothing_kept = record { values = []; bounds = [] }
+nothing_kept = record { values = []; alone = []; bounds = [] }
 
 abbrev pub asked_eq : Asked → Asked → Bool
 asked_eq = (impl.ghosts).eq
 
 abbrev pub with_value : Table → Asked → KeptValue → Table
-with_value k asked value = record { values = insert_entry asked_eq k.values asked value; bounds = k.bounds }
+with_value k asked value = record { values = insert_entry asked_eq k.values asked value; alone = k.alone; bounds = k.bounds }
+
+abbrev pub with_alone : Table → ℕ → Alone → Table
+with_alone k place alone = record { values = k.values; alone = insert_entry nat_eq k.alone place alone; bounds = k.bounds }
 
 abbrev pub with_bounds : Table → Variable → Bounds → Table
-with_bounds k variable bounds = record { values = k.values; bounds = insert_entry variable_eq k.bounds variable bounds }
+with_bounds k variable bounds = record { values = k.values; alone = k.alone; bounds = insert_entry variable_eq k.bounds variable bounds }
 
 -- a variable's member stands for its form
 abbrev pub value_seen : KeptValue → Value
@@ -62,10 +67,14 @@ anew model (asked.Restriction place number height b) = in_scope model height b (
 abbrev pub IsRight : LoadedModel → Asked × KeptValue → Type 0
 IsRight model entry = anew model entry.0 ≡ Ok (value_seen entry.1)
 
+abbrev pub IsAlone : LoadedModel → ℕ × Alone → Type 0
+IsAlone model entry = member model entry.1.height entry.0 None [] ≡ Ok (value_seen entry.1.value)
+
 -- bounds of a member that is the first in the chain of demands
 abbrev pub HasBounds : LoadedModel → Variable × Bounds → Type 0
 HasBounds model entry = bounds_at model entry.0.statement entry.0.subscripts ≡ Ok entry.1
 
 pub record AreRight (model : LoadedModel) (k : Table) : Type 0 where
   pub values_are : AllByRecursion (IsRight model) k.values
+  pub alone_are : AllByRecursion (IsAlone model) k.alone
   pub bounds_are : AllByRecursion (HasBounds model) k.bounds

@@ -1,14 +1,14 @@
 // What is kept.
-ghost use Rattle.std.specs.Prelude.{◌≡◌, None, Ok, IfOk, IfSome, OnOk, OnErr, option_copied};
+ghost use Rattle.std.specs.Prelude.{◌≡◌, [], None, Ok, IfOk, IfSome, OnOk, OnErr, nat_eq, option_copied, true};
 ghost use Rattle.std.specs.Map.{lookup};
 ghost use Rattle.gmpl_data.specs.declared.tables.LoadedModel.{LoadedModel};
 ghost use Rattle.gmpl_meaning.specs.Members.{member};
 ghost use Rattle.gmpl_functions.specs.Linear.{variable_eq};
-ghost use Rattle.gmpl_meaning.specs.Right.{AreRight, HasBounds, IsRight, anew, asked_eq, nothing_kept, value_seen, with_bounds, with_value};
+ghost use Rattle.gmpl_meaning.specs.Right.{AreRight, HasBounds, IsAlone, IsRight, anew, asked_eq, nothing_kept, value_seen, with_alone, with_bounds, with_value};
 
 use crate::Bounds;
 use crate::asked::Asked;
-use crate::value::{KeptValue, again};
+use crate::value::{Alone, KeptValue, again};
 use gmpl_functions::Variable;
 use gmpl_operations::Value;
 use gmpl_value::Tuple;
@@ -23,6 +23,9 @@ const MOST_KEPT: usize = 8_000_000;
 #[derive(Drop)]
 pub struct Kept {
     values: IndexMap<Asked, KeptValue>,
+    // Of members without subscripts, whose places are found sooner, at the height of the first demand. At other heights they are
+    // among the values.
+    alone: IndexMap<usize, Alone>,
     bounds: IndexMap<Variable, Bounds>,
     room: usize,
 }
@@ -32,7 +35,7 @@ impl Model for Kept {
 
     ghost Value = { Table };
 
-    ghost view = { λ k. record { values = k.values.entries; bounds = k.bounds.entries } };
+    ghost view = { λ k. record { values = k.values.entries; alone = k.alone.entries; bounds = k.bounds.entries } };
 }
 
 impl Kept {
@@ -43,6 +46,7 @@ impl Kept {
     {
         Kept {
             values: IndexMap::new(alloc),
+            alone: IndexMap::new(alloc),
             bounds: IndexMap::new(alloc),
             room: MOST_KEPT,
         }
@@ -102,8 +106,43 @@ impl Kept {
         Ok(value)
     }
 
+    // ---- members
+
     /// The value that is kept of a member without suffix, once more.
     pub fn member(
+        &self,
+        alloc: Global,
+        place: usize,
+        height: u32,
+        subscripts: &Tuple,
+    ) -> Option<KeptValue>
+        ensures { (model : LoadedModel) → AreRight model self.now → IfSome result (λ value. member model height place None subscripts.now ≡ Ok (value_seen value)) }
+    {
+        match self.member_alone(alloc, place, height, subscripts) {
+            Some(value) => Some(value),
+            None => self.member_among(alloc, place, height, subscripts),
+        }
+    }
+
+    // The same of a member that has a place of its own.
+    fn member_alone(
+        &self,
+        alloc: Global,
+        place: usize,
+        height: u32,
+        subscripts: &Tuple,
+    ) -> Option<KeptValue>
+        ensures { (model : LoadedModel) → AreRight model self.now → IfSome result (λ value. member model height place None subscripts.now ≡ Ok (value_seen value)) }
+    {
+        if subscripts.len() == 0 {
+            self.found_alone(alloc, place, height)
+        } else {
+            None
+        }
+    }
+
+    // The same of a member that is among the values.
+    fn member_among(
         &self,
         alloc: Global,
         place: usize,
@@ -130,8 +169,112 @@ impl Kept {
         ensures right { (model : LoadedModel) → AreRight model self.old → member model height place None subscripts.now ≡ Ok value → AreRight model self.new }
         ensures value { IfOk result (λ made. value_seen made ≡ value) }
     {
+        if self.is_first_alone(place, subscripts) {
+            self.remember_alone(alloc, place, height, value)
+        } else {
+            self.remember_among(alloc, place, height, subscripts, value)
+        }
+    }
+
+    fn remember_among(
+        &mut self,
+        alloc: Global,
+        place: usize,
+        height: u32,
+        subscripts: &Tuple,
+        value: Value,
+    ) -> Result<KeptValue, AllocError>
+        ensures right { (model : LoadedModel) → AreRight model self.old → member model height place None subscripts.now ≡ Ok value → AreRight model self.new }
+        ensures value { IfOk result (λ made. value_seen made ≡ value) }
+    {
         let subscripts = subscripts.copied(alloc)?;
         self.remember(alloc, Asked::Member(place, height, subscripts), value)
+    }
+
+    // ---- members without subscripts
+
+    // A member without subscripts, where none of this object is kept.
+    fn is_first_alone(&self, place: usize, subscripts: &Tuple) -> bool
+        ensures { result ≡ true → subscripts.now ≡ [] }
+    {
+        if subscripts.len() != 0 {
+            return false;
+        }
+        !self.alone.contains_key(&place)
+    }
+
+    fn get_alone(&self, place: usize) -> Option<&Alone>
+        ensures { option_copied result ≡ lookup (nat_eq place) self.now.alone }
+    {
+        self.alone.get(&place)
+    }
+
+    // What is kept of this is right.
+    fn find_alone(&self, place: usize) -> Option<&Alone>
+        ensures { (model : LoadedModel) → AreRight model self.now → IfSome result (λ alone. IsAlone model (place, alone.now)) }
+    {
+        self.get_alone(place)
+    }
+
+    fn found_alone(&self, alloc: Global, place: usize, height: u32) -> Option<KeptValue>
+        ensures { (model : LoadedModel) → AreRight model self.now → IfSome result (λ value. member model height place None [] ≡ Ok (value_seen value)) }
+    {
+        match self.find_alone(place) {
+            None => None,
+            Some(alone) => {
+                if alone.height == height {
+                    again(alloc, &alone.value)
+                } else {
+                    None
+                }
+            }
+        }
+    }
+
+    fn insert_alone(&mut self, place: usize, alone: Alone) -> Result<(), AllocError>
+        ensures ok { OnOk result (self.new ≡ with_alone self.old place alone) }
+        ensures err { OnErr result (self.new ≡ self.old) }
+    {
+        match self.alone.insert(place, alone) {
+            Ok(_) => Ok(()),
+            Err(_) => Err(AllocError),
+        }
+    }
+
+    fn remember_alone(
+        &mut self,
+        alloc: Global,
+        place: usize,
+        height: u32,
+        value: Value,
+    ) -> Result<KeptValue, AllocError>
+        ensures right { (model : LoadedModel) → AreRight model self.old → member model height place None [] ≡ Ok value → AreRight model self.new }
+        ensures value { IfOk result (λ made. value_seen made ≡ value) }
+    {
+        let value = KeptValue::of(alloc, value)?;
+        match again(alloc, &value) {
+            None => {}
+            Some(copy) => self.keep_alone(
+                place,
+                Alone {
+                    height,
+                    value: copy,
+                },
+            )?,
+        }
+        Ok(value)
+    }
+
+    // Keeps a value, where there is room for it.
+    fn keep_alone(&mut self, place: usize, alone: Alone) -> Result<(), AllocError>
+        ensures { (model : LoadedModel) → AreRight model self.old → IsAlone model (place, alone) → AreRight model self.new }
+    {
+        let size = alone.value.size();
+        if size > self.room {
+            return Ok(());
+        }
+        self.room = self.room - size;
+        self.insert_alone(place, alone)
     }
 
     // Keeps a value, where there is room for it.

@@ -26,6 +26,13 @@ pub enum KeptValue {
     Other(Boxed<Value>),
 }
 
+// The value of a member without subscripts, and how many members may stand in the chain of demands that begins with it.
+#[derive(Drop)]
+pub struct Alone {
+    pub(crate) height: u32,
+    pub(crate) value: KeptValue,
+}
+
 impl KeptValue {
     /// A value, with its set to share.
     pub fn of(alloc: Global, value: Value) -> Result<KeptValue, AllocError>

@@ -10,6 +10,7 @@ use Rattle.gmpl_solution.specs.declared.member.Member.{Member}
 use Rattle.gmpl_data.specs.declared.tables.LoadedModel.{LoadedModel}
 use Rattle.gmpl_rows.specs.Draft.{Draft}
 use Rattle.gmpl_rows.specs.Problem.{column_members, problem_of, row_members}
+use Rattle.gmpl_rows.specs.declared.members.ColumnMember.{ColumnMember}
 use Rattle.gmpl_generate.specs.Problem.{Execution, Executing, HasFewerLeft as has_fewer_left, IsEnd, behind_files, execution, made_behind, next, next_by, resumed, with_texts}
 use Rattle.gmpl_generate.proofs.TablesLeft.{fewer}
 use Rattle.gmpl_generate.specs.Running.{File, Made, files_of, state_of}
@@ -268,7 +269,7 @@ is_after text files tables rest p rows x answer law ends is same =
     ap (after_execution x) is.is ∙ ap Some (law is.draft is.columns is.rows (sym same ∙ ap (λ (q : Problem). q.rows) (same_problem p (problem_of is.draft) (sym ends ∙ ap ending_by is.is))))
 
 -- where the columns and rows are lent
-pub is_answer : {E : Type 0} (rest : Rest) (rows : List Row) (x : List Rational) (columns lines : List Member) → columns ≡ rest.columns.items → lines ≡ rest.rows.items
+pub is_answer : {E : Type 0} (rest : Rest) (rows : List Row) (x : List Rational) (columns : List ColumnMember) (lines : List Member) → columns ≡ rest.columns.items → lines ≡ rest.rows.items
     → (result : Result Afterwards E)
     → IfOk result (λ a. (d : Draft) → columns ≡ column_members d → lines ≡ row_members d → rows ≡ (problem_of d).rows → after_by rest.model d x ≡ (made_after a, a.fault))
     → IfOk result (λ a. (text : List ℕ) (files tables : List (List ℕ)) (p : Problem) → ending text files tables ≡ Declares p → IsRest text files tables rest → p.rows ≡ rows → afterwards text files tables x ≡ Some (made_after a, a.fault))

@@ -18,6 +18,7 @@ use gmpl_generate::{
 };
 use gmpl_lexer::read_tokens;
 use gmpl_parse::{Model, ParseError, parse};
+use gmpl_rows::ColumnMember;
 use gmpl_solution::Member;
 use instance::{Instance, Point};
 use model_text::ReadError;
@@ -48,7 +49,7 @@ pub enum ReadingEnd {
 #[derive(Drop)]
 pub struct Rest {
     pub model: Boxed<LoadedModel>,
-    pub columns: Vec<Member>,
+    pub columns: Vec<ColumnMember>,
     pub rows: Vec<Member>,
 }
 

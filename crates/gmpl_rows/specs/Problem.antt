@@ -16,6 +16,8 @@ use Rattle.gmpl_rows.specs.declared.declared.Declared.{Declared}
 use Rattle.gmpl_rows.specs.declared.draft.ObjectiveRow.{ObjectiveRow}
 use Rattle.gmpl_rows.specs.declared.draft.RowHead.{RowHead}
 use Rattle.gmpl_rows.specs.declared.member_column.Cell.{Cell}
+use Rattle.gmpl_rows.specs.declared.members.ColumnMember.{ColumnMember}
+use Rattle.gmpl_rows.specs.declared.term.Bounds.{Bounds}
 
 -- ---- columns: by statement, then by first demand
 
@@ -98,21 +100,21 @@ problem_of d = aimed_at d.objective (rows_of d) (plain (columns_of d) (rows_of d
 
 -- ---- the members that columns and rows come from
 
-abbrev pub used_member : ℕ → List Symbol → MemberColumn → List Member
-used_member statement m k = cond (is_used k) (member statement m ∷ []) []
+abbrev pub used_member : ℕ → List Symbol → MemberColumn → List ColumnMember
+used_member statement m k = cond (is_used k) (record { member = member statement m; bounds = k.bounds } ∷ []) []
 
 -- those of a variable with a coefficient other than 0 in some row
-abbrev pub used_members : ℕ → List (List Symbol) → List MemberColumn → List Member
+abbrev pub used_members : ℕ → List (List Symbol) → List MemberColumn → List ColumnMember
 used_members statement (m ∷ ms) (k ∷ ks) = used_member statement m k ++ used_members statement ms ks
 used_members statement _ _ = []
 
 -- of the statements from a place on
-abbrev pub members_from : ℕ → List Declared → List Demanded → List Member
+abbrev pub members_from : ℕ → List Declared → List Demanded → List ColumnMember
 members_from place (v ∷ vs) (d ∷ ds) = used_members place d.members d.columns ++ members_from (place + 1) vs ds
 members_from place _ _ = []
 
--- in the columns' order
-abbrev pub column_members : Draft → List Member
+-- in the columns' order, with the columns' own bounds
+abbrev pub column_members : Draft → List ColumnMember
 column_members d = members_from 0 d.objects d.variables
 
 -- in the rows' order
@@ -123,8 +125,17 @@ row_members d = map row_member d.rows
 abbrev pub named_among : List Declared → Member → List ℕ
 named_among vs m = member_name (name_of vs m.statement) m.subscripts
 
+abbrev pub column_named : List Declared → ColumnMember → List ℕ
+column_named vs c = named_among vs c.member
+
+abbrev pub own_bounds : ColumnMember → Bounds
+own_bounds c = c.bounds
+
 abbrev pub column_name : Column → List ℕ
 column_name c = c.name
+
+abbrev pub column_bounds : Column → Bounds
+column_bounds c = record { lower = c.lower; upper = c.upper }
 
 abbrev pub row_name : Row → List ℕ
 row_name r = r.name

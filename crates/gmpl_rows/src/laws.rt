@@ -4,7 +4,7 @@ ghost use Rattle.rational.specs.Rational.{Rational};
 ghost use Rattle.milp.specs.declared.Direction.{Direction};
 ghost use Rattle.gmpl_value.specs.declared.symbol.Symbol.{Symbol};
 ghost use Rattle.gmpl_rows.specs.Draft.{Draft, is_new, no_rows, with_row, with_objective};
-ghost use Rattle.gmpl_rows.specs.Problem.{column_members, column_name, named_among, problem_of, row_members, row_name};
+ghost use Rattle.gmpl_rows.specs.Problem.{column_bounds, column_members, column_name, column_named, named_among, own_bounds, problem_of, row_members, row_name};
 ghost use Rattle.gmpl_rows.specs.Terms.{IsDraft, coefficient_at, coefficient_in};
 ghost use Rattle.gmpl_rows.specs.declared.declared.Declared.{Declared};
 ghost use Rattle.gmpl_rows.specs.declared.draft.RowHead.{RowHead};
@@ -22,9 +22,11 @@ pub fn rows_have_their_terms()
         → coefficient_at i s m e.variables ≡ cond (i == length d.rows) (coefficient_in s m terms) (coefficient_at i s m d.variables) }
 {}
 
-/// Each column and each row of the problem comes from a member, whose name it has: so they are as many.
+/// Each column and each row of the problem comes from a member, whose name it has: so they are as many. A column's own bounds are
+/// those that its member has.
 pub fn columns_have_members()
-    ensures columns { (d : Draft) → map column_name (problem_of d).columns ≡ map (named_among d.objects) (column_members d) }
+    ensures columns { (d : Draft) → map column_name (problem_of d).columns ≡ map (column_named d.objects) (column_members d) }
+    ensures bounds { (d : Draft) → map column_bounds (problem_of d).columns ≡ map own_bounds (column_members d) }
     ensures rows { (d : Draft) → map row_name (problem_of d).rows ≡ map (named_among d.objects) (row_members d) }
     ensures column_count { (d : Draft) → length (problem_of d).columns ≡ length (column_members d) }
     ensures row_count { (d : Draft) → length (problem_of d).rows ≡ length (row_members d) }

@@ -21,5 +21,5 @@ pub use fault::DraftFault;
 pub use finished::finish;
 pub use laws::{columns_have_members, rows_have_their_terms};
 pub use member_column::Cell;
-pub use members::{column_members, row_members};
+pub use members::{ColumnMember, column_members, row_members};
 pub use term::{Bounds, Term};

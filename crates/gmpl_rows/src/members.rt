@@ -6,14 +6,22 @@ ghost use Rattle.gmpl_rows.specs.Problem as spec;
 use crate::demanded::Demanded;
 use crate::draft::{Draft, RowHead};
 use crate::member_column::MemberColumn;
+use crate::term::Bounds;
 use gmpl_solution::Member;
 use gmpl_value::Tuple;
 use std::alloc::{AllocError, Global};
 
+/// The member that a column comes from, with the column's own bounds: those of the member's first demand.
+#[derive(Drop)]
+pub struct ColumnMember {
+    pub member: Member,
+    pub bounds: Bounds,
+}
+
 // A member of the variable at a place, where it is a column.
 fn push_used(
     alloc: Global,
-    members: &mut Vec<Member>,
+    members: &mut Vec<ColumnMember>,
     statement: usize,
     subscripts: &Tuple,
     column: &MemberColumn,
@@ -21,9 +29,13 @@ fn push_used(
     ensures { OnOk result (members.new.items ≡ members.old.items ++ spec.used_member statement subscripts.now column.now) }
 {
     if column.is_used() {
-        members.push(Member {
+        let member = Member {
             statement,
             subscripts: subscripts.copied(alloc)?,
+        };
+        members.push(ColumnMember {
+            member,
+            bounds: column.bounds(),
         })?;
     }
     Ok(())
@@ -32,7 +44,7 @@ fn push_used(
 // The members of the variable at a place that are columns.
 fn push_members(
     alloc: Global,
-    members: &mut Vec<Member>,
+    members: &mut Vec<ColumnMember>,
     statement: usize,
     demanded: &Demanded,
 ) -> Result<(), AllocError>
@@ -51,7 +63,7 @@ fn push_members(
 }
 
 /// The members that the columns of the problem come from, in the columns' order.
-pub fn column_members(alloc: Global, draft: &Draft) -> Result<Vec<Member>, AllocError>
+pub fn column_members(alloc: Global, draft: &Draft) -> Result<Vec<ColumnMember>, AllocError>
     ensures { IfOk result (λ made. made.items ≡ spec.column_members draft.now) }
 {
     let mut members = Vec::new(alloc);

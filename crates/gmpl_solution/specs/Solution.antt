@@ -1,13 +1,12 @@
 -- What the members of a model come to at a point of its problem (GNU MathProg Language Reference, section on the values of variables
 -- and constraints behind `solve`).
-use Rattle.std.specs.Prelude.{ℕ, Bool, List, [], Option}
-use Rattle.std.specs.Option.{unwrap_or}
+use Rattle.std.specs.Prelude.{ℕ, Bool, List, [], Option, Some, None}
 use Rattle.std.specs.Map.{lookup}
 use Rattle.indexmap.specs.IndexMap.{insert_entry}
 use Rattle.rational.specs.Rational.{Rational, zero_ℚ}
 use Rattle.gmpl_value.specs.declared.symbol.Symbol.{Symbol}
 use Rattle.gmpl_solution.specs.declared.member.Member.{Member}
-use Rattle.gmpl_solution.specs.declared.solution.SolvedRow.{SolvedRow}
+use Rattle.gmpl_solution.specs.declared.solution.SolvedMember.{SolvedMember}
 use Rattle.gmpl_solution.specs.contracts.member.MemberPartialEq.TheImpl as impl
 
 -- the same statement, and equal subscripts
@@ -17,24 +16,32 @@ member_eq = (impl.ghosts).eq
 abbrev pub member : ℕ → List Symbol → Member
 member place subscripts = record { statement = place; subscripts = subscripts }
 
--- the numbers of the columns' members, and what the rows' members come to
+-- what the columns' members, and the rows' members, come to
 pub record Solution : Type 0 where
-  pub values : List (Member × Rational)
-  pub rows : List (Member × SolvedRow)
+  pub columns : List (Member × SolvedMember)
+  pub rows : List (Member × SolvedMember)
 
 abbrev pub nothing : Solution
-nothing = record { values = []; rows = [] }
+nothing = record { columns = []; rows = [] }
+
+-- what a variable's member comes to, where it is a column
+abbrev pub column_of : Solution → Member → Option SolvedMember
+column_of s m = lookup (member_eq m) s.columns
+
+abbrev pub number_in : Option SolvedMember → Rational
+number_in None = zero_ℚ
+number_in (Some column) = column.value
 
 -- the number of a variable's member: 0 where it is no column
 abbrev pub value_of : Solution → Member → Rational
-value_of s m = unwrap_or (lookup (member_eq m) s.values) zero_ℚ
+value_of s m = number_in (column_of s m)
 
 -- what the member of a constraint or of an objective comes to, where it has a row
-abbrev pub row_of : Solution → Member → Option SolvedRow
+abbrev pub row_of : Solution → Member → Option SolvedMember
 row_of s m = lookup (member_eq m) s.rows
 
-abbrev pub with_value : Solution → Member → Rational → Solution
-with_value s m value = record s { values = insert_entry member_eq s.values m value }
+abbrev pub with_column : Solution → Member → SolvedMember → Solution
+with_column s m column = record s { columns = insert_entry member_eq s.columns m column }
 
-abbrev pub with_row : Solution → Member → SolvedRow → Solution
+abbrev pub with_row : Solution → Member → SolvedMember → Solution
 with_row s m row = record s { rows = insert_entry member_eq s.rows m row }

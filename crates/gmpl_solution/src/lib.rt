@@ -5,4 +5,4 @@ mod member;
 mod solution;
 
 pub use member::Member;
-pub use solution::{Solution, SolvedRow};
+pub use solution::{Solution, SolvedMember};

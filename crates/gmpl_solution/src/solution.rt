@@ -1,6 +1,6 @@
 // What members come to.
 ghost use Rattle.std.specs.Prelude.{◌≡◌, OnOk};
-ghost use Rattle.gmpl_solution.specs.Solution.{nothing, value_of, row_of, with_value, with_row};
+ghost use Rattle.gmpl_solution.specs.Solution.{nothing, value_of, column_of, row_of, with_column, with_row};
 
 use crate::member::Member;
 use fraction::Frac;
@@ -8,20 +8,21 @@ use indexmap::IndexMap;
 use std::alloc::{AllocError, Global};
 use std::marker::Model;
 
-/// What a member of a constraint or of an objective comes to: the value of its row's form at the point, and the row's bounds.
+/// What a member that is a column or a row comes to: its number at the point, which of a row is the value of its form, and its own
+/// bounds.
 #[derive(Clone, Copy)]
-pub struct SolvedRow {
+pub struct SolvedMember {
     pub value: Frac,
     pub lower: Option<Frac>,
     pub upper: Option<Frac>,
 }
 
-/// The numbers of members at a point of the problem: those of variables that are columns, and of constraints and objectives.
+/// What members come to at a point of the problem: those of variables that are columns, and those of constraints and objectives.
 /// Clauses see the two lists of pairs.
 #[derive(Drop)]
 pub struct Solution {
-    values: IndexMap<Member, Frac>,
-    rows: IndexMap<Member, SolvedRow>,
+    columns: IndexMap<Member, SolvedMember>,
+    rows: IndexMap<Member, SolvedMember>,
 }
 
 impl Model for Solution {
@@ -29,7 +30,7 @@ impl Model for Solution {
 
     ghost Value = { SolutionOf };
 
-    ghost view = { λ s. record { values = s.values.entries; rows = s.rows.entries } };
+    ghost view = { λ s. record { columns = s.columns.entries; rows = s.rows.entries } };
 }
 
 impl Solution {
@@ -38,7 +39,7 @@ impl Solution {
         ensures { result ≡ nothing }
     {
         Solution {
-            values: IndexMap::new(alloc),
+            columns: IndexMap::new(alloc),
             rows: IndexMap::new(alloc),
         }
     }
@@ -47,14 +48,24 @@ impl Solution {
     pub fn value(&self, member: &Member) -> Frac
         ensures { result ≡ value_of self.now member.now }
     {
-        match self.values.get(member) {
-            Some(value) => *value,
+        match self.column(member) {
+            Some(column) => column.value,
             None => Frac::zero(),
         }
     }
 
+    /// What a variable's member comes to, where it is a column.
+    pub fn column(&self, member: &Member) -> Option<SolvedMember>
+        ensures { result ≡ column_of self.now member.now }
+    {
+        match self.columns.get(member) {
+            Some(column) => Some(*column),
+            None => None,
+        }
+    }
+
     /// What the member of a constraint or of an objective comes to, where it has a row.
-    pub fn row(&self, member: &Member) -> Option<SolvedRow>
+    pub fn row(&self, member: &Member) -> Option<SolvedMember>
         ensures { result ≡ row_of self.now member.now }
     {
         match self.rows.get(member) {
@@ -63,18 +74,18 @@ impl Solution {
         }
     }
 
-    /// The number of a column's member.
-    pub fn add_value(&mut self, member: Member, value: Frac) -> Result<(), AllocError>
-        ensures { OnOk result (self.new ≡ with_value self.old member value) }
+    /// What a column's member comes to.
+    pub fn add_column(&mut self, member: Member, column: SolvedMember) -> Result<(), AllocError>
+        ensures { OnOk result (self.new ≡ with_column self.old member column) }
     {
-        match self.values.insert(member, value) {
+        match self.columns.insert(member, column) {
             Ok(_) => Ok(()),
             Err(_) => Err(AllocError),
         }
     }
 
     /// What a row's member comes to.
-    pub fn add_row(&mut self, member: Member, row: SolvedRow) -> Result<(), AllocError>
+    pub fn add_row(&mut self, member: Member, row: SolvedMember) -> Result<(), AllocError>
         ensures { OnOk result (self.new ≡ with_row self.old member row) }
     {
         match self.rows.insert(member, row) {

@@ -56,16 +56,16 @@ abbrev pub decreases-evaluate::conditional : goal.decreases-evaluate::conditiona
 decreases-evaluate::conditional l = 32 * l.room + 2
 
 abbrev pub decreases-members::declared : goal.decreases-members::declared
-decreases-members::declared l = 32 * l.room + 12
+decreases-members::declared l = 32 * l.room + 13
 
 abbrev pub decreases-members::demanded : goal.decreases-members::demanded
-decreases-members::demanded l = 32 * l.room + 15
+decreases-members::demanded l = 32 * l.room + 16
 
 abbrev pub decreases-members::without_suffix : goal.decreases-members::without_suffix
-decreases-members::without_suffix l = 32 * l.room + 14
+decreases-members::without_suffix l = 32 * l.room + 15
 
 abbrev pub decreases-members::anew : goal.decreases-members::anew
-decreases-members::anew l = 32 * l.room + 13
+decreases-members::anew l = 32 * l.room + 14
 
 abbrev pub decreases-sets::shared_set : goal.decreases-sets::shared_set
 decreases-sets::shared_set l = 32 * l.room + 3
@@ -113,7 +113,7 @@ abbrev pub decreases-values::listed : goal.decreases-values::listed
 decreases-values::listed l = 32 * l.room + 1
 
 abbrev pub decreases-members::member_of : goal.decreases-members::member_of
-decreases-members::member_of l = 32 * l.room + 11
+decreases-members::member_of l = 32 * l.room + 12
 
 abbrev pub decreases-restrictions::membership_holds : goal.decreases-restrictions::membership_holds
 decreases-restrictions::membership_holds l = 32 * l.room + 4
@@ -122,7 +122,7 @@ abbrev pub decreases-restrictions::memberships_hold : goal.decreases-restriction
 decreases-restrictions::memberships_hold l = 32 * l.room + 5
 
 abbrev pub decreases-evaluate::named : goal.decreases-evaluate::named
-decreases-evaluate::named l = 32 * l.room + 16
+decreases-evaluate::named l = 32 * l.room + 17
 
 abbrev pub decreases-values::negation : goal.decreases-values::negation
 decreases-values::negation l = 32 * l.room + 2
@@ -178,8 +178,11 @@ decreases-values::text_length l = 32 * l.room + 1
 abbrev pub decreases-variables::variable_bounds : goal.decreases-variables::variable_bounds
 decreases-variables::variable_bounds l = 32 * l.room + 9
 
+abbrev pub decreases-variables::evaluated_variable : goal.decreases-variables::evaluated_variable
+decreases-variables::evaluated_variable l = 32 * l.room + 10
+
 abbrev pub decreases-variables::variable_member : goal.decreases-variables::variable_member
-decreases-variables::variable_member l = 32 * l.room + 10
+decreases-variables::variable_member l = 32 * l.room + 11
 
 abbrev pub decreases-indexing::walked : goal.decreases-indexing::walked
 decreases-indexing::walked l = 32 * l.room + 7

@@ -6,5 +6,5 @@ use Rattle.gmpl_meaning.proofs.kept.Kept.keep.Goals as goal
 
 pub returns : goal.returns
 returns c = λ model all right.
-    value_kept model c.args.asked c.args.value (record { values = c.self.inside.values.entries; bounds = c.self.inside.bounds.entries }) c.insert.new.self c.insert.result c.insert.ensures.ok c.insert.ensures.err
+    value_kept model c.args.asked c.args.value (record { values = c.self.inside.values.entries; alone = c.self.inside.alone.entries; bounds = c.self.inside.bounds.entries }) c.insert.new.self c.insert.result c.insert.ensures.ok c.insert.ensures.err
     (subst (AreRight model) (sym c.self.view_is) all) right

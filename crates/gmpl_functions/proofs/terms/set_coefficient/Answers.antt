@@ -1,7 +1,7 @@
 use Rattle.std.proofs.Common.{◌∙◌, ap, sym}
 use Rattle.std.specs.Option.{option_copied_mut}
 use Rattle.gmpl_functions.proofs.ScalingSteps.{nothing_there}
-use Rattle.gmpl_functions.proofs.form.set_coefficient.Goals as goal
+use Rattle.gmpl_functions.proofs.terms.set_coefficient.Goals as goal
 
 pub returns-in_default : goal.returns-in_default
 returns-in_default c =
