@@ -9,8 +9,8 @@ use Rattle.milp.specs.Form.{Entry, number_at, value_at}
 use Rattle.milp.specs.Problem.{Row, Problem}
 use Rattle.verdicts.specs.Certificate.{Side as SideOf, Weights, Derived}
 use Rattle.verdicts.specs.WeightedSums.{AllBelow}
-use Rattle.basis.specs.System.{System, size, Satisfies, extended}
-use Rattle.basis.specs.Dictionary.{place_of, IsBasic, IsResting, AllResting, Dictionary, IsDictionary, RestsAt, IsBasicPoint}
+use Rattle.basis.specs.System.{System, size, Satisfies}
+use Rattle.basis.specs.Dictionary.{place_of, IsResting, AllResting, Dictionary, IsDictionary, RestsAt, IsBasicPoint}
 use Rattle.basis.specs.Node.{system_of, IsOverColumns}
 use Rattle.basis.specs.Relaxation.{IsOptimalRelaxation}
 use Rattle.basis.specs.declared.Place.{Place}

@@ -1,5 +1,5 @@
 -- A problem each of whose points is optimal: what rests at a point tells its column's number at 0 alone.
-use Rattle.std.specs.Prelude.{true, List, [], ◌∷◌, Some, None, codes}
+use Rattle.std.specs.Prelude.{true, [], ◌∷◌, Some, None, codes}
 use Rattle.rational.specs.Rational.{zero_ℚ}
 use Rattle.milp.specs.Problem.{Problem}
 use Rattle.milp.specs.declared.Direction.TheVariants.{Min}
