@@ -1,17 +1,27 @@
 -- A point that meets each member of a list is a point of the problem with these bounds alone.
-use Rattle.std.proofs.Common.{◌≡◌, ◌∙◌, ◌⊎◌, inl, inr, ℕ, List, [], ◌∷◌, length, Bool, true, false, refl, sym, subst, Option, Some, None, IfSome, IsTrue, slice_get}
-use Rattle.rational.specs.Rational.{Rational, ◌≤ℚ◌}
+use Rattle.std.proofs.Common.{◌≡◌, ◌∙◌, ◌⊎◌, inl, inr, ℕ, Result, Ok, IfOk, List, [], ◌∷◌, length, Bool, true, false, refl, sym, subst, Option, Some, None, IfSome, IsTrue, slice_get}
+use Rattle.rational.specs.Rational.{Rational, zero_ℚ, ◌≤ℚ◌}
 use Rattle.rational.proofs.Laws as Q
-use Rattle.milp.specs.Form.{number_at, sum_at}
+use Rattle.fraction.specs.declared.frac.NoFit.{NoFit}
+use Rattle.milp.specs.Form.{Entry, number_at, sum_at}
 use Rattle.milp.specs.Problem.{Column, Row, Problem}
 use Rattle.milp.specs.Points.{IsWithin, IsWhole, Feasible}
 use Rattle.verdicts.specs.Proves.{lies_above, lies_below}
+use Rattle.instance.specs.Sums.{sum_answer}
+use Rattle.instance.proofs.Laws.{sum_fits_ok}
 use Rattle.branch_search.specs.Plain.{NoneInteger}
 use Rattle.infeasible_subset.specs.Members.{Side, Lower, Upper, Member, OfRow, OfColumn, same_member, has}
 use Rattle.infeasible_subset.specs.Subsets.{kept_if, sub}
 use Rattle.infeasible_subset.specs.Meeting.{lies_inside, MeetsOne, MeetsEach}
 use Rattle.infeasible_subset.proofs.Lists.{either_way, same_members}
 use Rattle.infeasible_subset.proofs.Subsets.{row_or_none, get_row, column_or_none, get_column, column_count}
+
+-- where a row's sum fits, it is the row's sum
+pub row_met : (s : Side) (lower upper : Option Rational) (x : List Rational) (es : List Entry) (v : Rational) → Ok v ≡ sum_answer x zero_ℚ es → IsTrue (lies_inside s lower upper v) → IsTrue (lies_inside s lower upper (sum_at x es))
+row_met s lower upper x es v e h =
+    let P : Result Rational NoFit → Type 0 = λ r. IfOk r (λ w. w ≡ sum_at x es) in
+    let same : v ≡ sum_at x es = subst P (sym e) (sum_fits_ok x es) in
+    subst (λ w. IsTrue (lies_inside s lower upper w)) same h
 
 one_of : (p : Problem) (x : List Rational) (ms : List Member) → MeetsEach p x ms → (m : Member) → IsTrue (has ms m) → MeetsOne p x m
 one_of p x [] h m t = cc
