@@ -25,11 +25,11 @@ row_met s lower upper x es v e h =
 
 one_of : (p : Problem) (x : List Rational) (ms : List Member) → MeetsEach p x ms → (m : Member) → IsTrue (has ms m) → MeetsOne p x m
 one_of p x [] h m t = cc
-one_of p x (k ∷ ms) h m t = go (either_way (same_member k m) (has ms m) t)
+one_of p x (k ∷ ms) h m t = go (either_way (same_member k m) (has ms m) t) (one_of p x ms h.1 m)
   where
-    go : IsTrue (same_member k m) ⊎ IsTrue (has ms m) → MeetsOne p x m
-    go (inl same) = subst (MeetsOne p x) (same_members k m same) h.0
-    go (inr more) = one_of p x ms h.1 m more
+    go : IsTrue (same_member k m) ⊎ IsTrue (has ms m) → (IsTrue (has ms m) → MeetsOne p x m) → MeetsOne p x m
+    go (inl same) more = subst (MeetsOne p x) (same_members k m same) h.0
+    go (inr found) more = more found
 
 above : (o : Option Rational) (v : Rational) (kept : Bool) → (IsTrue kept → IsTrue (lies_above o v)) → IfSome (kept_if kept o) (λ b. b ≤ℚ v)
 above o v false h = tt
