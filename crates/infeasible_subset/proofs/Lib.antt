@@ -4,3 +4,4 @@ mod Subsets
 mod There
 mod OneByOne
 mod Treated
+mod EachMet

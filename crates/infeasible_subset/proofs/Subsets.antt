@@ -14,11 +14,11 @@ use Rattle.infeasible_subset.specs.Subsets.{kept_if, sub_row, sub_rows, sub_colu
 
 -- ---- a row and a column of the problem with fewer bounds
 
-abbrev row_or_none : (Side → Bool) → Option Row → Option Row
+abbrev pub row_or_none : (Side → Bool) → Option Row → Option Row
 row_or_none keep None = None
 row_or_none keep (Some r) = Some (sub_row keep r)
 
-get_row : (keep : ℕ → Side → Bool) (rs : List Row) (i : ℕ) → slice_get (sub_rows keep rs) i ≡ row_or_none (keep i) (slice_get rs i)
+pub get_row : (keep : ℕ → Side → Bool) (rs : List Row) (i : ℕ) → slice_get (sub_rows keep rs) i ≡ row_or_none (keep i) (slice_get rs i)
 get_row keep [] i = refl
 get_row keep (r ∷ rs) zero = refl
 get_row keep (r ∷ rs) (suc i) = get_row (λ k. keep (suc k)) rs i
@@ -32,7 +32,7 @@ get_column keep [] j = refl
 get_column keep (c ∷ cs) zero = refl
 get_column keep (c ∷ cs) (suc j) = get_column (λ k. keep (suc k)) cs j
 
-column_count : (keep : ℕ → Side → Bool) (cs : List Column) → length (sub_columns keep cs) ≡ length cs
+pub column_count : (keep : ℕ → Side → Bool) (cs : List Column) → length (sub_columns keep cs) ≡ length cs
 column_count keep [] = refl
 column_count keep (c ∷ cs) = ap suc (column_count (λ k. keep (suc k)) cs)
 

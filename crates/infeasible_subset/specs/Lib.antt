@@ -5,3 +5,4 @@ pub mod Building
 pub mod Underway
 pub mod Faults
 pub mod Trials
+pub mod Meeting

@@ -93,13 +93,13 @@ fn add_columns_used(members: &mut Vec<Member>, items: &[Item]) -> Result<(), All
     Ok(())
 }
 
-fn row_used(item: &Item) -> Member
+pub(crate) fn row_used(item: &Item) -> Member
     ensures { result ≡ row_used item.now }
 {
     Member::OfRow(item.index as usize, side_used(item.weight))
 }
 
-fn column_used(item: &Item) -> Member
+pub(crate) fn column_used(item: &Item) -> Member
     ensures { result ≡ column_used item.now }
 {
     Member::OfColumn(item.index as usize, side_used(item.weight))

@@ -1,7 +1,9 @@
 // Bounds by their places.
 ghost use Rattle.std.specs.Prelude.{◌≡◌, IfOk};
 ghost use Rattle.infeasible_subset.specs.Members.{same_side, same_member, has, both};
+ghost use Rattle.infeasible_subset.specs.Meeting.{bound_on};
 
+use fraction::Frac;
 use std::alloc::{AllocError, Global};
 
 /// The lower or the upper one of two bounds.
@@ -19,6 +21,16 @@ pub enum Member {
 }
 
 impl Side {
+    // The one of two bounds that is on this side.
+    pub(crate) fn bound(self, lower: Option<Frac>, upper: Option<Frac>) -> Option<Frac>
+        ensures { result ≡ bound_on self lower upper }
+    {
+        match self {
+            Side::Lower => lower,
+            Side::Upper => upper,
+        }
+    }
+
     // Both are the same side.
     fn is_same(self, other: Side) -> bool
         ensures { result ≡ same_side self other }

@@ -1,5 +1,6 @@
 // Whether a point meets some of a problem's bounds.
-ghost use Rattle.std.specs.Prelude.{◌≡◌, [], None, IfOk};
+ghost use Rattle.std.specs.Prelude.{◌≡◌, [], None, IfOk, IfSome};
+ghost use Rattle.milp.specs.Points.{Feasible};
 ghost use Rattle.branch_search.specs.Plain.{NoneInteger};
 ghost use Rattle.branch_search.specs.Treatment.{IsTreatment};
 ghost use Rattle.infeasible_subset.specs.Members.{has};
@@ -7,6 +8,7 @@ ghost use Rattle.infeasible_subset.specs.Subsets.{sub};
 ghost use Rattle.infeasible_subset.specs.Trials.{IsTrial};
 
 use crate::Member;
+use crate::meeting::meets;
 use crate::parts::sub_problem;
 use branch_search::{Found, Treatment, treat};
 use candidate::Proposer;
@@ -31,8 +33,38 @@ pub(crate) enum Trial {
     AtLimit(Bases),
 }
 
-/// Tries whether a point meets these members alone.
-pub(crate) fn try_alone(
+/// Tries whether a point meets these members: the proposed one, and where it doesn't, any.
+pub(crate) fn try_proposed(
+    alloc: Global,
+    problem: &Instance,
+    members: &[Member],
+    pivot_limit: u32,
+    proposed: Option<Point>,
+) -> Result<Trial, AllocError>
+    requires { NoneInteger problem.now.columns }
+    ensures { IfOk result (IsTrial (sub problem.now (has members.now)) pivot_limit) }
+{
+    match if_met(problem, members, proposed) {
+        Some(point) => Ok(Trial::Met(point)),
+        None => try_alone(alloc, problem, members, pivot_limit),
+    }
+}
+
+// The point, where it meets the members.
+fn if_met(problem: &Instance, members: &[Member], proposed: Option<Point>) -> Option<Point>
+    requires { NoneInteger problem.now.columns }
+    ensures { IfSome result (Feasible (sub problem.now (has members.now))) }
+{
+    let point = proposed?;
+    if meets(problem, members, &point) {
+        Some(point)
+    } else {
+        None
+    }
+}
+
+// Tries whether a point meets these members alone.
+fn try_alone(
     alloc: Global,
     problem: &Instance,
     members: &[Member],

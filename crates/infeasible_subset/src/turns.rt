@@ -6,8 +6,9 @@ ghost use Rattle.infeasible_subset.specs.Underway.{members_of, IsUnderway};
 ghost use Rattle.infeasible_subset.specs.Faults.{IsFault};
 
 use crate::bounds::all_bounds;
+use crate::proposed::{Proposals, proposed};
 use crate::settling::{Underway, left_of, settle};
-use crate::trial::try_alone;
+use crate::trial::try_proposed;
 use crate::{Members, SubsetFault, Witnesses};
 use certificate::Weights;
 use instance::Instance;
@@ -31,11 +32,12 @@ pub(crate) fn begin(
     })
 }
 
-/// Tries one member after the other, until none is left.
+/// Tries one member after the other, until none is left, with what points are proposed for them.
 pub(crate) fn run(
     alloc: Global,
     problem: &Instance,
     underway: &mut Underway,
+    proposals: &Option<Proposals>,
     pivot_limit: u32,
 ) -> Result<(), SubsetFault>
     requires continuous { NoneInteger problem.now.columns }
@@ -44,7 +46,7 @@ pub(crate) fn run(
     ensures fault { IfErr result (IsFault problem.now pivot_limit) }
 {
     while !underway.left.as_slice().is_empty() {
-        turn(alloc, problem, underway, pivot_limit)?;
+        turn(alloc, problem, underway, proposals, pivot_limit)?;
     }
     Ok(())
 }
@@ -54,6 +56,7 @@ fn turn(
     alloc: Global,
     problem: &Instance,
     underway: &mut Underway,
+    proposals: &Option<Proposals>,
     pivot_limit: u32,
 ) -> Result<(), SubsetFault>
     requires continuous { NoneInteger problem.now.columns }
@@ -65,7 +68,8 @@ fn turn(
 {
     let member = underway.left.take_first();
     let others = others(alloc, &underway.done, &underway.left)?;
-    let trial = try_alone(alloc, problem, others.as_slice(), pivot_limit)?;
+    let point = proposed(alloc, proposals, &member);
+    let trial = try_proposed(alloc, problem, others.as_slice(), pivot_limit, point)?;
     settle(alloc, problem, underway, member, others, pivot_limit, trial)
 }
 

@@ -10,10 +10,11 @@ ghost use Rattle.infeasible_subset.specs.Underway.{members_of, AllMeet, IsUnderw
 ghost use Rattle.infeasible_subset.specs.Faults.{IsFault};
 
 use crate::leaf::refuting;
+use crate::proposed::{Proposals, proposing};
 use crate::settling::Underway;
 use crate::turns::{begin, run};
 use crate::{Subset, SubsetFault};
-use certificate::Certificate;
+use certificate::{Certificate, Weights};
 use instance::Instance;
 use std::alloc::Global;
 
@@ -43,8 +44,29 @@ pub fn subset(
     ensures fault { IfErr result (IsFault problem.now pivot_limit) }
 {
     let weights = refuting(alloc, problem, certificate)?;
+    let proposals = proposing(alloc, problem, &weights);
+    found(alloc, problem, weights, &proposals, pivot_limit)
+}
+
+// The subset that is found from these weights on.
+fn found(
+    alloc: Global,
+    problem: &Instance,
+    weights: Weights,
+    proposals: &Option<Proposals>,
+    pivot_limit: u32,
+) -> Result<Subset, SubsetFault>
+    requires continuous { NoneInteger problem.now.columns }
+    requires refutes { Refutes problem.now weights }
+    ensures irreducible { IfOk result (λ s. IsIrreducible problem.now (members_of s.witnesses)) }
+    ensures listed { IfOk result (λ s. AreAmong (members_of s.witnesses) (all_bounds problem.now)) }
+    ensures points { IfOk result (λ s. AllMeet problem.now (members_of s.witnesses) s.witnesses) }
+    ensures uses { IfOk result (λ s. UsesOnly (has (members_of s.witnesses)) s.weights) }
+    ensures refutes { IfOk result (λ s. Refutes problem.now s.weights) }
+    ensures fault { IfErr result (IsFault problem.now pivot_limit) }
+{
     let mut underway = begin(alloc, problem, weights)?;
-    run(alloc, problem, &mut underway, pivot_limit)?;
+    run(alloc, problem, &mut underway, proposals, pivot_limit)?;
     Ok(finished(problem, underway))
 }
 
