@@ -10,6 +10,7 @@ use Rattle.verdicts.specs.Certificate.{Split}
 use Rattle.search_tree.specs.declared.leaf.Slot.{Slot}
 use Rattle.search_tree.specs.declared.leaf.Slot.TheVariants as slot
 use Rattle.tree_pool.specs.declared.refs.NodeRef.{NodeRef}
+use Rattle.tree_pool.specs.declared.refs.NodeRef.TheVariants.{Again}
 use Rattle.search_node.specs.declared.node.SplitTaken.{SplitTaken}
 use Rattle.search_tree.specs.Tree.{Tree, Divided, AtLeaf, at_place, replaced, made, reclaimed, given_back, lease_of}
 use Rattle.search_tree.proofs.Laws.{made_reclaimed, made_replaced}
