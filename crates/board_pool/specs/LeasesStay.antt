@@ -53,7 +53,7 @@ all_leave_open number [] more a b = b
 all_leave_open number (e ∷ log) more a b = (a.0, all_leave_open number log more a.1 b)
 
 -- a lease is still open behind entries that do not end it
-pub open_behind : (spans : List (ℕ × ℕ)) (log rest : List Entry) (way : List Side) (lease : Lease) → IsOpenFor spans log way lease → AllLeaveOpen lease.number rest → IsOpenFor spans (log ++ rest) way lease
+unfoldable pub open_behind : (spans : List (ℕ × ℕ)) (log rest : List Entry) (way : List Side) (lease : Lease) → IsOpenFor spans log way lease → AllLeaveOpen lease.number rest → IsOpenFor spans (log ++ rest) way lease
 open_behind spans log rest way lease o leave = record {
   seat = o.seat;
   before = o.before;
@@ -71,6 +71,7 @@ none_ends spans log rest way lease o apart =
 
 -- a leaf that is leased below these splits stays so behind entries that do not end the lease
 pub leased_behind : (first : Board) (spans : List (ℕ × ℕ)) (log rest : List Entry) (lease : Lease) (sides : List SideOf) → (l : IsLeasedBelow first spans log lease sides) → AllLeaveOpen lease.number rest → IsLeasedBelow first spans (log ++ rest) lease sides
+unfolding open_behind
 leased_behind first spans log rest lease sides l leave = record {
   way = l.way;
   is_open = open_behind spans log rest l.way lease l.is_open leave;
