@@ -1,5 +1,5 @@
 -- Each call on the board is one event of the machine.
-use Rattle.std.proofs.Common.{ℕ, ◌≡◌, List, [], ◌∷◌, ◌++◌, Option, Some, slice_get, length, refl, sym, ap, ◌∙◌, subst, inl, inr, ⊎_elim, append-nil}
+use Rattle.std.proofs.Common.{ℕ, ◌≡◌, List, [], ◌∷◌, ◌++◌, Option, Some, slice_get, refl, sym, ap, ◌∙◌, subst, inl, ⊎_elim, append-nil}
 use Rattle.rational.specs.Rational.{Rational}
 use Rattle.search_tree.specs.declared.leaf.Lease.{Lease}
 use Rattle.search_tree.specs.declared.event.Event.{Event}
@@ -63,4 +63,4 @@ grafts_once spans seat first b c lease t best has of m g replay =
     let o = m.is_leased.is_open in
     let found = entry_of_lease first b spans lease t m in
     once spans seat first b c _ _ (Grafting seat lease t) (Best best) of g.new replay (inl refl)
-        (λ k. ⊎_elim (λ (e : k ≡ seat). subst (Has spans) (sym e) has) (λ h. own_alone spans o.seat o.has k (subst (λ (e : Option Entry). IsIn (leased_at e) k) found h)))
+    (λ k. ⊎_elim (λ (e : k ≡ seat). subst (Has spans) (sym e) has) (λ h. own_alone spans o.seat o.has k (subst (λ (e : Option Entry). IsIn (leased_at e) k) found h)))

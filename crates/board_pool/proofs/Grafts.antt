@@ -8,13 +8,13 @@ use Rattle.search_tree.specs.declared.event.Entry.{Entry}
 use Rattle.search_tree.specs.Tree.{Tree, AtLeaf, at_place, sides_to, AllSplits}
 use Rattle.search_tree.specs.Nodes.{IsWorthwhile}
 use Rattle.search_tree.specs.Board.{Board}
-use Rattle.search_tree.specs.Steps.{IsHistory, IsReplay, IsSound, MayGraft, opening}
+use Rattle.search_tree.specs.Steps.{IsHistory, IsSound, MayGraft, opening}
 use Rattle.search_tree.proofs.Laws.{replay_kept}
 use Rattle.board_pool.specs.Searches.{IsOfSearch}
 use Rattle.board_pool.specs.OpenLeases.{lease_to, IsOpenFor, IsLeasedBelow}
 use Rattle.board_pool.specs.Grafts.{MayBePut, with_log}
 use Rattle.board_pool.proofs.LeafStays.{history_leaves, history_parts, open_lease_is_there}
-use Rattle.board_pool.proofs.OneHistory.{one_history}
+use Rattle.board_pool.proofs.OneHistory.{StepsKeep, one_history}
 
 pub same_opening : (first b : Board) → IsOfSearch first b → opening b ≡ opening first
 same_opening first b of i = record {
@@ -28,9 +28,9 @@ same_opening first b of i = record {
 }
 
 -- the leased leaf stands on the board, below the splits below which it was leased
-pub leased_there : (first b : Board) (spans : List (ℕ × ℕ)) (lease : Lease) (sides : List SideOf) → IsOfSearch first b → (l : IsLeasedBelow first spans b.log lease sides)
+leased_there : StepsKeep → (first b : Board) (spans : List (ℕ × ℕ)) (lease : Lease) (sides : List SideOf) → IsOfSearch first b → (l : IsLeasedBelow first spans b.log lease sides)
     → (at_place b.tree l.way ≡ Some (AtLeaf (Leased lease))) × (sides ≡ sides_to b.tree l.way [])
-leased_there first b spans lease sides of l =
+leased_there step_kept first b spans lease sides of l =
     let o = l.is_open in
     let entry = lease_to o.seat l.way lease in
     let start = opening b in
@@ -40,7 +40,7 @@ leased_there first b spans lease sides of l =
     let there = open_lease_is_there start parts.0 spans (o.before ++ entry ∷ []) l.way lease parts.1 at_lease in
     let stays = history_leaves parts.0 b o.since l.way lease parts.2 there o.not_ended in
     let history = subst (λ (x : Board). IsHistory x (o.before ++ entry ∷ []) l.given) (sym (same_opening first b of)) l.history in
-    let same = one_history start l.given parts.0 (o.before ++ entry ∷ []) (replay_kept start (record { cuts = of.replay.cuts; history = refl })) history parts.1 in
+    let same = one_history step_kept start l.given parts.0 (o.before ++ entry ∷ []) (replay_kept start (record { cuts = of.replay.cuts; history = refl })) history parts.1 in
     (stays.0, l.is_below ∙ (ap (λ (x : Board). sides_to x.tree l.way []) same ∙ sym (stays.1 [])))
 
 -- a tree is sound on each board of the search with this log
@@ -53,9 +53,9 @@ sound_there first b sides t of s = record {
   none_leased = s.none_leased;
 }
 
-pub may_graft : (first b : Board) (spans : List (ℕ × ℕ)) (lease : Lease) (t : Tree) → IsOfSearch first b → MayBePut first spans b.log lease t → (way : List Side) × MayGraft b way lease t
-may_graft first b spans lease t of m =
-    let there = leased_there first b spans lease m.sides of m.is_leased in (
+pub may_graft : StepsKeep → (first b : Board) (spans : List (ℕ × ℕ)) (lease : Lease) (t : Tree) → IsOfSearch first b → MayBePut first spans b.log lease t → (way : List Side) × MayGraft b way lease t
+may_graft step_kept first b spans lease t of m =
+    let there = leased_there step_kept first b spans lease m.sides of m.is_leased in (
       m.is_leased.way,
       record {
         is_leased = there.0;

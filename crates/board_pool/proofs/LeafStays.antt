@@ -1,6 +1,6 @@
 -- A leased leaf stays where it is, below the same splits, until its lease ends.
-use Rattle.std.proofs.Common.{ℕ, ◌≡◌, ◌≢◌, List, [], ◌∷◌, ◌++◌, Option, Some, None, refl, sym, ap, ◌∙◌, subst}
-use Rattle.verdicts.specs.Certificate.{Split, Side as SideOf, Low as LowOf, High as HighOf}
+use Rattle.std.proofs.Common.{ℕ, ◌≡◌, ◌≢◌, List, [], ◌∷◌, ◌++◌, Some, refl, sym, ap, ◌∙◌, subst}
+use Rattle.verdicts.specs.Certificate.{Side as SideOf, Low as LowOf, High as HighOf}
 use Rattle.certificate.specs.declared.split.Side.{Side}
 use Rattle.certificate.specs.declared.split.Side.TheVariants.{Low, High}
 use Rattle.search_tree.specs.declared.leaf.Lease.{Lease}
@@ -53,11 +53,11 @@ tree_of_board b c is = ap (λ (x : Board). x.tree) is
 step_leaves : (b c : Board) (event : Event) (reply : Reply) (way : List Side) (lease : Lease) → Step b event reply c → at_place b.tree way ≡ Some (AtLeaf (Leased lease)) → LeavesOpen lease.number event → Stays b.tree c.tree way (Leased lease)
 step_leaves b c (Leasing seat) (Given other l) way lease s there leaves =
     stays_in b.tree _ c.tree way (Leased lease) (tree_of_board c _ s.new) (stays_beside b.tree way other (Leased lease) s.leaf (AtLeaf (Leased l)) there s.there
-        (λ e. subst IsTodo (same_leaf b.tree other way s.leaf (Leased lease) (sym e) s.there there) s.is_todo))
+    (λ e. subst IsTodo (same_leaf b.tree other way s.leaf (Leased lease) (sym e) s.there there) s.is_todo))
 step_leaves b c (Idling seat) (StillLeased n) way lease s there leaves = stays_in b.tree b.tree c.tree way (Leased lease) (tree_of_board c _ s.new) (there, λ above. refl)
 step_leaves b c (Grafting seat l t) (Best best) way lease s there leaves =
     stays_in b.tree _ c.tree way (Leased lease) (tree_of_board c _ s.new) (stays_beside b.tree way s.way (Leased lease) (Leased l) t there s.may.is_leased
-        (λ e. leaves (ap number_of (same_leaf b.tree s.way way (Leased l) (Leased lease) (sym e) s.may.is_leased there))))
+    (λ e. leaves (ap number_of (same_leaf b.tree s.way way (Leased l) (Leased lease) (sym e) s.may.is_leased there))))
 step_leaves b c (Offering seat x) (Best best) way lease s there leaves = stays_in b.tree b.tree c.tree way (Leased lease) (tree_of_board c _ s.new) (there, λ above. refl)
 step_leaves b c Reclaiming Done way lease s there leaves = absurd leaves
 step_leaves b c event reply way lease s there leaves = absurd s
@@ -88,5 +88,5 @@ open_lease_is_there first c spans log way lease h o =
     let given = parts.2 in
     let s = given.1 in
     let there : at_place given.0.tree way ≡ Some (AtLeaf (Leased lease)) =
-            subst (λ (t : Tree). at_place t way ≡ Some (AtLeaf (Leased lease))) (sym (tree_of_board given.0 _ s.new)) (at_replaced parts.0.tree way (AtLeaf s.leaf) (AtLeaf (Leased lease)) s.there) in
+    subst (λ (t : Tree). at_place t way ≡ Some (AtLeaf (Leased lease))) (sym (tree_of_board given.0 _ s.new)) (at_replaced parts.0.tree way (AtLeaf s.leaf) (AtLeaf (Leased lease)) s.there) in
     (history_leaves given.0 c o.since way lease given.2 there o.not_ended).0

@@ -1,5 +1,5 @@
 -- Open leases from call to call.
-use Rattle.std.proofs.Common.{ℕ, ◌≡◌, List, [], ◌∷◌, ◌++◌, Option, refl, sym, ap, ◌∙◌, subst}
+use Rattle.std.proofs.Common.{ℕ, ◌≡◌, List, [], ◌∷◌, ◌++◌, Option, refl, sym, ap, subst}
 use Rattle.rational.specs.Rational.{Rational}
 use Rattle.verdicts.specs.Certificate.{Side as SideOf}
 use Rattle.search_tree.specs.declared.leaf.Lease.{Lease}
@@ -17,7 +17,7 @@ use Rattle.turn_pool.specs.Logs.{Has, GoesOn}
 use Rattle.turn_pool.specs.Calls.{Called}
 use Rattle.board_pool.specs.Touched.{touched}
 use Rattle.board_pool.specs.Searches.{log_of, IsOfSearch}
-use Rattle.board_pool.specs.OpenLeases.{lease_to, IsOpenFor, IsLeasedBelow}
+use Rattle.board_pool.specs.OpenLeases.{lease_to, IsLeasedBelow}
 use Rattle.board_pool.specs.LeasesStay.{none_ends, leased_behind}
 use Rattle.board_pool.proofs.Grafts.{same_opening}
 
@@ -28,8 +28,7 @@ given_is_open v w lease hint c =
     let way = c.event.0 in
     let s = c.event.1 in
     let log_is : c.after.log ≡ c.before.log ++ lease_to v.own way lease ∷ [] = ap log_of s.new in
-    let history : IsHistory (opening c.after) (c.before.log ++ lease_to v.own way lease ∷ []) c.after = subst (λ (log : List Entry). IsHistory (opening c.after) log c.after) log_is c.replay.replay.history in
-    (
+    let history : IsHistory (opening c.after) (c.before.log ++ lease_to v.own way lease ∷ []) c.after = subst (λ (log : List Entry). IsHistory (opening c.after) log c.after) log_is c.replay.replay.history in (
       sides_to c.after.tree way [],
       subst (λ (x : View Board Entry). IsLeasedBelow v.key.first.value x.spans x.seen lease (sides_to c.after.tree way [])) (sym c.sees) (record {
         way = way;

@@ -1,5 +1,5 @@
 -- Trees that may be put where a leaf is leased.
-use Rattle.std.proofs.Common.{ℕ, ◌≡◌, ◌≤◌, List, Option, None, refl, arith}
+use Rattle.std.proofs.Common.{ℕ, ◌≤◌, List, Option, None, refl, arith}
 use Rattle.std.specs.Option.{IfSome}
 use Rattle.rational.specs.Rational.{Rational}
 use Rattle.verdicts.specs.Certificate.{Split, Side as SideOf}

@@ -1,5 +1,5 @@
 -- Entries that touch none of the numbers leave it allowed to put a tree.
-use Rattle.std.proofs.Common.{ℕ, ◌≡◌, ◌⊎◌, List, [], ◌∷◌, ◌++◌, Option, Some, None, inl, inr, ⊎_elim}
+use Rattle.std.proofs.Common.{ℕ, List, [], ◌∷◌, ◌++◌, Option, Some, None, inl, inr, ⊎_elim}
 use Rattle.std.specs.Option.{IfSome}
 use Rattle.rational.specs.Rational.{Rational}
 use Rattle.verdicts.specs.Certificate.{Side as SideOf}

@@ -38,8 +38,8 @@ pub record IsOpenFor (spans : List (ℕ × ℕ)) (log : List Entry) (way : List 
   pub has : Has spans seat
   pub not_ended : AllLeaveOpen lease.number since
 
--- The lease is open, for a leaf that stood below these splits, the latest first, on the board on which it was given: `given`,
--- after this lease.
+-- The lease is open, and its leaf stands below these splits, the latest first: so it did on the board `given`, to which the log leads
+-- up to the lease.
 pub record IsLeasedBelow (first : Board) (spans : List (ℕ × ℕ)) (log : List Entry) (lease : Lease) (sides : List SideOf) : Type 0 where
   pub way : List Side
   pub is_open : IsOpenFor spans log way lease

@@ -18,15 +18,10 @@ impl Event<SharedBoard> for Ask {
 
     ghost does = { λ event seat b answer c. IsAnswer b seat answer c };
 
-    fn make(
-        self,
-        alloc: Global,
-        seat: u32,
-        machine: &mut SharedBoard,
-    ) -> Result<LeaseAnswer, Ask> {
-        match machine.board.lease(alloc, seat as usize) {
+    fn make(self, alloc: Global, seat: u32, machine: &mut SharedBoard) -> Result<LeaseAnswer, Ask> {
+        match machine.lease(alloc, seat) {
             Ok(answer) => {
-                machine.board.keeps_its_log();
+                machine.keeps_its_log();
                 Ok(answer)
             }
             Err(_) => Err(self),

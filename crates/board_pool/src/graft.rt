@@ -6,7 +6,7 @@ ghost use Rattle.board_pool.specs.GraftsStay.{graft_stays};
 
 use crate::machine::SharedBoard;
 use fraction::Frac;
-use search_tree::{Lease, Subtree};
+use search_tree::{Lease, Subtree, kept_boards};
 use std::alloc::Global;
 use turn_pool::Event;
 
@@ -30,11 +30,12 @@ impl Event<SharedBoard> for Graft {
         seat: u32,
         machine: &mut SharedBoard,
     ) -> Result<Option<Frac>, Graft> {
-        machine.board.keeps_its_log();
+        kept_boards();
+        machine.keeps_its_log();
         let Graft { lease, tree } = self;
-        match machine.board.graft(alloc, seat as usize, lease, tree) {
+        match machine.graft(alloc, seat, lease.copy(), tree) {
             Ok(best) => {
-                machine.board.keeps_its_log();
+                machine.keeps_its_log();
                 Ok(best)
             }
             Err(tree) => Err(Graft { lease, tree }),

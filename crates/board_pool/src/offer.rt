@@ -30,9 +30,9 @@ impl Event<SharedBoard> for Offer {
         machine: &mut SharedBoard,
     ) -> Result<Option<Frac>, Offer> {
         let Offer { point } = self;
-        match machine.board.offer(seat as usize, point) {
+        match machine.offer(seat, point) {
             Ok(best) => {
-                machine.board.keeps_its_log();
+                machine.keeps_its_log();
                 Ok(best)
             }
             Err(point) => Err(Offer { point }),
