@@ -31,7 +31,6 @@ impl Event<SharedBoard> for Graft {
         machine: &mut SharedBoard,
     ) -> Result<Option<Frac>, Graft> {
         kept_boards();
-        machine.keeps_its_log();
         let Graft { lease, tree } = self;
         match machine.graft(alloc, seat, lease.copy(), tree) {
             Ok(best) => {

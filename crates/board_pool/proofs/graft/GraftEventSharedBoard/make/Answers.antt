@@ -15,4 +15,4 @@ graft-requires c =
 pub returns-in-Ok-clause-one : goal.returns-in-Ok-clause-one
 returns-in-Ok-clause-one c = λ spans first has of may.
     let P : Lease → Type 0 = λ lease. IsGraft c.args.machine.now c.args.seat lease c.args.self.tree c.in-Ok.best c.graft.new.self in
-    grafts_once spans c.args.seat first c.args.machine.now c.graft.new.self c.args.self.lease c.args.self.tree c.in-Ok.best has of may (subst P c.copy.ensures c.in-Ok.ensures.ok) c.keeps_its_log-in-Ok.ensures
+    grafts_once spans c.args.seat first c.args.machine.now c.graft.new.self c.args.self.lease c.args.self.tree c.in-Ok.best has of may (subst P c.copy.ensures c.in-Ok.ensures.ok) c.keeps_its_log.ensures
