@@ -1,0 +1,66 @@
+-- Open leases from call to call.
+use Rattle.std.proofs.Common.{ℕ, ◌≡◌, List, [], ◌∷◌, ◌++◌, Option, refl, sym, ap, subst}
+use Rattle.rational.specs.Rational.{Rational}
+use Rattle.verdicts.specs.Certificate.{Side as SideOf}
+use Rattle.search_tree.specs.declared.leaf.Lease.{Lease}
+use Rattle.search_tree.specs.declared.event.Event.TheVariants.{Offering}
+use Rattle.search_tree.specs.declared.event.Reply.TheVariants.{Best}
+use Rattle.search_tree.specs.declared.event.Entry.{Entry}
+use Rattle.search_tree.specs.Tree.{sides_to}
+use Rattle.search_tree.specs.Board.{Board}
+use Rattle.search_tree.specs.Steps.{IsHistory, IsOffer, opening}
+use Rattle.tree_pool.specs.declared.answer.LeaseAnswer.{LeaseAnswer}
+use Rattle.tree_pool.specs.declared.answer.LeaseAnswer.TheVariants.{Leased}
+use Rattle.tree_pool.specs.Answers.{IsAnswer}
+use Rattle.turn_pool.specs.declared.view.View.{View}
+use Rattle.turn_pool.specs.Logs.{Has, GoesOn}
+use Rattle.turn_pool.specs.Calls.{Called}
+use Rattle.board_pool.specs.Touched.{touched}
+use Rattle.board_pool.specs.Searches.{log_of, IsOfSearch}
+use Rattle.board_pool.specs.OpenLeases.{lease_to, IsLeasedBelow}
+use Rattle.board_pool.specs.LeasesStay.{none_ends, leased_behind}
+use Rattle.board_pool.proofs.Grafts.{same_opening}
+
+-- a lease that a pass was given is open for it
+pub given_is_open : (v w : View Board Entry) (lease : Lease) (hint : Unit {0}) → Called touched log_of IsOfSearch (λ seat b (answer : LeaseAnswer) c. IsAnswer b seat answer c) v (Leased lease hint) w
+    → (sides : List SideOf) × IsLeasedBelow v.key.first.value w.spans w.seen lease sides
+given_is_open v w lease hint c =
+    let way = c.event.0 in
+    let s = c.event.1 in
+    let log_is : c.after.log ≡ c.before.log ++ lease_to v.own way lease ∷ [] = ap log_of s.new in
+    let history : IsHistory (opening c.after) (c.before.log ++ lease_to v.own way lease ∷ []) c.after = subst (λ (log : List Entry). IsHistory (opening c.after) log c.after) log_is c.replay.replay.history in (
+      sides_to c.after.tree way [],
+      subst (λ (x : View Board Entry). IsLeasedBelow v.key.first.value x.spans x.seen lease (sides_to c.after.tree way [])) (sym c.sees) (record {
+        way = way;
+        is_open = record { seat = v.own; before = c.before.log; since = []; is_log = log_is; number = ap (λ (l : Lease). l.number) s.is_lease; has = c.within v.own c.own; not_ended = tt };
+        given = c.after;
+        history = subst (λ (x : Board). IsHistory x (c.before.log ++ lease_to v.own way lease ∷ []) c.after) (same_opening v.key.first.value c.after c.replay) history;
+        is_below = refl;
+      }),
+    )
+
+-- a log that goes on without the numbers leaves it open, and so it is for who holds more numbers
+pub open_where_log_goes_on : (first : Board) (spans more : List (ℕ × ℕ)) (seen log : List Entry) (lease : Lease) (sides : List SideOf) → IsLeasedBelow first spans seen lease sides → GoesOn touched spans seen log → ((k : ℕ) → Has spans k → Has more k)
+    → IsLeasedBelow first more log lease sides
+open_where_log_goes_on first spans more seen log lease sides l goes_on grows =
+    let behind = leased_behind first spans seen goes_on.0 lease sides l (none_ends spans seen goes_on.0 l.way lease l.is_open goes_on.2) in
+    subst (λ (x : List Entry). IsLeasedBelow first more x lease sides) (sym goes_on.1) (held_by_more first spans more (seen ++ goes_on.0) lease sides behind grows)
+  where
+    held_by_more : (first : Board) (spans more : List (ℕ × ℕ)) (log : List Entry) (lease : Lease) (sides : List SideOf) → IsLeasedBelow first spans log lease sides → ((k : ℕ) → Has spans k → Has more k) → IsLeasedBelow first more log lease sides
+    held_by_more first spans more log lease sides l grows = let o = l.is_open in record {
+      way = l.way;
+      is_open = record { seat = o.seat; before = o.before; since = o.since; is_log = o.is_log; number = o.number; has = grows o.seat o.has; not_ended = o.not_ended };
+      given = l.given;
+      history = l.history;
+      is_below = l.is_below;
+    }
+
+-- an offer of the pass leaves it open
+pub open_after_offer : (v w : View Board Entry) (x : List Rational) (best : Option Rational) (lease : Lease) (sides : List SideOf) → Called touched log_of IsOfSearch (λ seat b (told : Option Rational) c. IsOffer b seat x told c) v best w
+    → IsLeasedBelow v.key.first.value v.spans v.seen lease sides → IsLeasedBelow v.key.first.value w.spans w.seen lease sides
+open_after_offer v w x best lease sides c l =
+    let first = v.key.first.value in
+    let before = open_where_log_goes_on first v.spans v.spans v.seen c.before.log lease sides l c.goes_on (λ k has. has) in
+    let offered = leased_behind first v.spans c.before.log (record { event = Offering v.own x; reply = Best best } ∷ []) lease sides before (tt, tt) in
+    let log_is : c.after.log ≡ c.before.log ++ record { event = Offering v.own x; reply = Best best } ∷ [] = ap log_of c.event.new in
+    subst (λ (y : View Board Entry). IsLeasedBelow first y.spans y.seen lease sides) (sym c.sees) (subst (λ (log : List Entry). IsLeasedBelow first v.spans log lease sides) (sym log_is) offered)

@@ -1,0 +1,6 @@
+pub mod Grafts
+pub mod GraftsStay
+pub mod LeasesStay
+pub mod OpenLeases
+pub mod Searches
+pub mod Touched
