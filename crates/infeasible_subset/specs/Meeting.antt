@@ -2,7 +2,7 @@
 use Rattle.std.specs.Prelude.{Bool, List, [], ◌∷◌, Option, IfSome, IsTrue, slice_get}
 use Rattle.rational.specs.Rational.{Rational}
 use Rattle.milp.specs.Form.{number_at, sum_at}
-use Rattle.milp.specs.Problem.{Column, Row, Problem}
+use Rattle.milp.specs.Problem.{Problem}
 use Rattle.verdicts.specs.Proves.{lies_above, lies_below}
 use Rattle.infeasible_subset.specs.Members.{Side, Lower, Upper, Member, OfRow, OfColumn}
 

@@ -1,5 +1,5 @@
 // Whether a point meets members, each of which is tested by itself: nothing is built for it.
-ghost use Rattle.std.specs.Prelude.{◌≡◌, ◌&&◌, true, length, IfSome, IsTrue};
+ghost use Rattle.std.specs.Prelude.{◌≡◌, true, IsTrue};
 ghost use Rattle.milp.specs.Form.{number_at, sum_at};
 ghost use Rattle.milp.specs.Points.{Feasible};
 ghost use Rattle.verdicts.specs.Proves.{lies_above, lies_below};
