@@ -1,0 +1,9 @@
+mod Order
+mod Mixtures
+mod Meeting
+mod Directions
+mod CostRanges
+mod LeafEnds
+mod TightSums
+mod KeptPoints
+mod BoundRanges

@@ -1,0 +1,6 @@
+pub mod CostRanges
+pub mod TightBounds
+pub mod PlaceNames
+pub mod CostAuxiliary
+pub mod BoundRanges
+pub mod BoundAuxiliary
