@@ -7,3 +7,6 @@ mod LeafEnds
 mod TightSums
 mod KeptPoints
 mod BoundRanges
+mod CostRows
+mod CostPoints
+mod LeafDirections
