@@ -1,28 +1,32 @@
 -- The weights of a leaf of a cost's auxiliary problem give the direction of the end.
+use Rattle.std.specs.Prelude.{negsuc}
 use Rattle.std.proofs.Common.{◌≡◌, ◌∙◌, ℕ, zero, suc, ◌+◌, ◌<◌, List, [], ◌∷◌, Bool, true, false, cond, ◌==◌, refl, sym, ap, subst, Option, Some, None, IfSome, slice_get, get_or, option_and_then, length, if◌then◌else◌, arith}
 use Rattle.std.proofs.lemmas.Bool.{and_parts}
 use Rattle.std.proofs.lemmas.Bool.Decides.{nat_tests}
 use Rattle.std.proofs.Math.Decide.{ℕ_discrete}
 use mathlib.Core.Path.{ap₂}
-use Rattle.rational.specs.Rational.{Rational, ◌≤ℚ◌, ◌+ℚ◌, ◌-ℚ◌, ◌*ℚ◌, neg_ℚ, zero_ℚ, one_ℚ}
+use Rattle.rational.specs.Rational.{Rational, ◌≤ℚ◌, ◌+ℚ◌, ◌-ℚ◌, ◌*ℚ◌, neg_ℚ, zero_ℚ, one_ℚ, whole}
 use Rattle.rational.specs.Compare.{is_less, is_same, is_at_most}
 use Rattle.rational.proofs.Laws as Q
 use Rattle.rational.proofs.Laws.{field, signs, less_true, same_true, at_most_true}
 use Rattle.milp.specs.Form.{Entry, value_at, number_at, sum_at}
 use Rattle.milp.specs.Problem.{Column, Row, Problem}
 use Rattle.milp.specs.declared.Direction.{Direction}
-use Rattle.milp.specs.Points.{sign_of}
+use Rattle.milp.specs.declared.Direction.TheVariants.{Min, Max}
+use Rattle.milp.specs.Points.{Feasible, objective_value, sign_of}
 use Rattle.verdicts.specs.Certificate.{Version, One, Two, Item, Weights, Bound}
 use Rattle.verdicts.specs.WeightedSums.{scaled, coefficient_of, AllBelow, Weighted, combined, combined_bound}
 use Rattle.verdicts.specs.Proves.{term, bound_used, row_term, column_term, derived_term, split_term, joined, gathered, terms, same_form, shows, node_passes}
 use Rattle.verdicts.proofs.Laws.{le_by, neg_le, neg-zero, coefficient-combined}
-use Rattle.ranging.specs.CostRanges.{with_cost}
+use Rattle.ranging.specs.CostRanges.{with_cost, HasLowestCost, HasHighestCost}
+use Rattle.ranging.specs.BoundRanges.{AllContinuous}
 use Rattle.ranging.specs.TightBounds.{FormsInRange, tight_forms, NoneFalls, IsEndDirection}
 use Rattle.ranging.specs.CostAuxiliary.{cost_coefficient, given_cost, cost_row, cost_rows, weight_columns, cost_auxiliary}
 use Rattle.ranging.specs.LeafDirections.{weight_on, negated_weights, direction_of}
 use Rattle.ranging.proofs.TightSums.{AllFormsBelow, tight_below}
 use Rattle.ranging.proofs.CostRows.{turned, given_and_cost, coefficient_of_cost, coefficient_of_weight, row_at, length-weight_columns}
-use Rattle.ranging.proofs.CostPoints.{objective_in_range}
+use Rattle.ranging.proofs.CostPoints.{objective_in_range, point_shows_best}
+use Rattle.ranging.proofs.KeptPoints.{direction_shows_lowest, direction_shows_highest}
 
 -- ---- sums over the items of rows
 
@@ -305,3 +309,27 @@ leaf_shown p x j d t w (Some ts) f l s h =
 pub leaf_gives_direction : (p : Problem) (x : List Rational) (j : ℕ) (d : Direction) (v : Version) (t : Rational) (w : Weights) → FormsInRange p → j < length p.columns → node_passes (cost_auxiliary p x j d) v (Some t) [] [] (Bound w) ≡ true → IsEndDirection p x j t (sign_of d) (direction_of p w)
 leaf_gives_direction p x j d One t w f l h = leaf_shown p x j d t w (terms (cost_auxiliary p x j d) [] [] [] w) f l (leaf_sums p x j d w) h
 leaf_gives_direction p x j d Two t w f l h = leaf_shown p x j d t w (terms (cost_auxiliary p x j d) [] [] [] w) f l (leaf_sums p x j d w) h
+
+-- ---- what an optimal verdict shows
+
+-- a point of the auxiliary problem is the cost and the weights
+parted : (p : Problem) (x : List Rational) (j : ℕ) (d : Direction) (F : Rational → List Rational → Type 0) → ((t : Rational) (ws : List Rational) → Feasible (cost_auxiliary p x j d) (t ∷ ws) → F t (t ∷ ws)) → (z : List Rational) → Feasible (cost_auxiliary p x j d) z → F (number_at z 0) z
+parted p x j d F h [] k = absurd (omega (arith, k.relaxed.size))
+parted p x j d F h (t ∷ ws) k = h t ws k
+
+-- the value of the auxiliary problem is the cost
+auxiliary_value : (t : Rational) → (one_ℚ *ℚ t +ℚ zero_ℚ) +ℚ zero_ℚ ≡ t
+auxiliary_value t = Q.add-zero _ ∙ Q.add-zero _ ∙ Q.one-mul t
+
+direction_at : (p : Problem) (x : List Rational) (j : ℕ) (d : Direction) (v : Version) (t : Rational) (ws : List Rational) (w : Weights) → FormsInRange p → j < length p.columns → node_passes (cost_auxiliary p x j d) v (Some (objective_value (cost_auxiliary p x j d) (t ∷ ws))) [] [] (Bound w) ≡ true → IsEndDirection p x j t (sign_of d) (direction_of p w)
+direction_at p x j d v t ws w f l h = let P : Rational → Type 0 = λ u. node_passes (cost_auxiliary p x j d) v (Some u) [] [] (Bound w) ≡ true in leaf_gives_direction p x j d v t w f l (subst P (auxiliary_value t) h)
+
+pub optimum_shows_lowest : (p : Problem) (x : List Rational) (j : ℕ) (v : Version) (z : List Rational) (w : Weights) → FormsInRange p → AllContinuous p → j < length p.columns → Feasible p x → Feasible (cost_auxiliary p x j Min) z → node_passes (cost_auxiliary p x j Min) v (Some (objective_value (cost_auxiliary p x j Min) z)) [] [] (Bound w) ≡ true → HasLowestCost p x j (Some (number_at z 0))
+optimum_shows_lowest p x j v z w f n l h k passes =
+    parted p x j Min (λ t z. node_passes (cost_auxiliary p x j Min) v (Some (objective_value (cost_auxiliary p x j Min) z)) [] [] (Bound w) ≡ true → HasLowestCost p x j (Some t))
+    (λ t ws g e. direction_shows_lowest p x (direction_of p w) j t one_ℚ n (point_shows_best p x j Min t ws f l h g) h (direction_at p x j Min v t ws w f l e) (less_true zero_ℚ one_ℚ refl)) z k passes
+
+pub optimum_shows_highest : (p : Problem) (x : List Rational) (j : ℕ) (v : Version) (z : List Rational) (w : Weights) → FormsInRange p → AllContinuous p → j < length p.columns → Feasible p x → Feasible (cost_auxiliary p x j Max) z → node_passes (cost_auxiliary p x j Max) v (Some (objective_value (cost_auxiliary p x j Max) z)) [] [] (Bound w) ≡ true → HasHighestCost p x j (Some (number_at z 0))
+optimum_shows_highest p x j v z w f n l h k passes =
+    parted p x j Max (λ t z. node_passes (cost_auxiliary p x j Max) v (Some (objective_value (cost_auxiliary p x j Max) z)) [] [] (Bound w) ≡ true → HasHighestCost p x j (Some t))
+    (λ t ws g e. direction_shows_highest p x (direction_of p w) j t (whole (negsuc 0)) n (point_shows_best p x j Max t ws f l h g) h (direction_at p x j Max v t ws w f l e) (less_true (whole (negsuc 0)) zero_ℚ refl)) z k passes

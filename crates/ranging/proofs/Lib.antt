@@ -10,3 +10,6 @@ mod BoundRanges
 mod CostRows
 mod CostPoints
 mod LeafDirections
+mod PlaceNames
+mod BoundPoints
+mod BoundRays

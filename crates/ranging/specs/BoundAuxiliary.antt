@@ -46,13 +46,16 @@ value_row p u = record {
 abbrev pub free_column : Column
 free_column = record { name = []; lower = None; upper = None; integer = false }
 
--- the least distance is wanted, or the greatest
-abbrev pub bound_auxiliary : Problem → UsedBound → Direction → Problem
-bound_auxiliary p u wanted = named_by_place (record {
+abbrev pub unnamed_auxiliary : Problem → UsedBound → Direction → Problem
+unnamed_auxiliary p u wanted = record {
   columns = p.columns ++ free_column ∷ [];
   rows = value_row p u ∷ moved_at (length p.columns) u.row u.side u.bound p.rows ∷ without_row_bound u.row u.side p.rows;
   direction = wanted;
   objective_name = [];
   objective = record { column = length p.columns; coefficient = one_ℚ } ∷ [];
   constant = zero_ℚ;
-})
+}
+
+-- the least distance is wanted, or the greatest
+abbrev pub bound_auxiliary : Problem → UsedBound → Direction → Problem
+bound_auxiliary p u wanted = named_by_place (unnamed_auxiliary p u wanted)
