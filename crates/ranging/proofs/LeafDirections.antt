@@ -24,6 +24,7 @@ use Rattle.ranging.specs.TightBounds.{FormsInRange, tight_forms, NoneFalls, IsEn
 use Rattle.ranging.specs.CostAuxiliary.{cost_coefficient, given_cost, cost_row, cost_rows, weight_columns, cost_auxiliary}
 use Rattle.ranging.specs.LeafDirections.{weight_on, negated_weights, direction_of}
 use Rattle.ranging.proofs.TightSums.{AllFormsBelow, tight_below}
+use Rattle.ranging.proofs.Coefficients.{same_coefficients}
 use Rattle.ranging.proofs.CostRows.{turned, given_and_cost, coefficient_of_cost, coefficient_of_weight, row_at, length-weight_columns}
 use Rattle.ranging.proofs.CostPoints.{objective_in_range, point_shows_best}
 use Rattle.ranging.proofs.KeptPoints.{direction_shows_lowest, direction_shows_highest}
@@ -248,15 +249,6 @@ leaf_sums p x j d w =
     (gathered_adds p x j (split_term []) w.splits [] (Some []) no_split (no_terms p x j))))
 
 -- ---- together
-
-same_coefficients : (n : ℕ) (f g : List Entry) → same_form n f g ≡ true → (k : ℕ) → k < n → coefficient_of f k ≡ coefficient_of g k
-same_coefficients zero f g h k l = absurd (omega arith)
-same_coefficients (suc n) f g h k l =
-    let both = and_parts (is_same (coefficient_of f n) (coefficient_of g n)) (same_form n f g) h in
-    elim (ℕ_discrete k n) [
-      | yes e ↦ let P : ℕ → Type 0 = λ i. coefficient_of f i ≡ coefficient_of g i in subst P (sym e) (same_true _ _ both.0)
-      | no d ↦ same_coefficients n f g both.1 k (omega arith)
-    ]
 
 none_falls : (d : List Rational) (fs : List (List Entry)) → ((m : ℕ) → m < length fs → zero_ℚ ≤ℚ sum_at d (get_or fs m [])) → NoneFalls d fs
 none_falls d [] h = tt

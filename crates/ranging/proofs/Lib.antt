@@ -9,7 +9,9 @@ mod KeptPoints
 mod BoundRanges
 mod CostRows
 mod CostPoints
+mod Coefficients
 mod LeafDirections
 mod PlaceNames
 mod BoundPoints
 mod BoundRays
+mod Spanned

@@ -71,18 +71,18 @@ mixed_size k l [] y e = refl
 mixed_size k l (a ∷ x) [] e = absurd (omega arith)
 mixed_size k l (a ∷ x) (b ∷ y) e = ap suc (mixed_size k l x y (omega arith))
 
-nothing : (k l : Rational) → zero_ℚ ≡ k *ℚ zero_ℚ +ℚ l *ℚ zero_ℚ
-nothing k l = sym (ap₂ ◌+ℚ◌ (Q.mul-zero k) (Q.mul-zero l) ∙ Q.add-zero zero_ℚ)
+pub zero_mixed : (k l : Rational) → zero_ℚ ≡ k *ℚ zero_ℚ +ℚ l *ℚ zero_ℚ
+zero_mixed k l = sym (ap₂ ◌+ℚ◌ (Q.mul-zero k) (Q.mul-zero l) ∙ Q.add-zero zero_ℚ)
 
 pub mixed_number : (k l : Rational) (x y : List Rational) (j : ℕ) → length x ≡ length y → number_at (mixed k l x y) j ≡ k *ℚ number_at x j +ℚ l *ℚ number_at y j
-mixed_number k l [] [] j e = nothing k l
+mixed_number k l [] [] j e = zero_mixed k l
 mixed_number k l [] (b ∷ y) j e = absurd (omega arith)
 mixed_number k l (a ∷ x) [] j e = absurd (omega arith)
 mixed_number k l (a ∷ x) (b ∷ y) zero e = refl
 mixed_number k l (a ∷ x) (b ∷ y) (suc j) e = mixed_number k l x y j (omega arith)
 
 pub mixed_sum : (k l : Rational) (x y : List Rational) (es : List Entry) → length x ≡ length y → sum_at (mixed k l x y) es ≡ k *ℚ sum_at x es +ℚ l *ℚ sum_at y es
-mixed_sum k l x y [] e = nothing k l
+mixed_sum k l x y [] e = zero_mixed k l
 mixed_sum k l x y (a ∷ es) e = rw (mixed_number k l x y a.column e, mixed_sum k l x y es e) (parts k l a.coefficient (number_at x a.column) (number_at y a.column) (sum_at x es) (sum_at y es))
   where
     parts : (k l c v u s t : Rational) → c *ℚ (k *ℚ v +ℚ l *ℚ u) +ℚ (k *ℚ s +ℚ l *ℚ t) ≡ k *ℚ (c *ℚ v +ℚ s) +ℚ l *ℚ (c *ℚ u +ℚ t)

@@ -9,7 +9,7 @@ use Rattle.rational.proofs.Laws.{same_true}
 use Rattle.milp.specs.Form.{Entry, number_at, sum_at}
 use Rattle.milp.specs.Problem.{Column, Row, Problem}
 use Rattle.milp.specs.Points.{IsWithin, Feasible, sign_of, objective_value}
-use Rattle.verdicts.specs.WeightedSums.{scaled, sum_below, AllBelow}
+use Rattle.verdicts.specs.WeightedSums.{scaled, sum_below, coefficient_of, AllBelow}
 use Rattle.verdicts.proofs.Laws.{le_by, neg_le, minus_one-mul, value-append, value-scaled, value_by_column}
 use Rattle.ranging.specs.CostRanges.{with_cost, InCostRange, HasLowestCost, HasHighestCost}
 use Rattle.ranging.specs.TightBounds.{RowsInRange, FormsInRange, if_tight, tight_at, tight_rows, tight_columns, tight_forms, weighted_sum, AllNonNegative, IsTightSum}
@@ -81,7 +81,7 @@ abbrev pub AllFormsBelow : ℕ → List (List Entry) → Type 0
 AllFormsBelow n [] = Unit {0}
 AllFormsBelow n (f ∷ fs) = AllBelow n f × AllFormsBelow n fs
 
-below_append : (n : ℕ) (f g : List Entry) → AllBelow n f → AllBelow n g → AllBelow n (f ++ g)
+pub below_append : (n : ℕ) (f g : List Entry) → AllBelow n f → AllBelow n g → AllBelow n (f ++ g)
 below_append n [] g h k = k
 below_append n (e ∷ f) g h k = (h.0, below_append n f g h.1 k)
 
@@ -122,15 +122,16 @@ same_below : (n : ℕ) (f g : ℕ → Rational) → ((k : ℕ) → k < n → f k
 same_below zero f g h = refl
 same_below (suc n) f g h = ap₂ ◌+ℚ◌ (h n (omega arith)) (same_below n f g (λ k l. h k (omega arith)))
 
+-- forms with the same coefficients have the same value
+pub value_by_coefficients : (n : ℕ) (z : List Rational) (f g : List Entry) → AllBelow n f → AllBelow n g → ((k : ℕ) → k < n → coefficient_of f k ≡ coefficient_of g k) → sum_at z f ≡ sum_at z g
+value_by_coefficients n z f g b c h = value_by_column n (number_at z) f b ∙ same_below n _ _ (λ k l. ap (λ c. c *ℚ number_at z k) (h k l)) ∙ sym (value_by_column n (number_at z) g c)
+
 -- no feasible point has less of the form than x
 pub tight_sum_least : (p : Problem) (x ws : List Rational) (form : List Entry) → FormsInRange p → AllBelow (length p.columns) form → IsTightSum p x ws form → (y : List Rational) → Feasible p y → sum_at x form ≤ℚ sum_at y form
 tight_sum_least p x ws form f b w y h = le_by _ _ _ _ (value x) (value y) (weighted_sum_rises x y ws (tight_forms p x) w.signs (all_rise p x y h))
   where
     value : (z : List Rational) → sum_at z form ≡ sum_at z (weighted_sum ws (tight_forms p x))
-    value z =
-        value_by_column (length p.columns) (number_at z) form b
-        ∙ sym (same_below (length p.columns) _ _ (λ k l. ap (λ c. c *ℚ number_at z k) (w.same k l)))
-        ∙ sym (value_by_column (length p.columns) (number_at z) (weighted_sum ws (tight_forms p x)) (weighted_sum_below (length p.columns) ws (tight_forms p x) (tight_below p x f)))
+    value z = value_by_coefficients (length p.columns) z form (weighted_sum ws (tight_forms p x)) b (weighted_sum_below (length p.columns) ws (tight_forms p x) (tight_below p x f)) (λ k l. sym (w.same k l))
 
 -- weights that make the objective with the cost t show that x is best with it
 pub tight_sum_best : (p : Problem) (x ws : List Rational) (j : ℕ) (t : Rational) → FormsInRange p → AllBelow (length p.columns) (with_cost p j t).objective → Feasible p x → IsTightSum p x ws (scaled (sign_of p.direction) (with_cost p j t).objective) → InCostRange p x j t

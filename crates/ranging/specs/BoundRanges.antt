@@ -24,6 +24,10 @@ with_row_bound (suc i) s b (r ∷ rs) = r ∷ with_row_bound i s b rs
 abbrev pub with_bound : Problem → ℕ → BoundSide → Rational → Problem
 with_bound p i s b = record p { rows = with_row_bound i s b p.rows }
 
+abbrev pub bound_of : BoundSide → Row → Option Rational
+bound_of Lower r = r.lower
+bound_of Upper r = r.upper
+
 -- a bound of a row, the weight that uses it, and what the weights show of the objective without its constant
 pub record UsedBound : Type 0 where
   pub row : ℕ
