@@ -15,3 +15,4 @@ mod PlaceNames
 mod BoundPoints
 mod BoundRays
 mod Spanned
+mod TightWeights
