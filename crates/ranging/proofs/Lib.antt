@@ -16,3 +16,4 @@ mod BoundPoints
 mod BoundRays
 mod Spanned
 mod TightWeights
+mod AuxiliariesHavePoints

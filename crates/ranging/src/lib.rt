@@ -2,7 +2,7 @@
 //! follows its weight.
 #![tactic(auto)]
 
-ghost use Rattle.std.specs.Prelude.{ℕ, ◌<◌, ◌^◌, List, length, [], ◌∷◌, Option, Some, None, true, negsuc, ◌≡◌, ◌↔◌};
+ghost use Rattle.std.specs.Prelude.{ℕ, ◌<◌, ◌^◌, List, length, slice_get, option_and_then, [], ◌∷◌, ◌++◌, Option, Some, None, true, negsuc, ◌≡◌, ◌↔◌};
 ghost use Rattle.rational.specs.Rational.{Rational, zero_ℚ, one_ℚ, whole, neg_ℚ, ◌<ℚ◌, ◌+ℚ◌};
 ghost use Rattle.milp.specs.Problem.{Problem};
 ghost use Rattle.milp.specs.Form.{number_at};
@@ -11,12 +11,12 @@ ghost use Rattle.milp.specs.declared.Direction.TheVariants.{Min, Max};
 ghost use Rattle.milp.specs.Points.{IsWithin, Feasible, IsOptimal, IsUnbounded, IsImprovingRay, objective_value, sign_of};
 ghost use Rattle.verdicts.specs.Certificate.{Version, Weights, Bound};
 ghost use Rattle.verdicts.specs.Proves.{node_passes};
-ghost use Rattle.verdicts.specs.WeightedSums.{scaled, AllBelow};
+ghost use Rattle.verdicts.specs.WeightedSums.{scaled, coefficient_of, AllBelow};
 ghost use Rattle.ranging.specs.CostRanges.{with_cost, with_cost_alone, InCostRange, HasLowestCost, HasHighestCost, HasCostEnds};
 ghost use Rattle.ranging.specs.TightBounds.{IsTightSum, FormsInRange, IsEndDirection};
 ghost use Rattle.ranging.specs.CostAuxiliary.{cost_auxiliary};
 ghost use Rattle.ranging.specs.LeafDirections.{direction_of};
-ghost use Rattle.ranging.specs.BoundRanges.{UsedBound, InBoundRange, HasLeastBound, HasGreatestBound, HasBoundEnds, AllContinuous};
+ghost use Rattle.ranging.specs.BoundRanges.{BoundSide, bound_of, UsedBound, used_bound, InBoundRange, HasLeastBound, HasGreatestBound, HasBoundEnds, AllContinuous};
 ghost use Rattle.ranging.specs.BoundAuxiliary.{bound_auxiliary};
 ghost use Rattle.ranging.specs.PlaceNames.{column_name, row_name, named_by_place};
 
@@ -119,4 +119,16 @@ pub fn names_by_place()
     ensures columns { (i j : ℕ) → i < 2 ^ 32 → j < 2 ^ 32 → column_name i ≡ column_name j → i ≡ j }
     ensures rows { (i j : ℕ) → i < 2 ^ 32 → j < 2 ^ 32 → row_name i ≡ row_name j → i ≡ j }
     ensures points { (p : Problem) (x : List Rational) → Feasible (named_by_place p) x ↔ Feasible p x }
+{}
+
+/// Each auxiliary problem has a point, so that its verdict is never that there is none. Of a cost: the cost as it stands, with
+/// weights, where a leaf that passes the checker's test shows the point best. Of a bound: the point and no distance.
+pub fn auxiliaries_have_points()
+    ensures cost { (p : Problem) (x : List Rational) (j : ℕ) (wanted : Direction) (v : Version) (w : Weights) →
+        FormsInRange p → Feasible p x → node_passes p v (Some (objective_value p x)) [] [] (Bound w) ≡ true →
+        (ws : List Rational) × Feasible (cost_auxiliary p x j wanted) (coefficient_of p.objective j ∷ ws) }
+    ensures bound { (p : Problem) (x : List Rational) (w : Weights) (i : ℕ) (s : BoundSide) (b : Rational)
+        (wanted : Direction) → FormsInRange p → AllContinuous p → Feasible p x →
+        option_and_then (bound_of s) (slice_get p.rows i) ≡ Some b →
+        Feasible (bound_auxiliary p (used_bound p x w i s b) wanted) (x ++ zero_ℚ ∷ []) }
 {}
