@@ -1,20 +1,20 @@
 -- Each auxiliary problem has a point: the cost that stands with the weights of a leaf, or the best point with no distance.
-use Rattle.std.proofs.Common.{◌≡◌, ◌∙◌, ℕ, zero, suc, ◌+◌, ◌<◌, ◌==◌, cond, List, [], ◌∷◌, ◌++◌, Bool, true, false, refl, sym, ap, subst, Option, Some, None, IfSome, IsTrue, slice_get, option_and_then, length, arith}
+use Rattle.std.proofs.Common.{◌≡◌, ◌∙◌, ℕ, zero, suc, ◌+◌, ◌<◌, ◌==◌, cond, List, [], ◌∷◌, ◌++◌, Bool, true, false, refl, sym, ap, Some, IfSome, IsTrue, slice_get, option_and_then, length, arith}
 use Rattle.std.proofs.lemmas.Bool.{eqb-true}
 use mathlib.Core.Path.{ap₂}
-use Rattle.rational.specs.Rational.{Rational, ◌≤ℚ◌, ◌+ℚ◌, ◌-ℚ◌, ◌*ℚ◌, neg_ℚ, zero_ℚ}
+use Rattle.rational.specs.Rational.{Rational, ◌+ℚ◌, ◌-ℚ◌, ◌*ℚ◌, neg_ℚ, zero_ℚ}
 use Rattle.rational.proofs.Laws as Q
 use Rattle.milp.specs.Form.{Entry, number_at, sum_at}
-use Rattle.milp.specs.Problem.{Column, Row, Problem}
+use Rattle.milp.specs.Problem.{Row, Problem}
 use Rattle.milp.specs.declared.Direction.{Direction}
 use Rattle.milp.specs.Points.{IsWithin, IsWhole, Feasible, objective_value, sign_of}
 use Rattle.verdicts.specs.Certificate.{Version, Weights, Bound}
-use Rattle.verdicts.specs.WeightedSums.{scaled, coefficient_of}
+use Rattle.verdicts.specs.WeightedSums.{coefficient_of}
 use Rattle.verdicts.specs.Proves.{node_passes}
 use Rattle.verdicts.proofs.Laws.{le_by, coefficient-scaled}
-use Rattle.ranging.specs.TightBounds.{tight_forms, weighted_sum, AllNonNegative, FormsInRange}
+use Rattle.ranging.specs.TightBounds.{tight_forms, AllNonNegative, FormsInRange}
 use Rattle.ranging.specs.CostAuxiliary.{cost_coefficient, given_cost, cost_row, cost_rows, weight_columns, cost_auxiliary}
-use Rattle.ranging.specs.BoundRanges.{BoundSide, Lower, Upper, with_side, with_row_bound, bound_of, UsedBound, used_bound, weight_using, AllContinuous}
+use Rattle.ranging.specs.BoundRanges.{BoundSide, Lower, Upper, with_side, with_row_bound, bound_of, used_bound, weight_using, AllContinuous}
 use Rattle.ranging.specs.BoundAuxiliary.{unnamed_auxiliary, bound_auxiliary}
 use Rattle.ranging.proofs.Meeting.{RowMeets, Meets, not_whole}
 use Rattle.ranging.proofs.CostRows.{row_sum, length-weight_columns}

@@ -1,21 +1,21 @@
 -- The points of the bound_auxiliary problem of a bound's end are the numbers of the range, each with its point.
-use Rattle.std.proofs.Common.{◌≡◌, ◌∙◌, ℕ, zero, suc, ◌<◌, List, [], ◌∷◌, ◌++◌, false, refl, sym, ap, subst, Option, Some, None, IfSome, IsTrue, slice_get, length, arith}
+use Rattle.std.proofs.Common.{◌≡◌, ◌∙◌, ℕ, zero, suc, ◌<◌, List, [], ◌∷◌, ◌++◌, false, refl, sym, ap, subst, Some, IfSome, slice_get, length, arith}
 use mathlib.Core.Path.{ap₂}
 use Rattle.std.specs.Prelude.{negsuc}
-use Rattle.rational.specs.Rational.{Rational, ◌≤ℚ◌, ◌+ℚ◌, ◌-ℚ◌, ◌*ℚ◌, neg_ℚ, zero_ℚ, one_ℚ, whole}
+use Rattle.rational.specs.Rational.{Rational, ◌≤ℚ◌, ◌+ℚ◌, ◌-ℚ◌, ◌*ℚ◌, neg_ℚ, one_ℚ, whole}
 use Rattle.rational.proofs.Laws as Q
 use Rattle.rational.proofs.Laws.{field, field_units, signs}
 use Rattle.milp.specs.Form.{Entry, number_at, sum_at}
 use Rattle.milp.specs.Problem.{Column, Row, Problem}
 use Rattle.milp.specs.declared.Direction.{Direction}
 use Rattle.milp.specs.declared.Direction.TheVariants.{Min, Max}
-use Rattle.milp.specs.Points.{IsWithin, IsWhole, Feasible, sign_of, objective_value, IsOptimal}
+use Rattle.milp.specs.Points.{IsWithin, Feasible, sign_of, objective_value, IsOptimal}
 use Rattle.verdicts.specs.WeightedSums.{scaled, AllBelow}
 use Rattle.verdicts.proofs.Laws.{le_by, value-append, value-scaled, minus_one-mul}
 use Rattle.ranging.specs.TightBounds.{RowsInRange, FormsInRange}
 use Rattle.ranging.specs.BoundRanges.{BoundSide, Lower, Upper, with_side, with_row_bound, UsedBound, IsAsPromised, InBoundRange, HasLeastBound, HasGreatestBound, AllContinuous}
 use Rattle.ranging.specs.BoundAuxiliary.{unnamed_auxiliary, without_side, without_row_bound, moved_row, moved_at, value_row, free_column, bound_auxiliary}
-use Rattle.ranging.proofs.Order.{apart, difference, not_less, lt_by, neg_less}
+use Rattle.ranging.proofs.Order.{apart, not_less, lt_by, neg_less}
 use Rattle.ranging.proofs.Meeting.{RowMeets, Meets, not_whole}
 use Rattle.ranging.specs.CostAuxiliary.{entry_unless_zero}
 use Rattle.ranging.proofs.TightSums.{below_scaled}
@@ -153,8 +153,8 @@ value_sum : (p : Problem) (u : UsedBound) (x : List Rational) (e : Rational) →
 value_sum p u x e f s =
     value-append (number_at (more x e)) (scaled (sign_of p.direction) p.objective) (entry_unless_zero (length p.columns) (neg_ℚ u.weight) [])
     ∙ ap₂ ◌+ℚ◌
-        (more_sum x e (scaled (sign_of p.direction) p.objective) (below_scaled (length x) (sign_of p.direction) p.objective (rw (← s) at f.objective)) ∙ value-scaled (number_at x) (sign_of p.direction) p.objective)
-        (value-unless_zero (more x e) (length p.columns) (neg_ℚ u.weight) [] ∙ Q.add-zero _ ∙ ap (λ v. neg_ℚ u.weight *ℚ v) (ap (number_at (more x e)) (sym s) ∙ last_number x e))
+    (more_sum x e (scaled (sign_of p.direction) p.objective) (below_scaled (length x) (sign_of p.direction) p.objective (rw (← s) at f.objective)) ∙ value-scaled (number_at x) (sign_of p.direction) p.objective)
+    (value-unless_zero (more x e) (length p.columns) (neg_ℚ u.weight) [] ∙ Q.add-zero _ ∙ ap (λ v. neg_ℚ u.weight *ℚ v) (ap (number_at (more x e)) (sym s) ∙ last_number x e))
 
 moved_by : (b e : Rational) → (b +ℚ e) -ℚ b ≡ e
 moved_by b e = Q.add_comm (b +ℚ e) (neg_ℚ b) ∙ Q.cancel_right b e
@@ -252,7 +252,7 @@ least_shows p u z f n named =
       λ b r.
           let into = number_into p u Min b f n r in
           le_by _ _ _ _ refl (apart u.bound b) (Q.add-le-add _ _ _ _ (Q.le_refl u.bound) (not_less _ _ (λ l.
-              h.best into.0 into.1 (lt_by (ap (λ v. one_ℚ *ℚ v) into.2 ∙ Q.one-mul _) (ap (λ v. one_ℚ *ℚ v) (auxiliary_value p u Min z) ∙ Q.one-mul _) l)))),
+          h.best into.0 into.1 (lt_by (ap (λ v. one_ℚ *ℚ v) into.2 ∙ Q.one-mul _) (ap (λ v. one_ℚ *ℚ v) (auxiliary_value p u Min z) ∙ Q.one-mul _) l)))),
     )
 
 pub greatest_shows : (p : Problem) (u : UsedBound) (z : List Rational) → FormsInRange p → AllContinuous p → IsOptimal (bound_auxiliary p u Max) z → HasGreatestBound p u (Some (u.bound +ℚ number_at z (length p.columns)))
@@ -262,5 +262,5 @@ greatest_shows p u z f n named =
       λ b r.
           let into = number_into p u Max b f n r in
           le_by _ _ _ _ (apart u.bound b) refl (Q.add-le-add _ _ _ _ (Q.le_refl u.bound) (not_less _ _ (λ l.
-              h.best into.0 into.1 (lt_by (ap (λ v. whole (negsuc 0) *ℚ v) into.2 ∙ minus_one-mul _) (ap (λ v. whole (negsuc 0) *ℚ v) (auxiliary_value p u Max z) ∙ minus_one-mul _) (neg_less l))))),
+          h.best into.0 into.1 (lt_by (ap (λ v. whole (negsuc 0) *ℚ v) into.2 ∙ minus_one-mul _) (ap (λ v. whole (negsuc 0) *ℚ v) (auxiliary_value p u Max z) ∙ minus_one-mul _) (neg_less l))))),
     )

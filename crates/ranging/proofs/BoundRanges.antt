@@ -1,5 +1,5 @@
 -- A number lies between the ends of a bound's range exactly where it is in the range.
-use Rattle.std.proofs.Common.{◌≡◌, ◌∙◌, ℕ, zero, suc, List, [], ◌∷◌, false, sym, ap, subst, Option, Some, None, IfSome, IsTrue, slice_get, length, inl, inr}
+use Rattle.std.proofs.Common.{◌≡◌, ◌∙◌, ℕ, zero, suc, List, [], ◌∷◌, sym, ap, subst, Option, Some, None, IfSome, slice_get, length, inl, inr}
 use mathlib.Core.Path.{ap₂}
 use Rattle.std.specs.Prelude.{◌↔◌}
 use Rattle.rational.specs.Rational.{Rational, ◌≤ℚ◌, ◌+ℚ◌, ◌-ℚ◌, ◌*ℚ◌, neg_ℚ}
@@ -7,7 +7,7 @@ use Rattle.rational.proofs.Laws as Q
 use Rattle.rational.proofs.Laws.{field}
 use Rattle.milp.specs.Form.{number_at, sum_at}
 use Rattle.milp.specs.Problem.{Column, Row, Problem}
-use Rattle.milp.specs.Points.{IsWithin, IsWhole, Feasible, sign_of}
+use Rattle.milp.specs.Points.{IsWithin, Feasible, sign_of}
 use Rattle.ranging.specs.BoundRanges.{BoundSide, Lower, Upper, with_side, with_row_bound, with_bound, UsedBound, InBoundRange, HasLeastBound, HasGreatestBound, AllContinuous, HasBoundEnds}
 use Rattle.ranging.proofs.Order.{le_or_less}
 use Rattle.ranging.proofs.Mixtures.{IsMix, mix_same, mix_le, mixed_of, mixed, mixed_size, mixed_number, mixed_sum, low_mixed, high_mixed, within_mixed}

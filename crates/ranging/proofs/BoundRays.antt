@@ -9,7 +9,7 @@ use Rattle.milp.specs.Form.{number_at, sum_at}
 use Rattle.milp.specs.Problem.{Problem}
 use Rattle.milp.specs.declared.Direction.{Direction}
 use Rattle.milp.specs.declared.Direction.TheVariants.{Min, Max}
-use Rattle.milp.specs.Points.{Feasible, IsUnbounded}
+use Rattle.milp.specs.Points.{IsUnbounded}
 use Rattle.verdicts.proofs.Laws.{le_by, neg-zero, minus_one-mul}
 use Rattle.ranging.specs.TightBounds.{FormsInRange}
 use Rattle.ranging.specs.BoundRanges.{UsedBound, InBoundRange, HasLeastBound, HasGreatestBound, AllContinuous}

@@ -2,7 +2,6 @@
 -- is no end.
 use Rattle.std.proofs.Common.{◌≡◌, ◌∙◌, ℕ, zero, suc, ◌+◌, ◌<◌, List, [], ◌∷◌, Bool, true, false, cond, ◌==◌, refl, sym, ap, subst, Option, Some, None, IfSome, slice_get, length, if◌then◌else◌, arith}
 use Rattle.std.specs.Prelude.{negsuc}
-use mathlib.Core.Path.{ap₂}
 use Rattle.rational.specs.Rational.{Rational, ◌≤ℚ◌, ◌<ℚ◌, ◌+ℚ◌, ◌-ℚ◌, ◌*ℚ◌, neg_ℚ, zero_ℚ, one_ℚ, whole}
 use Rattle.rational.proofs.Laws as Q
 use Rattle.rational.proofs.Laws.{field}
@@ -11,10 +10,10 @@ use Rattle.milp.specs.Problem.{Column, Row, Problem}
 use Rattle.milp.specs.declared.Direction.{Direction}
 use Rattle.milp.specs.declared.Direction.TheVariants.{Min, Max}
 use Rattle.milp.specs.Points.{IsWithin, IsHarmless, Feasible, IsImprovingRay, sign_of}
-use Rattle.verdicts.specs.WeightedSums.{scaled, coefficient_of, AllBelow}
+use Rattle.verdicts.specs.WeightedSums.{scaled, AllBelow}
 use Rattle.verdicts.proofs.Laws.{le_by, neg-zero, neg_le, minus_one-mul, coefficient-scaled}
 use Rattle.ranging.specs.CostRanges.{without_column, with_cost, InCostRange, signed_number, HasLowestCost, HasHighestCost}
-use Rattle.ranging.specs.TightBounds.{FormsInRange, tight_forms, weighted_sum, AllNonNegative, IsTightSum}
+use Rattle.ranging.specs.TightBounds.{FormsInRange, tight_forms, AllNonNegative, IsTightSum}
 use Rattle.ranging.specs.CostAuxiliary.{cost_coefficient, given_cost, cost_row, cost_rows, weight_columns, cost_auxiliary}
 use Rattle.ranging.proofs.Order.{not_less, difference_less, product_above, lt_by, neg_less}
 use Rattle.ranging.proofs.TightSums.{tight_sum_best, tight_sum_least}

@@ -1,5 +1,5 @@
 -- What stands in the rows of the auxiliary problem of a cost's end.
-use Rattle.std.proofs.Common.{◌≡◌, ◌∙◌, ℕ, zero, suc, ◌+◌, ◌<◌, List, [], ◌∷◌, Bool, true, false, cond, ◌==◌, refl, sym, ap, subst, Option, Some, IfSome, slice_get, get_or, length, if◌then◌else◌, arith}
+use Rattle.std.proofs.Common.{◌≡◌, ◌∙◌, ℕ, zero, suc, ◌+◌, ◌<◌, List, [], ◌∷◌, Bool, true, false, cond, ◌==◌, refl, sym, ap, subst, Some, IfSome, slice_get, get_or, length, if◌then◌else◌, arith}
 use Rattle.std.proofs.lemmas.Bool.{eqb-true}
 use Rattle.std.proofs.lemmas.Bool.Decides.{nat_tests}
 use mathlib.Core.Path.{ap₂}
@@ -8,7 +8,7 @@ use Rattle.rational.specs.Compare.{is_zero}
 use Rattle.rational.proofs.Laws as Q
 use Rattle.rational.proofs.Laws.{field, field_units, signs, zero_true}
 use Rattle.milp.specs.Form.{Entry, number_at, sum_at}
-use Rattle.milp.specs.Problem.{Row, Problem}
+use Rattle.milp.specs.Problem.{Problem}
 use Rattle.milp.specs.Points.{sign_of}
 use Rattle.verdicts.specs.WeightedSums.{scaled, coefficient_of}
 use Rattle.verdicts.proofs.Laws.{coefficient-append, coefficient-scaled}

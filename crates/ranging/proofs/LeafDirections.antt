@@ -3,14 +3,13 @@ use Rattle.std.specs.Prelude.{negsuc}
 use Rattle.std.proofs.Common.{◌≡◌, ◌∙◌, ℕ, zero, suc, ◌+◌, ◌<◌, List, [], ◌∷◌, Bool, true, false, cond, ◌==◌, refl, sym, ap, subst, Option, Some, None, IfSome, slice_get, get_or, option_and_then, length, if◌then◌else◌, arith}
 use Rattle.std.proofs.lemmas.Bool.{and_parts}
 use Rattle.std.proofs.lemmas.Bool.Decides.{nat_tests}
-use Rattle.std.proofs.Math.Decide.{ℕ_discrete}
 use mathlib.Core.Path.{ap₂}
 use Rattle.rational.specs.Rational.{Rational, ◌≤ℚ◌, ◌+ℚ◌, ◌-ℚ◌, ◌*ℚ◌, neg_ℚ, zero_ℚ, one_ℚ, whole}
-use Rattle.rational.specs.Compare.{is_less, is_same, is_at_most}
+use Rattle.rational.specs.Compare.{is_less, is_at_most}
 use Rattle.rational.proofs.Laws as Q
 use Rattle.rational.proofs.Laws.{field, signs, less_true, same_true, at_most_true}
 use Rattle.milp.specs.Form.{Entry, value_at, number_at, sum_at}
-use Rattle.milp.specs.Problem.{Column, Row, Problem}
+use Rattle.milp.specs.Problem.{Row, Problem}
 use Rattle.milp.specs.declared.Direction.{Direction}
 use Rattle.milp.specs.declared.Direction.TheVariants.{Min, Max}
 use Rattle.milp.specs.Points.{Feasible, objective_value, sign_of}

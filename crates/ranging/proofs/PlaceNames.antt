@@ -1,5 +1,5 @@
 -- Names change no point and no ray of a problem; names by place differ.
-use Rattle.std.proofs.Common.{◌≡◌, ◌∙◌, ◌<◌, ◌+◌, ◌^◌, ℕ, zero, suc, Bool, List, [], ◌∷◌, ◌++◌, refl, sym, ap, Option, Some, None, IfSome, IsTrue, slice_get, length, codes, drop, arith}
+use Rattle.std.proofs.Common.{◌≡◌, ◌∙◌, ◌<◌, ◌+◌, ◌^◌, ℕ, zero, suc, Bool, List, [], ◌∷◌, refl, sym, ap, Option, IfSome, IsTrue, slice_get, length, drop, arith}
 use Rattle.std.specs.Fmt.{decimal}
 use Rattle.std.proofs.lemmas.Fmt.{decimal_injective}
 use Rattle.rational.specs.Rational.{Rational}

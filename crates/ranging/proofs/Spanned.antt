@@ -1,5 +1,5 @@
 -- Forms that are sums of weights from 0 on, on the forms of a list.
-use Rattle.std.proofs.Common.{◌≡◌, ◌∙◌, ℕ, suc, List, [], ◌∷◌, ◌++◌, refl, sym, ap, subst, length, ◌⊎◌, inl, inr, arith}
+use Rattle.std.proofs.Common.{◌≡◌, ◌∙◌, ℕ, suc, List, [], ◌∷◌, ◌++◌, refl, sym, ap, length, ◌⊎◌, inl, inr, arith}
 use mathlib.Core.Path.{ap₂}
 use Rattle.rational.specs.Rational.{Rational, ◌≤ℚ◌, ◌+ℚ◌, ◌*ℚ◌, zero_ℚ, one_ℚ}
 use Rattle.rational.proofs.Laws as Q
@@ -53,11 +53,11 @@ pub one_spanned : (w : Rational) (f : List Entry) (fs : List (List Entry)) → z
 one_spanned w f [] h never = absurd never
 one_spanned w f (g ∷ gs) h m = elim m [
   | inl e ↦ record {
-      weights = w ∷ zeros gs;
-      size = ap suc (length-zeros gs);
-      signs = (h, signs-zeros gs);
-      same = λ k. split w g (zeros gs) gs k ∙ ap (λ v. w *ℚ coefficient_of g k +ℚ v) (sum-zeros gs k) ∙ Q.add-zero _ ∙ ap (λ y. w *ℚ coefficient_of y k) (sym e) ∙ sym (coefficient-scaled w f k);
-    }
+    weights = w ∷ zeros gs;
+    size = ap suc (length-zeros gs);
+    signs = (h, signs-zeros gs);
+    same = λ k. split w g (zeros gs) gs k ∙ ap (λ v. w *ℚ coefficient_of g k +ℚ v) (sum-zeros gs k) ∙ Q.add-zero _ ∙ ap (λ y. w *ℚ coefficient_of y k) (sym e) ∙ sym (coefficient-scaled w f k);
+  }
   | inr r ↦
       let rest = one_spanned w f gs h r in
       record {

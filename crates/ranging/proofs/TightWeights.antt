@@ -1,8 +1,7 @@
 -- The weights of a leaf that shows a point best are on bounds that are tight there, or 0.
-use Rattle.std.proofs.Common.{◌≡◌, ◌∙◌, ℕ, zero, suc, ◌+◌, ◌<◌, List, [], ◌∷◌, ◌++◌, Bool, true, false, refl, sym, ap, subst, Option, Some, None, IfSome, slice_get, option_and_then, length, if◌then◌else◌, ◌⊎◌, inl, inr, arith}
+use Rattle.std.proofs.Common.{◌≡◌, ◌∙◌, ℕ, zero, suc, ◌+◌, ◌<◌, List, [], ◌∷◌, Bool, true, false, refl, sym, ap, subst, Option, Some, None, IfSome, slice_get, option_and_then, length, if◌then◌else◌, inl, inr, arith}
 use Rattle.std.proofs.lemmas.Bool.{and_parts}
 use Rattle.std.specs.Prelude.{negsuc}
-use mathlib.Core.Path.{ap₂}
 use Rattle.rational.specs.Rational.{Rational, ◌≤ℚ◌, ◌<ℚ◌, ◌+ℚ◌, ◌-ℚ◌, ◌*ℚ◌, neg_ℚ, inv_ℚ, zero_ℚ, one_ℚ, whole}
 use Rattle.rational.specs.Compare.{is_less, is_same, is_at_most}
 use Rattle.rational.proofs.Laws as Q
@@ -239,21 +238,43 @@ pub record SpansObjective (p : Problem) (x : List Rational) : Type 0 where
   pub spanned : IsSpanned (tight_forms p x) form
   pub same : (k : ℕ) → k < length p.columns → coefficient_of form k ≡ coefficient_of (scaled (sign_of p.direction) p.objective) k
 
-leaf_spans : (p : Problem) (x : List Rational) (o : Option (List Weighted)) → FormsInRange p → IfSome o (AllGood p x) → shows (length p.columns) o (scaled (sign_of p.direction) p.objective) (sign_of p.direction *ℚ (objective_value p x -ℚ p.constant)) ≡ true → SpansObjective p x
-leaf_spans p x None f g h = cc
-leaf_spans p x (Some ts) f g h =
+-- what a leaf's test tells of its terms at the point: their value is the objective's, and the sum of their bounds is no less
+record LeafTells (p : Problem) (x : List Rational) (ts : List Weighted) : Type 0 where
+  good : AllGood p x ts
+  same : (k : ℕ) → k < length p.columns → coefficient_of (combined ts) k ≡ coefficient_of (scaled (sign_of p.direction) p.objective) k
+  value : sum_at x (combined ts) ≡ sign_of p.direction *ℚ sum_at x p.objective
+  bound : sum_at x (combined ts) ≤ℚ combined_bound ts
+
+shown_tells : (p : Problem) (x : List Rational) (o : Option (List Weighted)) → FormsInRange p → IfSome o (AllGood p x) → shows (length p.columns) o (scaled (sign_of p.direction) p.objective) (sign_of p.direction *ℚ (objective_value p x -ℚ p.constant)) ≡ true → (ts : List Weighted) × (o ≡ Some ts) × LeafTells p x ts
+shown_tells p x None f g h = cc
+shown_tells p x (Some ts) f g h =
     let both = and_parts (same_form (length p.columns) (combined ts) (scaled (sign_of p.direction) p.objective)) (is_at_most (sign_of p.direction *ℚ (objective_value p x -ℚ p.constant)) (combined_bound ts)) h in
     let same = same_coefficients (length p.columns) (combined ts) (scaled (sign_of p.direction) p.objective) both.0 in
-    let value = value_by_coefficients (length p.columns) x (combined ts) (scaled (sign_of p.direction) p.objective) (combined_below p x ts g) (below_scaled (length p.columns) (sign_of p.direction) p.objective f.objective) same in
-    record {
-      form = combined ts;
-      spanned = all_spanned p x ts g (le_by _ _ _ _ (value ∙ value-scaled (number_at x) (sign_of p.direction) p.objective ∙ ap (λ v. sign_of p.direction *ℚ v) (sym (back (sum_at x p.objective) p.constant))) refl (at_most_true _ _ both.1));
-      same = same;
-    }
+    let value = value_by_coefficients (length p.columns) x (combined ts) (scaled (sign_of p.direction) p.objective) (combined_below p x ts g) (below_scaled (length p.columns) (sign_of p.direction) p.objective f.objective) same ∙ value-scaled (number_at x) (sign_of p.direction) p.objective in
+    (ts, refl, record { good = g; same = same; value = value; bound = le_by _ _ _ _ (value ∙ ap (λ v. sign_of p.direction *ℚ v) (sym (back (sum_at x p.objective) p.constant))) refl (at_most_true _ _ both.1) })
   where
     back : (v c : Rational) → (v +ℚ c) -ℚ c ≡ v
     back v c = Q.add_assoc v c (neg_ℚ c) ∙ ap (λ z. v +ℚ z) (Q.add-neg c) ∙ Q.add-zero v
 
+leaf_tells : (p : Problem) (x : List Rational) (v : Version) (w : Weights) → FormsInRange p → Feasible p x → node_passes p v (Some (objective_value p x)) [] [] (Bound w) ≡ true → (ts : List Weighted) × (terms p [] [] [] w ≡ Some ts) × LeafTells p x ts
+leaf_tells p x One w f h passes = shown_tells p x (terms p [] [] [] w) f (terms_good p x w f h) passes
+leaf_tells p x Two w f h passes = shown_tells p x (terms p [] [] [] w) f (terms_good p x w f h) passes
+
 pub leaf_spans_objective : (p : Problem) (x : List Rational) (v : Version) (w : Weights) → FormsInRange p → Feasible p x → node_passes p v (Some (objective_value p x)) [] [] (Bound w) ≡ true → SpansObjective p x
-leaf_spans_objective p x One w f h passes = leaf_spans p x (terms p [] [] [] w) f (terms_good p x w f h) passes
-leaf_spans_objective p x Two w f h passes = leaf_spans p x (terms p [] [] [] w) f (terms_good p x w f h) passes
+leaf_spans_objective p x v w f h passes =
+    let told = leaf_tells p x v w f h passes in
+    record { form = combined told.0; spanned = all_spanned p x told.0 told.2.good told.2.bound; same = told.2.same }
+
+-- the leaf's sum of bounds is what the point makes of the objective
+pub leaf_sum_is_value : (p : Problem) (x : List Rational) (v : Version) (w : Weights) (ts : List Weighted) → FormsInRange p → Feasible p x → node_passes p v (Some (objective_value p x)) [] [] (Bound w) ≡ true → terms p [] [] [] w ≡ Some ts → combined_bound ts ≡ sign_of p.direction *ℚ sum_at x p.objective
+leaf_sum_is_value p x v w ts f h passes e =
+    let told = leaf_tells p x v w f h passes in
+    let same : ts ≡ told.0 = inside ts told.0 (sym e ∙ told.1) in
+    ap combined_bound same ∙ Q.le_antisymm _ _ (bound_at_most p x told.0 told.2.good) told.2.bound ∙ told.2.value
+  where
+    inside : (ts us : List Weighted) → Some ts ≡ Some us → ts ≡ us
+    inside ts us e = ap (λ o. from_some o) e
+      where
+        from_some : Option (List Weighted) → List Weighted
+        from_some None = []
+        from_some (Some vs) = vs

@@ -11,10 +11,12 @@ use Rattle.ranging.specs.BoundRanges.{BoundSide, Lower, Upper, UsedBound}
 use Rattle.ranging.specs.CostAuxiliary.{entry_unless_zero}
 use Rattle.ranging.specs.PlaceNames.{named_by_place}
 
+-- the row without its bound on this side
 abbrev pub without_side : BoundSide → Row → Row
 without_side Lower r = record r { lower = None }
 without_side Upper r = record r { upper = None }
 
+-- the rows, the i-th without its bound on this side
 abbrev pub without_row_bound : ℕ → BoundSide → List Row → List Row
 without_row_bound i s [] = []
 without_row_bound zero s (r ∷ rs) = without_side s r ∷ rs
@@ -24,6 +26,7 @@ without_row_bound (suc i) s (r ∷ rs) = r ∷ without_row_bound i s rs
 abbrev pub less_distance : ℕ → List Entry → List Entry
 less_distance n es = es ++ record { column = n; coefficient = whole (negsuc 0) } ∷ []
 
+-- the form less the distance is inside the bound b
 abbrev pub moved_row : ℕ → BoundSide → Rational → Row → Row
 moved_row n Lower b r = record { name = []; lower = Some b; upper = None; entries = less_distance n r.entries }
 moved_row n Upper b r = record { name = []; lower = None; upper = Some b; entries = less_distance n r.entries }
@@ -43,9 +46,11 @@ value_row p u = record {
   entries = scaled (sign_of p.direction) p.objective ++ entry_unless_zero (length p.columns) (neg_ℚ u.weight) [];
 }
 
+-- the distance
 abbrev pub free_column : Column
 free_column = record { name = []; lower = None; upper = None; integer = false }
 
+-- with the names of the problem's own columns and rows
 abbrev pub unnamed_auxiliary : Problem → UsedBound → Direction → Problem
 unnamed_auxiliary p u wanted = record {
   columns = p.columns ++ free_column ∷ [];

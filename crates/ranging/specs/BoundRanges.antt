@@ -7,14 +7,17 @@ use Rattle.milp.specs.Problem.{Row, Problem}
 use Rattle.milp.specs.Points.{Feasible, sign_of}
 use Rattle.verdicts.specs.Certificate.{Item, Weights}
 
+-- of which side of a row a bound is
 pub data BoundSide : Type 0 where
   Lower : BoundSide
   Upper : BoundSide
 
+-- the row with the bound b on this side
 abbrev pub with_side : BoundSide → Rational → Row → Row
 with_side Lower b r = record r { lower = Some b }
 with_side Upper b r = record r { upper = Some b }
 
+-- the rows, the i-th with the bound b on this side
 abbrev pub with_row_bound : ℕ → BoundSide → Rational → List Row → List Row
 with_row_bound i s b [] = []
 with_row_bound zero s b (r ∷ rs) = with_side s b r ∷ rs
@@ -24,6 +27,7 @@ with_row_bound (suc i) s b (r ∷ rs) = r ∷ with_row_bound i s b rs
 abbrev pub with_bound : Problem → ℕ → BoundSide → Rational → Problem
 with_bound p i s b = record p { rows = with_row_bound i s b p.rows }
 
+-- the row's own bound on this side
 abbrev pub bound_of : BoundSide → Row → Option Rational
 bound_of Lower r = r.lower
 bound_of Upper r = r.upper
@@ -61,6 +65,7 @@ pub record IsAsPromised (p : Problem) (u : UsedBound) (b : Rational) (x : List R
   pub feasible : Feasible (with_bound p u.row u.side b) x
   pub value : sign_of p.direction *ℚ sum_at x p.objective ≡ u.total +ℚ u.weight *ℚ (b -ℚ u.bound)
 
+-- some point is as promised
 abbrev pub InBoundRange : Problem → UsedBound → Rational → Type 0
 InBoundRange p u b = (x : List Rational) × IsAsPromised p u b x
 
@@ -80,6 +85,7 @@ HasGreatestBound p u (Some greatest) = InBoundRange p u greatest × ((b : Ration
 abbrev pub AllContinuous : Problem → Type 0
 AllContinuous p = (j : ℕ) → IfSome (slice_get p.columns j) (λ c. c.integer ≡ false)
 
+-- both ends of the range are shown
 pub record HasBoundEnds (p : Problem) (u : UsedBound) (least greatest : Option Rational) : Type 0 where
   pub continuous : AllContinuous p
   pub has_least : HasLeastBound p u least

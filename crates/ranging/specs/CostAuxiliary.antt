@@ -37,10 +37,12 @@ cost_row p x j k = record {
   entries = entry_unless_zero 0 (cost_coefficient p j k) (coefficients_at k 1 (tight_forms p x));
 }
 
+-- the rows of n columns from column k on
 abbrev pub cost_rows : Problem → List Rational → ℕ → ℕ → ℕ → List Row
 cost_rows p x j k zero = []
 cost_rows p x j k (suc n) = cost_row p x j k ∷ cost_rows p x j (suc k) n
 
+-- a weight for each form, from column i on
 abbrev pub weight_columns : ℕ → List (List Entry) → List Column
 weight_columns i [] = []
 weight_columns i (f ∷ fs) = record { name = column_name i; lower = Some zero_ℚ; upper = None; integer = false } ∷ weight_columns (suc i) fs

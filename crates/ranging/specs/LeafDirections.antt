@@ -14,5 +14,6 @@ abbrev pub negated_weights : List Item → ℕ → ℕ → List Rational
 negated_weights is k zero = []
 negated_weights is k (suc n) = neg_ℚ (weight_on is k) ∷ negated_weights is (suc k) n
 
+-- the direction: of each column what its row gives
 abbrev pub direction_of : Problem → Weights → List Rational
 direction_of p w = negated_weights w.rows 0 (length p.columns)

@@ -11,10 +11,12 @@ column_name j = codes "c." ++ decimal (j + 1)
 abbrev pub row_name : ℕ → List ℕ
 row_name i = codes "r." ++ decimal (i + 1)
 
+-- the columns with the names of the places from j on
 abbrev pub named_columns : ℕ → List Column → List Column
 named_columns j [] = []
 named_columns j (c ∷ cs) = record c { name = column_name j } ∷ named_columns (suc j) cs
 
+-- the rows with the names of the places from i on
 abbrev pub named_rows : ℕ → List Row → List Row
 named_rows i [] = []
 named_rows i (r ∷ rs) = record r { name = row_name i } ∷ named_rows (suc i) rs

@@ -17,10 +17,12 @@ if_tight (Some b) v form rest = if is_same b v then form ∷ rest else rest
 abbrev pub tight_at : List Rational → List Entry → Option Rational → Option Rational → List (List Entry) → List (List Entry)
 tight_at x form lower upper rest = if_tight lower (sum_at x form) form (if_tight upper (sum_at x form) (scaled (whole (negsuc 0)) form) rest)
 
+-- of all rows
 abbrev pub tight_rows : List Rational → List Row → List (List Entry)
 tight_rows x [] = []
 tight_rows x (r ∷ rs) = tight_at x r.entries r.lower r.upper (tight_rows x rs)
 
+-- of the columns from place j on, before the rest
 abbrev pub tight_columns : List Rational → ℕ → List Column → List (List Entry) → List (List Entry)
 tight_columns x j [] rest = rest
 tight_columns x j (c ∷ cs) rest = tight_at x (record { column = j; coefficient = one_ℚ } ∷ []) c.lower c.upper (tight_columns x (suc j) cs rest)
@@ -37,6 +39,7 @@ weighted_sum [] fs = []
 weighted_sum (w ∷ ws) [] = []
 weighted_sum (w ∷ ws) (f ∷ fs) = scaled w f ++ weighted_sum ws fs
 
+-- no weight is below 0
 abbrev pub AllNonNegative : List Rational → Type 0
 AllNonNegative [] = Unit {0}
 AllNonNegative (w ∷ ws) = (zero_ℚ ≤ℚ w) × AllNonNegative ws
@@ -46,6 +49,7 @@ pub record IsTightSum (p : Problem) (x ws : List Rational) (form : List Entry) :
   pub signs : AllNonNegative ws
   pub same : (k : ℕ) → k < length p.columns → coefficient_of (weighted_sum ws (tight_forms p x)) k ≡ coefficient_of form k
 
+-- the forms of the rows speak of columns below n alone
 abbrev pub RowsInRange : ℕ → List Row → Type 0
 RowsInRange n [] = Unit {0}
 RowsInRange n (r ∷ rs) = AllBelow n r.entries × RowsInRange n rs

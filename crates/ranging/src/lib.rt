@@ -10,8 +10,8 @@ ghost use Rattle.milp.specs.declared.Direction.{Direction};
 ghost use Rattle.milp.specs.declared.Direction.TheVariants.{Min, Max};
 ghost use Rattle.milp.specs.Points.{IsWithin, Feasible, IsOptimal, IsUnbounded, IsImprovingRay, objective_value, sign_of};
 ghost use Rattle.verdicts.specs.Certificate.{Version, Weights, Bound};
-ghost use Rattle.verdicts.specs.Proves.{node_passes};
-ghost use Rattle.verdicts.specs.WeightedSums.{scaled, coefficient_of, AllBelow};
+ghost use Rattle.verdicts.specs.Proves.{terms, node_passes};
+ghost use Rattle.verdicts.specs.WeightedSums.{scaled, coefficient_of, AllBelow, Weighted, combined_bound};
 ghost use Rattle.ranging.specs.CostRanges.{with_cost, with_cost_alone, InCostRange, HasLowestCost, HasHighestCost, HasCostEnds};
 ghost use Rattle.ranging.specs.TightBounds.{IsTightSum, FormsInRange, IsEndDirection};
 ghost use Rattle.ranging.specs.CostAuxiliary.{cost_auxiliary};
@@ -119,6 +119,15 @@ pub fn names_by_place()
     ensures columns { (i j : ℕ) → i < 2 ^ 32 → j < 2 ^ 32 → column_name i ≡ column_name j → i ≡ j }
     ensures rows { (i j : ℕ) → i < 2 ^ 32 → j < 2 ^ 32 → row_name i ≡ row_name j → i ≡ j }
     ensures points { (p : Problem) (x : List Rational) → Feasible (named_by_place p) x ↔ Feasible p x }
+{}
+
+/// Where a leaf that passes the checker's test shows a point best, the sum of its weighted bounds is the total of each used
+/// bound: what the point makes of the objective without its constant.
+pub fn leaf_sums_are_totals()
+    ensures { (p : Problem) (x : List Rational) (v : Version) (w : Weights) (ts : List Weighted) (i : ℕ) (s : BoundSide)
+        (b : Rational) → FormsInRange p → Feasible p x →
+        node_passes p v (Some (objective_value p x)) [] [] (Bound w) ≡ true → terms p [] [] [] w ≡ Some ts →
+        combined_bound ts ≡ (used_bound p x w i s b).total }
 {}
 
 /// Each auxiliary problem has a point, so that its verdict is never that there is none. Of a cost: the cost as it stands, with
