@@ -24,7 +24,7 @@ with_cost_alone p j t = record p { objective = record { column = j; coefficient 
 
 -- ---- what shows an end of the range
 
--- the number of column j, negated where the greatest value is wanted: a higher cost makes points with more of it worse
+-- the number of column j, negated where the greatest value is wanted: at a higher cost points with more of it are worse
 abbrev pub signed_number : Problem → ℕ → List Rational → Rational
 signed_number p j x = sign_of p.direction *ℚ number_at x j
 
@@ -33,13 +33,13 @@ abbrev pub IsAsGood : Problem → ℕ → Rational → List Rational → List Ra
 IsAsGood p j t y x = sign_of p.direction *ℚ objective_value (with_cost p j t) y ≤ℚ sign_of p.direction *ℚ objective_value (with_cost p j t) x
 
 -- x is best at the lowest cost, and a kept point that is as good there is better at all costs below; where there is no
--- lowest cost, no feasible point has more of the column
+-- lowest cost, no feasible point has a greater signed number
 abbrev pub HasLowestCost : Problem → List Rational → ℕ → Option Rational → Type 0
 HasLowestCost p x j None = (y : List Rational) → Feasible p y → signed_number p j y ≤ℚ signed_number p j x
 HasLowestCost p x j (Some low) = InCostRange p x j low × ((y : List Rational) × Feasible p y × IsAsGood p j low y x × (signed_number p j x <ℚ signed_number p j y))
 
 -- x is best at the highest cost, and a kept point that is as good there is better at all costs above; where there is no
--- highest cost, no feasible point has less of the column
+-- highest cost, no feasible point has a smaller signed number
 abbrev pub HasHighestCost : Problem → List Rational → ℕ → Option Rational → Type 0
 HasHighestCost p x j None = (y : List Rational) → Feasible p y → signed_number p j x ≤ℚ signed_number p j y
 HasHighestCost p x j (Some high) = InCostRange p x j high × ((y : List Rational) × Feasible p y × IsAsGood p j high y x × (signed_number p j y <ℚ signed_number p j x))

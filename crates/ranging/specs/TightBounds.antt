@@ -66,7 +66,8 @@ abbrev pub NoneFalls : List Rational → List (List Entry) → Type 0
 NoneFalls d [] = Unit {0}
 NoneFalls d (f ∷ fs) = (zero_ℚ ≤ℚ sum_at d f) × NoneFalls d fs
 
--- a direction from x that nears no tight bound, changes column j by the step, and is no worse where its cost is t
+-- a direction from x that nears no tight bound, changes the signed number of column j by the step, and is no worse where the
+-- cost of column j is t
 pub record IsEndDirection (p : Problem) (x : List Rational) (j : ℕ) (t step : Rational) (d : List Rational) : Type 0 where
   pub size : length d ≡ length p.columns
   pub nears_none : NoneFalls d (tight_forms p x)

@@ -64,8 +64,8 @@ pub fn cost_auxiliaries_show_costs()
         j < length p.columns → IsImprovingRay (cost_auxiliary p x j Max) (q ∷ vs) → HasHighestCost p x j None }
 {}
 
-/// A direction that nears no tight bound and is no worse at a cost of the range leads to a kept point: it shows the lowest
-/// cost where it goes up in the column, and the highest where it goes down.
+/// A direction that nears no tight bound and is no worse at a cost of the range leads to a kept point: the cost is the lowest
+/// where the column's signed number goes up along it, and the highest where it goes down.
 pub fn directions_show_ends()
     ensures lowest { (p : Problem) (x d : List Rational) (j : ℕ) (t step : Rational) → AllContinuous p → InCostRange p x j t →
         Feasible p x → IsEndDirection p x j t step d → zero_ℚ <ℚ step → HasLowestCost p x j (Some t) }
@@ -73,8 +73,8 @@ pub fn directions_show_ends()
         InCostRange p x j t → Feasible p x → IsEndDirection p x j t step d → step <ℚ zero_ℚ → HasHighestCost p x j (Some t) }
 {}
 
-/// A leaf of the auxiliary problem of a cost that passes the checker's test gives the direction of the end: it goes by 1 in the
-/// column, up at the lower end and down at the upper one.
+/// A leaf of the auxiliary problem of a cost that passes the checker's test gives the direction of the end: the column's signed
+/// number goes by 1 along it, up at the lower end and down at the upper one.
 pub fn leaves_give_directions()
     ensures { (p : Problem) (x : List Rational) (j : ℕ) (wanted : Direction) (v : Version) (t : Rational) (w : Weights) →
         FormsInRange p → j < length p.columns →
