@@ -19,7 +19,7 @@ use Rattle.ranging.specs.BoundAuxiliary.{unnamed_auxiliary, bound_auxiliary}
 use Rattle.ranging.proofs.Meeting.{RowMeets, Meets, not_whole}
 use Rattle.ranging.proofs.CostRows.{row_sum, length-weight_columns}
 use Rattle.ranging.proofs.TightWeights.{SpansObjective, leaf_spans_objective}
-use Rattle.ranging.proofs.BoundPoints.{point_into}
+use Rattle.ranging.proofs.BoundPoints.{point_of_auxiliary}
 use Rattle.ranging.proofs.PlaceNames.{named_feasible}
 
 -- ---- of a cost
@@ -100,7 +100,7 @@ pub bound_has_point : (p : Problem) (x : List Rational) (w : Weights) (i : ℕ) 
 unfolding RowMeets
 bound_has_point p x w i s b d f n h e =
     named_feasible (unnamed_auxiliary p (used_bound p x w i s b) d) (x ++ zero_ℚ ∷ [])
-    (point_into p (used_bound p x w i s b) d zero_ℚ x f n (record {
+    (point_of_auxiliary p (used_bound p x w i s b) d zero_ℚ x f n (record {
       feasible = record {
         relaxed = record {
           size = h.relaxed.size;

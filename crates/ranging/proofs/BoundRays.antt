@@ -17,7 +17,7 @@ use Rattle.ranging.specs.BoundAuxiliary.{unnamed_auxiliary, bound_auxiliary}
 use Rattle.ranging.proofs.Order.{apart, le_or_less, difference_less, lt_by, neg_less}
 use Rattle.ranging.proofs.Mixtures.{mixed_number}
 use Rattle.ranging.proofs.Directions.{along, along_feasible, steps, enough}
-use Rattle.ranging.proofs.BoundPoints.{auxiliary_whole, point_in_range}
+use Rattle.ranging.proofs.BoundPoints.{auxiliary_continuous, point_in_range}
 use Rattle.ranging.proofs.PlaceNames.{unnamed_unbounded}
 
 back : (v t : Rational) → one_ℚ *ℚ v +ℚ (t -ℚ v) ≡ t
@@ -32,7 +32,7 @@ distances_above p u d z r f n h rises t = elim (le_or_less t (number_at z (lengt
       let q = (t -ℚ v) *ℚ inv_ℚ (number_at r (length p.columns)) in
       let e : length z ≡ length r = h.feasible.relaxed.size ∙ sym h.ray.size in
       let there : number_at (along q z r) (length p.columns) ≡ t = mixed_number one_ℚ q z r (length p.columns) e ∙ ap (λ y. one_ℚ *ℚ v +ℚ y) (steps v t (number_at r (length p.columns)) rises) ∙ back v t in
-      (number_at (along q z r) (length p.columns), le_by _ _ _ _ refl there (Q.le_refl t), point_in_range p u d (along q z r) f n (along_feasible (unnamed_auxiliary p u d) q z r (auxiliary_whole p u d n) (enough v t (number_at r (length p.columns)) (Q.le_of_lt _ _ k) rises) h))
+      (number_at (along q z r) (length p.columns), le_by _ _ _ _ refl there (Q.le_refl t), point_in_range p u d (along q z r) f n (along_feasible (unnamed_auxiliary p u d) q z r (auxiliary_continuous p u d n) (enough v t (number_at r (length p.columns)) (Q.le_of_lt _ _ k) rises) h))
 ]
 
 -- a ray that goes down in the distance leads to any distance below
@@ -46,7 +46,7 @@ distances_below p u d z r f n h falls t = elim (le_or_less (number_at z (length 
       let q = (v -ℚ t) *ℚ inv_ℚ m in
       let e : length z ≡ length r = h.feasible.relaxed.size ∙ sym h.ray.size in
       let there : number_at (along q z r) (length p.columns) ≡ t = mixed_number one_ℚ q z r (length p.columns) e ∙ ap (λ y. one_ℚ *ℚ v +ℚ y) (turned q (number_at r (length p.columns)) ∙ ap neg_ℚ (steps t v m above)) ∙ less v t in
-      (number_at (along q z r) (length p.columns), le_by _ _ _ _ there refl (Q.le_refl t), point_in_range p u d (along q z r) f n (along_feasible (unnamed_auxiliary p u d) q z r (auxiliary_whole p u d n) (enough t v m (Q.le_of_lt _ _ k) above) h))
+      (number_at (along q z r) (length p.columns), le_by _ _ _ _ there refl (Q.le_refl t), point_in_range p u d (along q z r) f n (along_feasible (unnamed_auxiliary p u d) q z r (auxiliary_continuous p u d n) (enough t v m (Q.le_of_lt _ _ k) above) h))
 ]
   where
     turned : (q d : Rational) → q *ℚ d ≡ neg_ℚ (q *ℚ (zero_ℚ -ℚ d))

@@ -18,6 +18,7 @@ use Rattle.ranging.specs.CostAuxiliary.{cost_coefficient, given_cost, cost_row, 
 use Rattle.ranging.proofs.Order.{not_less, difference_less, product_above, lt_by, neg_less}
 use Rattle.ranging.proofs.TightSums.{tight_sum_best, tight_sum_least}
 use Rattle.ranging.proofs.CostRows.{turned, given_and_cost, row_sum, row_there, length-weight_columns}
+use Rattle.ranging.proofs.Places.{from_first}
 
 -- ---- points
 
@@ -25,11 +26,8 @@ use Rattle.ranging.proofs.CostRows.{turned, given_and_cost, row_sum, row_there, 
 at_row : (F : Row → Type 0) (p : Problem) (x : List Rational) (j k : ℕ) → k < length p.columns → ((i : ℕ) → IfSome (slice_get (cost_rows p x j 0 (length p.columns)) i) F) → F (cost_row p x j k)
 at_row F p x j k l h = go (slice_get (cost_rows p x j 0 (length p.columns)) k) (row_there p x j 0 (length p.columns) k l) (h k)
   where
-    zero_on : (k : ℕ) → 0 + k ≡ k
-    zero_on k = omega arith
-
     go : (o : Option Row) → o ≡ Some (cost_row p x j (0 + k)) → IfSome o F → F (cost_row p x j k)
-    go o e m = let R : ℕ → Type 0 = λ n. F (cost_row p x j n) in subst R (zero_on k) (rw e at m)
+    go o e m = let R : ℕ → Type 0 = λ n. F (cost_row p x j n) in subst R (from_first k) (rw e at m)
 
 cut : (a b : ℕ) → suc a ≡ suc b → a ≡ b
 cut a b e = omega arith

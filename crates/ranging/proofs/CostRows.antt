@@ -15,6 +15,7 @@ use Rattle.verdicts.proofs.Laws.{coefficient-append, coefficient-scaled}
 use Rattle.ranging.specs.CostRanges.{without_column, with_cost}
 use Rattle.ranging.specs.TightBounds.{tight_forms, weighted_sum}
 use Rattle.ranging.specs.CostAuxiliary.{entry_unless_zero, coefficients_at, cost_coefficient, given_cost, cost_row, cost_rows, weight_columns}
+use Rattle.ranging.proofs.Places.{place_here, place_behind}
 
 -- ---- the coefficients of an objective with another cost
 
@@ -79,23 +80,17 @@ coefficient-unless_zero i c rest k = go (is_zero c) refl
 
 -- ---- a row's sum
 
-stay : (i : ℕ) → i ≡ i + 0
-stay i = omega arith
-
-later : (i n : ℕ) → suc i + n ≡ i + suc n
-later i n = omega arith
-
 coefficients_value : (z : List Rational) (k i : ℕ) (ws : List Rational) (fs : List (List Entry)) → length ws ≡ length fs → ((n : ℕ) → number_at z (i + n) ≡ number_at ws n) → sum_at z (coefficients_at k i fs) ≡ coefficient_of (weighted_sum ws fs) k
 coefficients_value z k i [] [] e h = refl
 coefficients_value z k i [] (f ∷ fs) e h = absurd (omega arith)
 coefficients_value z k i (w ∷ ws) [] e h = refl
 coefficients_value z k i (w ∷ ws) (f ∷ fs) e h =
     value-unless_zero z i (coefficient_of f k) (coefficients_at k (suc i) fs)
-    ∙ ap₂ ◌+ℚ◌ (ap (λ v. coefficient_of f k *ℚ v) here ∙ Q.mul_comm _ w) (coefficients_value z k (suc i) ws fs (omega arith) (λ n. ap (number_at z) (later i n) ∙ h (suc n)))
+    ∙ ap₂ ◌+ℚ◌ (ap (λ v. coefficient_of f k *ℚ v) here ∙ Q.mul_comm _ w) (coefficients_value z k (suc i) ws fs (omega arith) (λ n. ap (number_at z) (place_behind i n) ∙ h (suc n)))
     ∙ sym (coefficient-append (scaled w f) (weighted_sum ws fs) k ∙ ap (λ v. v +ℚ coefficient_of (weighted_sum ws fs) k) (coefficient-scaled w f k))
   where
     here : number_at z i ≡ w
-    here = ap (number_at z) (stay i) ∙ h zero
+    here = ap (number_at z) (sym (place_here i)) ∙ h zero
 
 -- the cost, and the weighted sum of the tight forms
 pub row_sum : (p : Problem) (x : List Rational) (j k : ℕ) (t : Rational) (ws : List Rational) → length ws ≡ length (tight_forms p x) → sum_at (t ∷ ws) (cost_row p x j k).entries ≡ cost_coefficient p j k *ℚ t +ℚ coefficient_of (weighted_sum ws (tight_forms p x)) k
@@ -127,7 +122,7 @@ form_at k i zero (f ∷ fs) =
     same = grind (arith, nat_tests)
 form_at k i (suc m) (f ∷ fs) =
     coefficient-unless_zero i (coefficient_of f k) (coefficients_at k (suc i) fs) (i + suc m)
-    ∙ ap₂ (λ b v. cond b (coefficient_of f k) zero_ℚ +ℚ v) different (ap (coefficient_of (coefficients_at k (suc i) fs)) (sym (later i m)) ∙ form_at k (suc i) m fs) ∙ Q.zero-add _
+    ∙ ap₂ (λ b v. cond b (coefficient_of f k) zero_ℚ +ℚ v) different (ap (coefficient_of (coefficients_at k (suc i) fs)) (sym (place_behind i m)) ∙ form_at k (suc i) m fs) ∙ Q.zero-add _
   where
     different : (i == (i + suc m)) ≡ false
     different = grind (arith, nat_tests)
@@ -153,13 +148,13 @@ coefficient_of_weight p x j k m =
 
 pub row_there : (p : Problem) (x : List Rational) (j k n i : ℕ) → i < n → slice_get (cost_rows p x j k n) i ≡ Some (cost_row p x j (k + i))
 row_there p x j k zero i h = absurd (omega arith)
-row_there p x j k (suc n) zero h = ap (λ m. Some (cost_row p x j m)) (stay k)
-row_there p x j k (suc n) (suc i) h = row_there p x j (suc k) n i (omega arith) ∙ ap (λ m. Some (cost_row p x j m)) (later k i)
+row_there p x j k (suc n) zero h = ap (λ m. Some (cost_row p x j m)) (sym (place_here k))
+row_there p x j k (suc n) (suc i) h = row_there p x j (suc k) n i (omega arith) ∙ ap (λ m. Some (cost_row p x j m)) (place_behind k i)
 
 pub row_at : (p : Problem) (x : List Rational) (j k n i : ℕ) → IfSome (slice_get (cost_rows p x j k n) i) (λ r. r ≡ cost_row p x j (k + i))
 row_at p x j k zero i = tt
-row_at p x j k (suc n) zero = ap (cost_row p x j) (stay k)
-row_at p x j k (suc n) (suc i) = let P : ℕ → Type 0 = λ m. IfSome (slice_get (cost_rows p x j (suc k) n) i) (λ r. r ≡ cost_row p x j m) in subst P (later k i) (row_at p x j (suc k) n i)
+row_at p x j k (suc n) zero = ap (cost_row p x j) (sym (place_here k))
+row_at p x j k (suc n) (suc i) = let P : ℕ → Type 0 = λ m. IfSome (slice_get (cost_rows p x j (suc k) n) i) (λ r. r ≡ cost_row p x j m) in subst P (place_behind k i) (row_at p x j (suc k) n i)
 
 pub length-weight_columns : (i : ℕ) (fs : List (List Entry)) → length (weight_columns i fs) ≡ length fs
 length-weight_columns i [] = refl

@@ -23,10 +23,11 @@ use Rattle.ranging.specs.TightBounds.{FormsInRange, tight_forms, NoneFalls, IsEn
 use Rattle.ranging.specs.CostAuxiliary.{cost_coefficient, given_cost, cost_row, cost_rows, weight_columns, cost_auxiliary}
 use Rattle.ranging.specs.LeafDirections.{weight_on, negated_weights, direction_of}
 use Rattle.ranging.proofs.TightSums.{AllFormsBelow, tight_below}
-use Rattle.ranging.proofs.Coefficients.{same_coefficients}
+use Rattle.ranging.proofs.LeafTerms.{same_coefficients, no_derived, no_split}
 use Rattle.ranging.proofs.CostRows.{turned, given_and_cost, coefficient_of_cost, coefficient_of_weight, row_at, length-weight_columns}
 use Rattle.ranging.proofs.CostPoints.{objective_in_range, point_shows_best}
 use Rattle.ranging.proofs.KeptPoints.{direction_shows_lowest, direction_shows_highest}
+use Rattle.ranging.proofs.Places.{place_here, place_behind, from_first}
 
 -- ---- sums over the items of rows
 
@@ -98,20 +99,11 @@ length-negated is k (suc n) = ap suc (length-negated is (suc k) n)
 
 number-negated : (is : List Item) (k n m : ℕ) → m < n → number_at (negated_weights is k n) m ≡ neg_ℚ (weight_on is (k + m))
 number-negated is k zero m h = absurd (omega arith)
-number-negated is k (suc n) zero h = ap (λ i. neg_ℚ (weight_on is i)) (stay k)
-  where
-    stay : (i : ℕ) → i ≡ i + 0
-    stay i = omega arith
-number-negated is k (suc n) (suc m) h = number-negated is (suc k) n m (omega arith) ∙ ap (λ i. neg_ℚ (weight_on is i)) (later k m)
-  where
-    later : (i n : ℕ) → suc i + n ≡ i + suc n
-    later i n = omega arith
+number-negated is k (suc n) zero h = ap (λ i. neg_ℚ (weight_on is i)) (sym (place_here k))
+number-negated is k (suc n) (suc m) h = number-negated is (suc k) n m (omega arith) ∙ ap (λ i. neg_ℚ (weight_on is i)) (place_behind k m)
 
 number_of_direction : (p : Problem) (w : Weights) (m : ℕ) → m < length p.columns → number_at (direction_of p w) m ≡ neg_ℚ (weight_on w.rows m)
-number_of_direction p w m h = number-negated w.rows 0 (length p.columns) m h ∙ ap (λ i. neg_ℚ (weight_on w.rows i)) (zero_on m)
-  where
-    zero_on : (m : ℕ) → 0 + m ≡ m
-    zero_on m = omega arith
+number_of_direction p w m h = number-negated w.rows 0 (length p.columns) m h ∙ ap (λ i. neg_ℚ (weight_on w.rows i)) (from_first m)
 
 value_of_direction : (p : Problem) (w : Weights) (form : List Entry) → AllBelow (length p.columns) form → sum_at (direction_of p w) form ≡ neg_ℚ (items_sum w.rows (coefficient_of form))
 value_of_direction p w form b = negated form b ∙ ap neg_ℚ (value-weights w.rows form)
@@ -160,9 +152,6 @@ row_added p x j i is ts l = record {
 row_is_weighted : (p : Problem) (x : List Rational) (j : ℕ) (d : Direction) (i : Item) → IfSome (row_term (cost_auxiliary p x j d) i) (λ t. t ≡ row_weighted p x j i)
 row_is_weighted p x j d i = go (slice_get (cost_rows p x j 0 (length p.columns)) i.index) (row_at p x j 0 (length p.columns) i.index)
   where
-    zero_on : (k : ℕ) → 0 + k ≡ k
-    zero_on k = omega arith
-
     choose : (b : Bool) → IfSome (term i.weight (cost_row p x j i.index).entries (if b then Some (given_cost p j i.index) else Some (given_cost p j i.index))) (λ t. t ≡ row_weighted p x j i)
     choose true = refl
     choose false = refl
@@ -171,7 +160,7 @@ row_is_weighted p x j d i = go (slice_get (cost_rows p x j 0 (length p.columns))
     go None k = tt
     go (Some r) k =
         let P : Row → Type 0 = λ r. IfSome (term i.weight r.entries (bound_used i.weight r.lower r.upper)) (λ t. t ≡ row_weighted p x j i) in
-        subst P (sym (k ∙ ap (cost_row p x j) (zero_on i.index))) (choose (is_less zero_ℚ i.weight))
+        subst P (sym (k ∙ ap (cost_row p x j) (from_first i.index))) (choose (is_less zero_ℚ i.weight))
 
 column_adds : (p : Problem) (x : List Rational) (j : ℕ) (d : Direction) (i : Item) → IfSome (column_term (cost_auxiliary p x j d) [] i) AddsToWeights
 column_adds p x j d i = by_place i.index refl
@@ -226,26 +215,12 @@ gathered_rows p x j d (i ∷ is) rest l = go (row_term (cost_auxiliary p x j d) 
 no_terms : (p : Problem) (x : List Rational) (j : ℕ) → LeafSums p x j [] []
 no_terms p x j = record { at_cost = refl; at_weights = λ m. Q.le_refl zero_ℚ; bounds = refl }
 
-no_derived : (i : Item) → IfSome (derived_term [] i) AddsToWeights
-no_derived i = go (is_less zero_ℚ i.weight)
-  where
-    go : (b : Bool) → IfSome (if b then None else None) AddsToWeights
-    go true = tt
-    go false = tt
-
-no_split : (i : Item) → IfSome (split_term [] i) AddsToWeights
-no_split i = go (is_less zero_ℚ i.weight)
-  where
-    go : (b : Bool) → IfSome (if b then None else None) AddsToWeights
-    go true = tt
-    go false = tt
-
 leaf_sums : (p : Problem) (x : List Rational) (j : ℕ) (d : Direction) (w : Weights) → IfSome (terms (cost_auxiliary p x j d) [] [] [] w) (LeafSums p x j w.rows)
 leaf_sums p x j d w =
     gathered_rows p x j d w.rows _
     (gathered_adds p x j (column_term (cost_auxiliary p x j d) []) w.columns [] _ (column_adds p x j d)
-    (gathered_adds p x j (derived_term []) w.derived [] _ no_derived
-    (gathered_adds p x j (split_term []) w.splits [] (Some []) no_split (no_terms p x j))))
+    (gathered_adds p x j (derived_term []) w.derived [] _ (no_derived AddsToWeights)
+    (gathered_adds p x j (split_term []) w.splits [] (Some []) (no_split AddsToWeights) (no_terms p x j))))
 
 -- ---- together
 

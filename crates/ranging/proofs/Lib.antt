@@ -1,3 +1,4 @@
+mod Places
 mod Order
 mod Mixtures
 mod Meeting
@@ -9,7 +10,7 @@ mod KeptPoints
 mod BoundRanges
 mod CostRows
 mod CostPoints
-mod Coefficients
+mod LeafTerms
 mod LeafDirections
 mod PlaceNames
 mod BoundPoints

@@ -14,6 +14,7 @@ use Rattle.verdicts.proofs.Laws.{le_by, neg_le, minus_one-mul, value-append, val
 use Rattle.ranging.specs.CostRanges.{with_cost, InCostRange, HasLowestCost, HasHighestCost}
 use Rattle.ranging.specs.TightBounds.{RowsInRange, FormsInRange, if_tight, tight_at, tight_rows, tight_columns, tight_forms, weighted_sum, AllNonNegative, IsTightSum}
 use Rattle.ranging.proofs.CostRanges.{feasible_with, feasible_back}
+use Rattle.ranging.proofs.Places.{place_here, place_behind, from_first}
 
 -- ---- tight forms do not fall
 
@@ -51,21 +52,12 @@ columns_rise : (x y : List Rational) (at : ℕ) (cs : List Column) (rest : List 
 columns_rise x y at [] rest h r = r
 columns_rise x y at (c ∷ cs) rest h r =
     let P : Rational → Type 0 = λ v. IsWithin c.lower c.upper v in
-    let here : number_at y (at + 0) ≡ sum_at y (record { column = at; coefficient = one_ℚ } ∷ []) = ap (number_at y) (zero_more at) ∙ sym (Q.add-zero _ ∙ Q.one-mul _) in
+    let here : number_at y (at + 0) ≡ sum_at y (record { column = at; coefficient = one_ℚ } ∷ []) = ap (number_at y) (place_here at) ∙ sym (Q.add-zero _ ∙ Q.one-mul _) in
     rise_at x y (record { column = at; coefficient = one_ℚ } ∷ []) c.lower c.upper _ (subst P here (h zero))
-    (columns_rise x y (suc at) cs rest (λ i. let R : ℕ → Type 0 = λ k. IfSome (slice_get cs i) (λ d. IsWithin d.lower d.upper (number_at y k)) in subst R (one_more at i) (h (suc i))) r)
-  where
-    zero_more : (n : ℕ) → n + 0 ≡ n
-    zero_more n = omega arith
-
-    one_more : (n i : ℕ) → n + suc i ≡ suc n + i
-    one_more n i = omega arith
+    (columns_rise x y (suc at) cs rest (λ i. let R : ℕ → Type 0 = λ k. IfSome (slice_get cs i) (λ d. IsWithin d.lower d.upper (number_at y k)) in subst R (sym (place_behind at i)) (h (suc i))) r)
 
 all_rise : (p : Problem) (x y : List Rational) → Feasible p y → AllRise x y (tight_forms p x)
-all_rise p x y f = columns_rise x y 0 p.columns _ (λ i. let R : ℕ → Type 0 = λ k. IfSome (slice_get p.columns i) (λ d. IsWithin d.lower d.upper (number_at y k)) in subst R (from_zero i) (f.relaxed.columns i)) (rows_rise x y p.rows f.relaxed.rows)
-  where
-    from_zero : (i : ℕ) → i ≡ 0 + i
-    from_zero i = omega arith
+all_rise p x y f = columns_rise x y 0 p.columns _ (λ i. let R : ℕ → Type 0 = λ k. IfSome (slice_get p.columns i) (λ d. IsWithin d.lower d.upper (number_at y k)) in subst R (sym (from_first i)) (f.relaxed.columns i)) (rows_rise x y p.rows f.relaxed.rows)
 
 weighted_sum_rises : (x y ws : List Rational) (fs : List (List Entry)) → AllNonNegative ws → AllRise x y fs → sum_at x (weighted_sum ws fs) ≤ℚ sum_at y (weighted_sum ws fs)
 weighted_sum_rises x y [] fs h r = Q.le_refl zero_ℚ

@@ -16,8 +16,9 @@ use Rattle.verdicts.proofs.Laws.{le_by, neg-zero, mul-le-mul_neg, minus_one-mul,
 use Rattle.ranging.specs.TightBounds.{if_tight, tight_at, tight_rows, tight_columns, tight_forms, RowsInRange, FormsInRange}
 use Rattle.ranging.proofs.Order.{le_or_less, le_cancel, lt_by, neg_less, some_above}
 use Rattle.ranging.proofs.TightSums.{below_append, below_scaled, value_by_coefficients}
-use Rattle.ranging.proofs.Coefficients.{same_coefficients}
+use Rattle.ranging.proofs.LeafTerms.{same_coefficients, no_derived, no_split}
 use Rattle.ranging.proofs.Spanned.{IsSpanned, IsOneOf, nothing_spanned, one_spanned, both_spanned, same_spanned}
+use Rattle.ranging.proofs.Places.{place_here, place_behind, from_first}
 
 -- ---- a bound that is tight has its form in the list
 
@@ -75,20 +76,14 @@ columns_keep f x at (c ∷ cs) rest h = tight_at_keeps f x (record { column = at
 
 columns_have : (x : List Rational) (at : ℕ) (cs : List Column) (rest : List (List Entry)) (j : ℕ) → IfSome (slice_get cs j) (λ c. HasTight x (tight_columns x at cs rest) (record { column = at + j; coefficient = one_ℚ } ∷ []) c.lower c.upper)
 columns_have x at [] rest j = tt
-columns_have x at (c ∷ cs) rest zero = let P : ℕ → Type 0 = λ n. HasTight x (tight_columns x at (c ∷ cs) rest) (record { column = n; coefficient = one_ℚ } ∷ []) c.lower c.upper in subst P (stay at) (tight_here x (record { column = at; coefficient = one_ℚ } ∷ []) c.lower c.upper (tight_columns x (suc at) cs rest))
-  where
-    stay : (i : ℕ) → i ≡ i + 0
-    stay i = omega arith
+columns_have x at (c ∷ cs) rest zero = let P : ℕ → Type 0 = λ n. HasTight x (tight_columns x at (c ∷ cs) rest) (record { column = n; coefficient = one_ℚ } ∷ []) c.lower c.upper in subst P (sym (place_here at)) (tight_here x (record { column = at; coefficient = one_ℚ } ∷ []) c.lower c.upper (tight_columns x (suc at) cs rest))
 columns_have x at (c ∷ cs) rest (suc j) = go (slice_get cs j) (columns_have x (suc at) cs rest j)
   where
-    later : (i n : ℕ) → suc i + n ≡ i + suc n
-    later i n = omega arith
-
     go : (o : Option Column) → IfSome o (λ d. HasTight x (tight_columns x (suc at) cs rest) (record { column = suc at + j; coefficient = one_ℚ } ∷ []) d.lower d.upper) → IfSome o (λ d. HasTight x (tight_columns x at (c ∷ cs) rest) (record { column = at + suc j; coefficient = one_ℚ } ∷ []) d.lower d.upper)
     go None h = tt
     go (Some d) h =
         let P : ℕ → Type 0 = λ n. HasTight x (tight_columns x at (c ∷ cs) rest) (record { column = n; coefficient = one_ℚ } ∷ []) d.lower d.upper in
-        subst P (later at j) (tight_more x (tight_columns x (suc at) cs rest) (tight_columns x at (c ∷ cs) rest) (record { column = suc at + j; coefficient = one_ℚ } ∷ []) d.lower d.upper (λ f. tight_at_keeps f x (record { column = at; coefficient = one_ℚ } ∷ []) c.lower c.upper (tight_columns x (suc at) cs rest)) h)
+        subst P (place_behind at j) (tight_more x (tight_columns x (suc at) cs rest) (tight_columns x at (c ∷ cs) rest) (record { column = suc at + j; coefficient = one_ℚ } ∷ []) d.lower d.upper (λ f. tight_at_keeps f x (record { column = at; coefficient = one_ℚ } ∷ []) c.lower c.upper (tight_columns x (suc at) cs rest)) h)
 
 -- ---- a term of the leaf
 
@@ -164,9 +159,6 @@ column_good p x h i = go (slice_get p.columns i.index) (column_below p.columns i
     unit : number_at x i.index ≡ sum_at x (record { column = i.index; coefficient = one_ℚ } ∷ [])
     unit = sym (Q.add-zero _ ∙ Q.one-mul _)
 
-    zero_on : (k : ℕ) → 0 + k ≡ k
-    zero_on k = omega arith
-
     none : (b : Bool) → IfSome (term i.weight (record { column = i.index; coefficient = one_ℚ } ∷ []) (if b then None else None)) (IsGood p x)
     none true = tt
     none false = tt
@@ -176,21 +168,7 @@ column_good p x h i = go (slice_get p.columns i.index) (column_below p.columns i
     go (Some c) b k t =
         let P : Rational → Type 0 = λ v. IsWithin c.lower c.upper v in
         let R : ℕ → Type 0 = λ n. HasTight x (tight_forms p x) (record { column = n; coefficient = one_ℚ } ∷ []) c.lower c.upper in
-        term_good p x i.weight (record { column = i.index; coefficient = one_ℚ } ∷ []) c.lower c.upper (b, tt) (subst P unit k) (subst R (zero_on i.index) t)
-
-no_derived : (p : Problem) (x : List Rational) (i : Item) → IfSome (derived_term [] i) (IsGood p x)
-no_derived p x i = go (is_less zero_ℚ i.weight)
-  where
-    go : (b : Bool) → IfSome (if b then None else None) (IsGood p x)
-    go true = tt
-    go false = tt
-
-no_split : (p : Problem) (x : List Rational) (i : Item) → IfSome (split_term [] i) (IsGood p x)
-no_split p x i = go (is_less zero_ℚ i.weight)
-  where
-    go : (b : Bool) → IfSome (if b then None else None) (IsGood p x)
-    go true = tt
-    go false = tt
+        term_good p x i.weight (record { column = i.index; coefficient = one_ℚ } ∷ []) c.lower c.upper (b, tt) (subst P unit k) (subst R (from_first i.index) t)
 
 gathered_good : (p : Problem) (x : List Rational) (f : Item → Option Weighted) (is : List Item) (rest : Option (List Weighted)) → ((i : Item) → IfSome (f i) (IsGood p x)) → IfSome rest (AllGood p x) → IfSome (gathered f is rest) (AllGood p x)
 gathered_good p x f [] rest h k = k
@@ -205,8 +183,8 @@ terms_good : (p : Problem) (x : List Rational) (w : Weights) → FormsInRange p 
 terms_good p x w f h =
     gathered_good p x (row_term p) w.rows _ (row_good p x f h)
     (gathered_good p x (column_term p []) w.columns _ (column_good p x h)
-    (gathered_good p x (derived_term []) w.derived _ (no_derived p x)
-    (gathered_good p x (split_term []) w.splits (Some []) (no_split p x) tt)))
+    (gathered_good p x (derived_term []) w.derived _ (no_derived (IsGood p x))
+    (gathered_good p x (split_term []) w.splits (Some []) (no_split (IsGood p x)) tt)))
 
 -- ---- together
 
