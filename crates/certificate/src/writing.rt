@@ -26,12 +26,7 @@ pub fn text(alloc: Global, certificate: &Certificate) -> Result<Vec<u8>, AllocEr
     Ok(text.into_bytes())
 }
 
-fn head_text(
-    alloc: Global,
-    version: Version,
-    rows: u32,
-    columns: u32,
-) -> Result<String, AllocError>
+fn head_text(alloc: Global, version: Version, rows: u32, columns: u32) -> Result<String, AllocError>
     ensures { IfOk result (λ text. string_bytes text ≡ head_text (version_of version) rows columns) }
 {
     let number = number_of(version);
