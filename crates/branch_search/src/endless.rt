@@ -12,7 +12,7 @@ use crate::told::ray_or_fault;
 use crate::whole_fault::{VerdictFault, Wanted};
 use crate::{EndlessAt, search};
 use cert_check::{CheckFault, Checked, check};
-use certificate::{Certificate, Verdict};
+use certificate::{Certificate, Verdict, Version};
 use instance::{Instance, Point, meets};
 use search_node::Site;
 use std::alloc::Global;
@@ -167,5 +167,5 @@ fn of_ray(alloc: Global, problem: &Instance, point: Point, ray: Point) -> Certif
     problem.keeps_its_limits();
     let columns = problem.columns().len() as u32;
     let rows = problem.rows().len() as u32;
-    Certificate::unbounded(alloc, rows, columns, point, ray)
+    Certificate::unbounded(alloc, Version::One, rows, columns, point, ray)
 }

@@ -32,7 +32,7 @@ fn weights_of(alloc: Global, problem: &Instance, node: &TreeNode) -> Result<Weig
     ensures { IfOk result (λ weights. Refutes problem.now weights) }
 {
     match node {
-        TreeNode::Empty(weights) => weights.copy(alloc),
+        TreeNode::Empty(weights) => weights.weights().copy(alloc),
         TreeNode::Branch(_) => unreachable!(),
         TreeNode::Bound(_) => unreachable!(),
     }
