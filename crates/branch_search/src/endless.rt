@@ -149,7 +149,7 @@ fn checked(
     problem.keeps_its_limits();
     let EndlessAt { node, endless } = ray;
     let certificate = of_ray(alloc, problem, point, endless.ray);
-    match check(problem, &certificate) {
+    match check(alloc, problem, &certificate) {
         Ok(Checked::Accepted) => Ok(certificate),
         Ok(Checked::Refused(_)) => unreachable!(),
         Err(CheckFault { fault, .. }) => {

@@ -21,7 +21,7 @@ use Rattle.infeasible_subset.proofs.Subsets.{column_or_none, get_column}
 use Rattle.infeasible_subset.specs.Faults.{IsRootFault}
 
 passing : (p : Problem) (node : TreeNode) → NodePasses p None [] [] node → node_passes p One None [] [] node ≡ true
-passing p node h = let P : Result Bool NoFit → Type 0 = λ r. IfOk r (λ b. b ≡ node_passes p One None [] [] node) in sym (subst P h (node_ok p None [] [] node))
+passing p node h = let P : Result Bool NoFit → Type 0 = λ r. IfOk r (λ b. b ≡ node_passes p One None [] [] node) in sym (subst P h (node_ok p One None [] [] node))
 
 pub refuted : (p : Problem) (w : Weights) → NodePasses p None [] [] (Empty w) → Refutes p w
 refuted p w h = record { passes = passing p (Empty w) h }
