@@ -98,8 +98,6 @@ fn decided(
     ensures plain { NoneInteger problem.now.columns → IfOk result (λ c. IsPlainCertificate problem.now c) }
     ensures fault { IfErr result (IsAfterSearch problem.now split_limit) }
 {
-    // What has a text is of version 1.
-    let _rows = certificate.rows();
     match certificate.verdict() {
         Verdict::Optimal => improved(alloc, problem, &certificate, ray, split_limit),
         Verdict::Infeasible => Ok(certificate),
