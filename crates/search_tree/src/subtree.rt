@@ -5,7 +5,7 @@ ghost use Rattle.search_tree.specs.Slots.{slots_of};
 ghost use Rattle.search_tree.specs.declared.leaf.Leaf.TheVariants.{Todo};
 
 use crate::{Hint, Leaf, Slot};
-use certificate::Split;
+use certificate::ColumnSplit;
 use std::alloc::{AllocError, Global};
 use std::marker::Model;
 
