@@ -10,13 +10,11 @@ use Rattle.milp.specs.Form.{Entry}
 use Rattle.milp.specs.Problem.{Column, Row, Problem}
 use Rattle.instance.specs.Sums.{and_then, form_of}
 use Rattle.verdicts.specs.Certificate.{One, Verdict, Optimal, Infeasible, Unbounded, Item, Weights, TreeNode, Empty, Certificate}
-use Rattle.verdicts.specs.Proves.{Part, Proves, node_passes}
+use Rattle.verdicts.specs.Proves.{Part, Size, Node, Proves, lower_under, upper_under, node_passes}
 use Rattle.basis.specs.Relaxation.{leaf_certificate}
-use Rattle.cert_check.specs.Setting.{Setting}
-use Rattle.cert_check.specs.Sums.{and_also, bound_of, row_bound, then_there, are_there, all_there, with_bound, with_bounds, bound_sum, Product, form_at, item_products, weight_products, with_products, are_forms}
-use Rattle.cert_check.specs.Parts.{problem_alone, shown_answer, node_answer}
+use Rattle.cert_check.specs.Sums.{and_also, row_bound, are_there, all_there, with_bound, with_bounds, bound_sum, Product, item_products, weight_products, with_products, are_forms}
+use Rattle.cert_check.specs.Parts.{problem_alone, node_answer}
 use Rattle.cert_check.specs.Outcome.{Outcome, Acceptance, judged, outcome, trials}
-use Rattle.cert_check.specs.declared.kind.Kind.TheVariants as kind
 use Rattle.cert_check.specs.declared.part.Checked.TheVariants.{Accepted}
 use Rattle.cert_check.proofs.Laws.{check_accepted, node_ok}
 use Rattle.branch_search.specs.Plain.{IsPlainCertificate}
@@ -30,7 +28,13 @@ refuted p w h = let P : Result Bool NoFit → Type 0 = λ r. IfOk r (λ b. b ≡
 
 -- ---- the bounds that weights use, in the problem with fewer bounds
 
-row_bound_same : (p : Problem) (keep : Member → Bool) (i : Item) → IsTrue (keep (row_used i)) → bound_of (problem_alone (sub p keep)) kind.OfRow i ≡ bound_of (problem_alone p) kind.OfRow i
+abbrev of_row : Problem → Item → Result (Option Rational) NoFit
+of_row p i = Ok (row_bound i.weight (slice_get p.rows i.index))
+
+abbrev of_column : Problem → Item → Result (Option Rational) NoFit
+of_column p i = if is_less zero_ℚ i.weight then Ok (lower_under p [] i.index) else Ok (upper_under p [] i.index)
+
+row_bound_same : (p : Problem) (keep : Member → Bool) (i : Item) → IsTrue (keep (row_used i)) → of_row (sub p keep) i ≡ of_row p i
 row_bound_same p keep i h = ap Ok (go (slice_get p.rows i.index) (get_row _ p.rows i.index))
   where
     go : (o : Option Row) {a : Option Row} → a ≡ row_or_none (λ s. keep (OfRow i.index s)) o → row_bound i.weight a ≡ row_bound i.weight o
@@ -42,7 +46,7 @@ given : (b : Bool) (lower upper : Option Rational) → ◌≡◌ {A = Result (Op
 given true lower upper = refl
 given false lower upper = refl
 
-column_bound_same : (p : Problem) (keep : Member → Bool) (i : Item) → IsTrue (keep (column_used i)) → bound_of (problem_alone (sub p keep)) kind.OfColumn i ≡ bound_of (problem_alone p) kind.OfColumn i
+column_bound_same : (p : Problem) (keep : Member → Bool) (i : Item) → IsTrue (keep (column_used i)) → of_column (sub p keep) i ≡ of_column p i
 column_bound_same p keep i h = given (is_less zero_ℚ i.weight) _ _ ∙ ap Ok (go (slice_get p.columns i.index) (get_column _ p.columns i.index)) ∙ sym (given (is_less zero_ℚ i.weight) _ _)
   where
     go : (o : Option Column) {a : Option Column} → a ≡ column_or_none (λ s. keep (OfColumn i.index s)) o → (if is_less zero_ℚ i.weight then option_and_then (λ c. c.lower) a else option_and_then (λ c. c.upper) a) ≡ (if is_less zero_ℚ i.weight then option_and_then (λ c. c.lower) o else option_and_then (λ c. c.upper) o)
@@ -53,17 +57,17 @@ there_same : (f g : Item → Result (Option Rational) NoFit) (member : Item → 
 there_same f g member keep [] h k = refl
 there_same f g member keep (i ∷ is) h k = rw (h i k.0, there_same f g member keep is h k.1) refl
 
-then_same : {A B : Type 0} (r : Result A NoFit) (f g : A → Result B NoFit) → ((a : A) → f a ≡ g a) → and_then r f ≡ and_then r g
-then_same (Ok a) f g h = h a
-then_same (Err e) f g h = refl
+then_same : {A B : Type 0} (r s : Result A NoFit) (f g : A → Result B NoFit) → r ≡ s → ((a : A) → f a ≡ g a) → and_then r f ≡ and_then s g
+then_same r (Ok a) f g e h = rw e (h a)
+then_same r (Err fault) f g e h = rw e refl
 
 bounds_same : (f g : Item → Result (Option Rational) NoFit) (member : Item → Member) (keep : Member → Bool) (total : Rational) (is : List Item) → ((i : Item) → IsTrue (keep (member i)) → f i ≡ g i) → AllUse member keep is → with_bounds f total is ≡ with_bounds g total is
 bounds_same f g member keep total [] h k = refl
-bounds_same f g member keep total (i ∷ is) h k = rw (h i k.0) (then_same (g i) _ _ (λ o. then_same (with_bound total i.weight o) _ _ (λ t. bounds_same f g member keep t is h k.1)))
+bounds_same f g member keep total (i ∷ is) h k = then_same (f i) (g i) _ _ (h i k.0) (λ o. then_same (with_bound total i.weight o) (with_bound total i.weight o) _ _ refl (λ t. bounds_same f g member keep t is h k.1))
 
 -- ---- the forms, which the problem with fewer bounds has as well
 
-row_form_same : (p : Problem) (keep : Member → Bool) (i : ℕ) → form_at (problem_alone (sub p keep)) kind.OfRow i ≡ form_at (problem_alone p) kind.OfRow i
+row_form_same : (p : Problem) (keep : Member → Bool) (i : ℕ) → form_of (slice_get (sub p keep).rows i) ≡ form_of (slice_get p.rows i)
 row_form_same p keep i = go (slice_get p.rows i) (get_row _ p.rows i)
   where
     go : (o : Option Row) {a : Option Row} → a ≡ row_or_none (λ s. keep (OfRow i s)) o → form_of a ≡ form_of o
@@ -74,38 +78,28 @@ products_same : (f g : ℕ → List Entry) → ((i : ℕ) → f i ≡ g i) → (
 products_same f g h [] j = refl
 products_same f g h (i ∷ is) j = rw (h i.index, products_same f g h is j) refl
 
+append_same : {A : Type 0} (xs ys zs : List A) → xs ≡ ys → xs ++ zs ≡ ys ++ zs
+append_same xs ys zs e = ap (λ all. all ++ zs) e
+
 weights_same : (p : Problem) (keep : Member → Bool) (w : Weights) (j : ℕ) → weight_products (problem_alone (sub p keep)) w j ≡ weight_products (problem_alone p) w j
-weights_same p keep w j =
-    let few : Setting = problem_alone (sub p keep) in
-    let all : Setting = problem_alone p in
-    ap₂ (λ a b. a ++ b) (products_same (form_at few kind.OfRow) (form_at all kind.OfRow) (row_form_same p keep) w.rows j)
-    (ap₂ (λ a b. a ++ b) (products_same (form_at few kind.OfColumn) (form_at all kind.OfColumn) (λ i. refl) w.columns j)
-    (products_same (form_at few kind.OfDerived) (form_at all kind.OfDerived) (λ i. refl) w.derived j))
+weights_same p keep w j = append_same _ _ _ (products_same _ _ (row_form_same p keep) w.rows j)
 
 forms_same : (f g : ℕ → List Product) (wanted : ℕ → Rational) (keep : ℕ → Side → Bool) → ((j : ℕ) → f j ≡ g j) → (j : ℕ) (cs : List Column) → are_forms f wanted j (sub_columns keep cs) ≡ are_forms g wanted j cs
 forms_same f g wanted keep h j [] = refl
-forms_same f g wanted keep h j (c ∷ cs) = rw (h j) (then_same (with_products zero_ℚ (g j)) _ _ (λ v. ap (λ rest. cond (is_same v (wanted j)) rest (Ok false)) (forms_same f g wanted (λ k. keep (suc k)) h (j + 1) cs)))
+forms_same f g wanted keep h j (c ∷ cs) = then_same (with_products zero_ℚ (f j)) (with_products zero_ℚ (g j)) _ _ (ap (with_products zero_ℚ) (h j)) (λ v. ap (λ rest. cond (is_same v (wanted j)) rest (Ok false)) (forms_same f g wanted (λ k. keep (suc k)) h (j + 1) cs))
 
 -- ---- the test of weights that use bounds which are kept
 
 module _ (p : Problem) (keep : Member → Bool) (w : Weights) (h : UsesOnly keep w) where
-  few : Setting
-  few = problem_alone (sub p keep)
-
-  all : Setting
-  all = problem_alone p
-
   all_there_same : all_there (problem_alone (sub p keep)) w ≡ all_there (problem_alone p) w
   all_there_same =
-      ap₂ and_also (there_same _ _ row_used keep w.rows (row_bound_same p keep) h.rows)
-      (ap₂ and_also (there_same _ _ column_used keep w.columns (column_bound_same p keep) h.columns) refl)
+      ap₂ and_also (there_same (of_row (sub p keep)) (of_row p) row_used keep w.rows (row_bound_same p keep) h.rows)
+      (ap₂ and_also (there_same (of_column (sub p keep)) (of_column p) column_used keep w.columns (column_bound_same p keep) h.columns) refl)
 
   bound_sum_same : bound_sum (problem_alone (sub p keep)) zero_ℚ w ≡ bound_sum (problem_alone p) zero_ℚ w
   bound_sum_same =
-      rw (bounds_same (bound_of (problem_alone (sub p keep)) kind.OfRow) (bound_of (problem_alone p) kind.OfRow) row_used keep zero_ℚ w.rows (row_bound_same p keep) h.rows)
-      (then_same (with_bounds (bound_of (problem_alone p) kind.OfRow) zero_ℚ w.rows) _ _ (λ r.
-      rw (bounds_same (bound_of (problem_alone (sub p keep)) kind.OfColumn) (bound_of (problem_alone p) kind.OfColumn) column_used keep r w.columns (column_bound_same p keep) h.columns)
-      refl))
+      then_same _ _ _ _ (bounds_same (of_row (sub p keep)) (of_row p) row_used keep zero_ℚ w.rows (row_bound_same p keep) h.rows)
+      (λ r. then_same _ _ _ _ (bounds_same (of_column (sub p keep)) (of_column p) column_used keep r w.columns (column_bound_same p keep) h.columns) (λ c. refl))
 
   answer_same : node_answer (problem_alone (sub p keep)) None (Empty w) ≡ node_answer (problem_alone p) None (Empty w)
   answer_same =
@@ -121,19 +115,20 @@ trial_accepted p keep w a =
 
 -- ---- the certificate of weights
 
--- each of the tests passes
-both_pass : (part of : Part) (size answer : Result Bool NoFit) → judged part size (judged of answer Acceptance) ≡ Acceptance → answer ≡ Ok true
-both_pass part of (Ok true) (Ok true) h = refl
-both_pass part of (Ok true) (Ok false) h = cc
-both_pass part of (Ok true) (Err e) h = cc
-both_pass part of (Ok false) answer h = cc
-both_pass part of (Err e) answer h = cc
+-- a test that decides passes
+passes : (part : Part) (answer : Result Bool NoFit) (rest : Outcome) → judged part answer rest ≡ Acceptance → (answer ≡ Ok true) × (rest ≡ Acceptance)
+passes part (Ok true) rest h = (refl, h)
+passes part (Ok false) rest h = cc
+passes part (Err e) rest h = cc
 
 -- an accepted certificate made of weights alone gives them back, accepted
 pub of_leaf : (p : Problem) (w : Weights) (c : Certificate) → c ≡ leaf_certificate p Infeasible None None (Empty w) → outcome (trials p c) ≡ Acceptance → AreAccepted p w
 of_leaf p w c is h =
     let P : Certificate → Type 0 = λ d. outcome (trials p d) ≡ Acceptance in
-    record { passes = both_pass _ _ _ _ (subst P is h) }
+    let answer : Result Bool NoFit = node_answer (problem_alone p) None (Empty w) in
+    let size : Result Bool NoFit = Ok ((length p.rows == length p.rows) && (length p.columns == length p.columns)) in
+    let node : judged (Node 1) answer Acceptance ≡ Acceptance = (passes Size size (judged (Node 1) answer Acceptance) (subst P is h)).1 in
+    record { passes = (passes (Node 1) answer Acceptance node).0 }
 
 -- the certificate of accepted weights is accepted
 pub leaf_accepted : (p : Problem) (w : Weights) (c : Certificate) → AreAccepted p w → c ≡ leaf_certificate p Infeasible None None (Empty w) → outcome (trials p c) ≡ Acceptance
