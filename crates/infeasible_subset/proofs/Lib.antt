@@ -2,6 +2,8 @@ mod Building
 mod Lists
 mod Subsets
 mod There
+mod Accepted
 mod OneByOne
 mod Treated
 mod EachMet
+mod NoSplits

@@ -7,11 +7,12 @@ use Rattle.milp.specs.Problem.{Problem}
 use Rattle.milp.specs.Points.{Feasible}
 use Rattle.verdicts.specs.Certificate.{Weights}
 use Rattle.infeasible_subset.specs.Members.{Member, same_member, has, both}
-use Rattle.infeasible_subset.specs.Subsets.{sub, without, row_used, column_used, IsIrreducible, UsesOnly, Refutes}
+use Rattle.infeasible_subset.specs.Subsets.{sub, without, row_used, column_used, IsIrreducible, UsesOnly, Refutes, AreAccepted}
 use Rattle.infeasible_subset.specs.Listed.{AreAmong, all_bounds}
 use Rattle.infeasible_subset.specs.Underway.{Witness, members_of, AllMeet, IsUnderway}
 use Rattle.infeasible_subset.proofs.Lists.{or_right, either_way, same_members, in_front, behind, front_or_behind, of_both, all_among, among_less, both_among, among_then}
-use Rattle.infeasible_subset.proofs.Subsets.{fewer_bounds, members_fewer, refuted_with, none_meets, trial_refutes}
+use Rattle.infeasible_subset.proofs.Subsets.{fewer_bounds, members_fewer, refuted_with, none_meets}
+use Rattle.infeasible_subset.proofs.Accepted.{refuted, trial_accepted}
 use Rattle.infeasible_subset.proofs.There.{bounds_there, uses_left}
 
 -- what weights use, by rows and then by columns
@@ -38,10 +39,10 @@ point_of p ms (w ∷ ws) m h t = go (either_way (same_member w.member m) (has (m
 
 -- ---- the beginning
 
-pub begun : (p : Problem) (w : Weights) (left : List Member) → Refutes p w → left ≡ both (all_bounds p) (used w) → IsUnderway p [] left w
-begun p w left r is = record {
-  refuted = r;
-  uses = subst (λ ms. UsesOnly (has ms) w) (sym is) (uses_left [] (all_bounds p) w (bounds_there p w r));
+pub begun : (p : Problem) (w : Weights) (left : List Member) → AreAccepted p w → left ≡ both (all_bounds p) (used w) → IsUnderway p [] left w
+begun p w left a is = record {
+  accepted = a;
+  uses = subst (λ ms. UsesOnly (has ms) w) (sym is) (uses_left [] (all_bounds p) w (bounds_there p w (refuted p w a)));
   points = tt;
   among = subst (λ ms. AreAmong ms (all_bounds p)) (sym is) (both_among (used w) (all_bounds p) (all_bounds p) (all_among (all_bounds p)));
 }
@@ -55,11 +56,11 @@ still_there front ms ks m k h = go (front_or_behind front (both ms ks) k h)
     go (inl t) = in_front front (m ∷ ms) k t
     go (inr t) = behind front (m ∷ ms) k (or_right (same_member m k) (has ms k) (of_both ms ks k t))
 
-pub dropped : (p : Problem) (done : List Witness) (m : Member) (rest left : List Member) (w v : Weights) → IsUnderway p done (m ∷ rest) w → Refutes (sub p (has (members_of done ++ rest))) v → left ≡ both rest (used v) → IsUnderway p done left v
-dropped p done m rest left w v h r is =
-    let shown = trial_refutes p (has (members_of done ++ rest)) v r in
+pub dropped : (p : Problem) (done : List Witness) (m : Member) (rest left : List Member) (w v : Weights) → IsUnderway p done (m ∷ rest) w → AreAccepted (sub p (has (members_of done ++ rest))) v → left ≡ both rest (used v) → IsUnderway p done left v
+dropped p done m rest left w v h a is =
+    let shown = trial_accepted p (has (members_of done ++ rest)) v a in
     subst (λ ms. IsUnderway p done ms v) (sym is) (record {
-      refuted = shown.1;
+      accepted = shown.1;
       uses = uses_left (members_of done) rest v shown.0;
       points = all_meet_fewer p (members_of done ++ both rest (used v)) (members_of done ++ m ∷ rest) done (still_there (members_of done) rest (used v) m) h.points;
       among = among_then (members_of done) (m ∷ rest) (both rest (used v)) (all_bounds p) (λ cs t. both_among (used v) rest cs (among_less m rest cs t)) h.among;
@@ -89,7 +90,7 @@ found p done m rest w x h f =
     let all : List Member = members_of done ++ m ∷ rest in
     let point = fewer_bounds p (without m (has all)) (has (members_of done ++ rest)) x (but_one (members_of done) rest m) f in
     record {
-      refuted = h.refuted;
+      accepted = h.accepted;
       uses = subst (λ ms. UsesOnly (has ms) w) same h.uses;
       points = subst (λ ms. AllMeet p ms (done ++ made ∷ [])) same (one_more_meets p all done made h.points point);
       among = subst (λ ms. AreAmong ms (all_bounds p)) same h.among;
@@ -110,9 +111,12 @@ module _ (p : Problem) (done : List Witness) (w : Weights) (h : IsUnderway p don
   pub listed : AreAmong (members_of done) (all_bounds p)
   listed = subst (λ ms. AreAmong ms (all_bounds p)) all_done h.among
 
+  pub refutes : Refutes p w
+  refutes = refuted p w h.accepted
+
   pub irreducible : IsIrreducible p (members_of done)
   irreducible = record {
-    none = none_meets (sub p (has (members_of done))) w (refuted_with p (has (members_of done)) w uses_members h.refuted);
+    none = none_meets (sub p (has (members_of done))) w (refuted_with p (has (members_of done)) w uses_members refutes);
     each = λ m t. point_of p (members_of done) done m points_meet t;
   }
 

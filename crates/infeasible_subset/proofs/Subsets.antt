@@ -74,7 +74,7 @@ fewer_bounds p few many x h f = record {
 
 -- ---- the terms of weights in the problem with fewer bounds
 
-used_bound : (keep : Side → Bool) (w : Rational) (lower upper : Option Rational) → IsTrue (keep (side_used w)) → bound_used w (kept_if (keep Lower) lower) (kept_if (keep Upper) upper) ≡ bound_used w lower upper
+pub used_bound : (keep : Side → Bool) (w : Rational) (lower upper : Option Rational) → IsTrue (keep (side_used w)) → bound_used w (kept_if (keep Lower) lower) (kept_if (keep Upper) upper) ≡ bound_used w lower upper
 used_bound keep w lower upper h = go (is_less zero_ℚ w) (keep Lower) (keep Upper) refl refl h
   where
     go : (b l u : Bool) → keep Lower ≡ l → keep Upper ≡ u → IsTrue (keep (if b then Lower else Upper)) → (if b then kept_if l lower else kept_if u upper) ≡ (if b then lower else upper)

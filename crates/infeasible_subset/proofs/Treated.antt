@@ -1,5 +1,5 @@
 -- What becomes of the root of a problem without an objective and without integer columns.
-use Rattle.std.proofs.Common.{◌≡◌, ◌∙◌, ℕ, List, [], Bool, true, false, sym, subst, Option, Some, None, IfSome, slice_get, Result, IfOk}
+use Rattle.std.proofs.Common.{◌≡◌, ◌∙◌, ℕ, List, [], Bool, true, false, sym, subst, Option, Some, None, IfSome, slice_get}
 use Rattle.rational.specs.Rational.{Rational, zero_ℚ, ◌<ℚ◌, ◌≤ℚ◌, ◌*ℚ◌}
 use Rattle.rational.proofs.Laws as Q
 use Rattle.fraction.specs.declared.frac.NoFit.{NoFit}
@@ -7,24 +7,19 @@ use Rattle.milp.specs.Form.{Entry, sum_at}
 use Rattle.milp.specs.Problem.{Column, Problem}
 use Rattle.milp.specs.Points.{IsImprovingRay, sign_of}
 use Rattle.instance.specs.WellFormed.{IsWellFormed}
-use Rattle.verdicts.specs.Certificate.{One, Weights, TreeNode, Empty}
-use Rattle.verdicts.specs.Proves.{node_passes}
-use Rattle.cert_check.proofs.Laws.{node_ok}
+use Rattle.verdicts.specs.Certificate.{Weights, Empty}
 use Rattle.simplex.proofs.Laws.{over_columns}
 use Rattle.search_tree.specs.Nodes.{NodePasses}
 use Rattle.search_tree.specs.Work.{IsWorkFault}
 use Rattle.search_tree.proofs.Laws.{forms_ascend, on_site_numbers}
 use Rattle.branch_search.specs.Plain.{NoneInteger}
 use Rattle.infeasible_subset.specs.Members.{Member, OfColumn}
-use Rattle.infeasible_subset.specs.Subsets.{sub, Refutes}
+use Rattle.infeasible_subset.specs.Subsets.{sub, AreAccepted}
 use Rattle.infeasible_subset.proofs.Subsets.{column_or_none, get_column}
 use Rattle.infeasible_subset.specs.Faults.{IsRootFault}
 
-passing : (p : Problem) (node : TreeNode) → NodePasses p None [] [] node → node_passes p One None [] [] node ≡ true
-passing p node h = let P : Result Bool NoFit → Type 0 = λ r. IfOk r (λ b. b ≡ node_passes p One None [] [] node) in sym (subst P h (node_ok p One None [] [] node))
-
-pub refuted : (p : Problem) (w : Weights) → NodePasses p None [] [] (Empty w) → Refutes p w
-refuted p w h = record { passes = passing p (Empty w) h }
+pub accepted : (p : Problem) (w : Weights) → NodePasses p None [] [] (Empty w) → AreAccepted p w
+accepted p w h = record { passes = h }
 
 -- there is no objective that a ray could improve
 pub no_ray : (p : Problem) (ray : List Rational) → p.objective ≡ [] → IsImprovingRay p ray → ⊥

@@ -1,16 +1,18 @@
 // The weights of a certificate of one leaf.
-ghost use Rattle.std.specs.Prelude.{◌≡◌, [], None, true, IfOk};
-ghost use Rattle.verdicts.specs.Certificate.{One, Infeasible as is_infeasible};
-ghost use Rattle.verdicts.specs.Proves.{Proves, node_passes};
+ghost use Rattle.std.specs.Prelude.{◌≡◌, [], None, Ok, true, IfOk};
+ghost use Rattle.verdicts.specs.Certificate.{Infeasible as is_infeasible};
 ghost use Rattle.certificate.specs.Values.{node_of};
+ghost use Rattle.cert_check.specs.Parts.{node_answer};
+ghost use Rattle.cert_check.specs.Outcome.{Acceptance, outcome, trials};
+ghost use Rattle.search_tree.specs.Work.{node_setting};
 ghost use Rattle.branch_search.specs.Plain.{NoneInteger, IsPlainCertificate};
-ghost use Rattle.infeasible_subset.specs.Subsets.{Refutes};
+ghost use Rattle.infeasible_subset.specs.Subsets.{AreAccepted};
 
-use certificate::{Certificate, TreeNode, Weights};
+use certificate::{Certificate, LeafWeights, TreeNode, Weights};
 use instance::Instance;
 use std::alloc::{AllocError, Global};
 
-/// The weights that refute the problem, by its certificate.
+/// The weights of the problem's certificate.
 pub(crate) fn refuting(
     alloc: Global,
     problem: &Instance,
@@ -19,8 +21,8 @@ pub(crate) fn refuting(
     requires continuous { NoneInteger problem.now.columns }
     requires infeasible { certificate.now.verdict ≡ is_infeasible }
     requires plain { IsPlainCertificate problem.now certificate.now }
-    requires proves { Proves problem.now certificate.now }
-    ensures { IfOk result (λ weights. Refutes problem.now weights) }
+    requires accepted { outcome (trials problem.now certificate.now) ≡ Acceptance }
+    ensures { IfOk result (λ weights. AreAccepted problem.now weights) }
 {
     let nodes = certificate.tree().as_slice();
     weights_of(alloc, problem, &nodes[0])
@@ -28,12 +30,21 @@ pub(crate) fn refuting(
 
 fn weights_of(alloc: Global, problem: &Instance, node: &TreeNode) -> Result<Weights, AllocError>
     requires continuous { NoneInteger problem.now.columns }
-    requires passes { node_passes problem.now One None [] [] (node_of node.now) ≡ true }
-    ensures { IfOk result (λ weights. Refutes problem.now weights) }
+    requires passes { node_answer (node_setting problem.now [] []) None (node_of node.now) ≡ Ok true }
+    ensures { IfOk result (λ weights. AreAccepted problem.now weights) }
 {
     match node {
-        TreeNode::Empty(weights) => weights.weights().copy(alloc),
+        TreeNode::Empty(weights) => at_root(alloc, problem, weights),
         TreeNode::Branch(_) => unreachable!(),
         TreeNode::Bound(_) => unreachable!(),
     }
+}
+
+// The weights of a leaf at the root, which name no split.
+#[tactic(auto, using(crate::proofs::Accepted::without_splits))]
+fn at_root(alloc: Global, problem: &Instance, weights: &LeafWeights) -> Result<Weights, AllocError>
+    requires { AreAccepted problem.now weights.now }
+    ensures { IfOk result (λ weights. AreAccepted problem.now weights) }
+{
+    weights.weights().copy(alloc)
 }

@@ -2,7 +2,7 @@
 ghost use Rattle.std.specs.Prelude.{◌≡◌, ◌≤◌, ◌∷◌, ◌++◌, length, map, IfOk, IfErr};
 ghost use Rattle.milp.specs.Points.{Feasible};
 ghost use Rattle.infeasible_subset.specs.Members.{has, both};
-ghost use Rattle.infeasible_subset.specs.Subsets.{sub, row_used, column_used, Refutes};
+ghost use Rattle.infeasible_subset.specs.Subsets.{sub, row_used, column_used, AreAccepted};
 ghost use Rattle.infeasible_subset.specs.Underway.{members_of, IsUnderway};
 ghost use Rattle.infeasible_subset.specs.Trials.{IsTrial};
 ghost use Rattle.infeasible_subset.specs.Faults.{IsFault};
@@ -77,7 +77,7 @@ fn refuted(
     weights: Weights,
 ) -> Result<(), AllocError>
     requires underway { IsUnderway problem.now underway.old.done (member.now ∷ underway.old.left) underway.old.weights }
-    requires refuted { Refutes (sub problem.now (has (members_of underway.old.done ++ underway.old.left))) weights }
+    requires refuted { AreAccepted (sub problem.now (has (members_of underway.old.done ++ underway.old.left))) weights }
     ensures underway { IfOk result (λ _. IsUnderway problem.now underway.new.done underway.new.left underway.new.weights) }
     ensures fewer { IfOk result (λ _. length underway.new.left ≤ length underway.old.left) }
 {

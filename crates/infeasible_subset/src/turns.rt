@@ -1,7 +1,7 @@
 // One member after the other.
 ghost use Rattle.std.specs.Prelude.{◌≡◌, ◌<◌, [], ◌++◌, length, IfOk, IfErr};
 ghost use Rattle.branch_search.specs.Plain.{NoneInteger};
-ghost use Rattle.infeasible_subset.specs.Subsets.{Refutes};
+ghost use Rattle.infeasible_subset.specs.Subsets.{AreAccepted};
 ghost use Rattle.infeasible_subset.specs.Underway.{members_of, IsUnderway};
 ghost use Rattle.infeasible_subset.specs.Faults.{IsFault};
 
@@ -14,13 +14,13 @@ use certificate::Weights;
 use instance::Instance;
 use std::alloc::{AllocError, Global};
 
-/// The members that weights use, which refute the problem; none of them is done.
+/// The members that weights use, which the checker accepts; none of them is done.
 pub(crate) fn begin(
     alloc: Global,
     problem: &Instance,
     weights: Weights,
 ) -> Result<Underway, AllocError>
-    requires { Refutes problem.now weights }
+    requires { AreAccepted problem.now weights }
     ensures { IfOk result (λ underway. IsUnderway problem.now underway.done underway.left underway.weights) }
 {
     let all = all_bounds(alloc, problem)?;

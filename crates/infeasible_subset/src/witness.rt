@@ -2,8 +2,8 @@
 ghost use Rattle.std.specs.Prelude.{◌≡◌, ◌++◌, [], ◌∷◌, OnOk, OnErr};
 
 use crate::Member;
-use certificate::Weights;
-use instance::Point;
+use certificate::{Certificate, DerivedRows, LeafWeights, Tree, TreeNode, Version, Weights};
+use instance::{Instance, Point};
 use std::alloc::{AllocError, Global};
 use std::marker::Model;
 
@@ -62,4 +62,36 @@ impl Witnesses {
 pub struct Subset {
     pub witnesses: Witnesses,
     pub weights: Weights,
+}
+
+impl Subset {
+    ghost use Rattle.std.specs.Prelude.{None, IfOk};
+    ghost use Rattle.verdicts.specs.Certificate.{Infeasible, Empty};
+    ghost use Rattle.verdicts.specs.Proves.{Proves};
+    ghost use Rattle.basis.specs.Relaxation.{leaf_certificate};
+    ghost use Rattle.cert_check.specs.Outcome.{Acceptance, outcome, trials};
+    ghost use Rattle.infeasible_subset.specs.Subsets.{AreAccepted};
+
+    /// The certificate that the problem has no feasible point, by the weights alone: it has no derived row, and its tree is
+    /// one leaf. The checker accepts it.
+    pub fn certificate(
+        &self,
+        alloc: Global,
+        problem: &Instance,
+    ) -> Result<Certificate, AllocError>
+        requires { AreAccepted problem.now self.now.weights }
+        ensures of_weights { IfOk result (λ c. c ≡ leaf_certificate problem.now Infeasible None None (Empty self.now.weights)) }
+        ensures proves { IfOk result (λ c. Proves problem.now c) }
+        ensures accepted { IfOk result (λ c. outcome (trials problem.now c) ≡ Acceptance) }
+    {
+        let mut tree = Tree::new(alloc);
+        let _rows = self.weights.rows();
+        let weights = LeafWeights::without_splits(alloc, self.weights.copy(alloc)?);
+        tree.push(TreeNode::Empty(weights))?;
+        problem.keeps_its_limits();
+        let rows = problem.rows().len() as u32;
+        let columns = problem.columns().len() as u32;
+        let derived = DerivedRows::new(alloc);
+        Ok(Certificate::infeasible(Version::One, rows, columns, derived, tree))
+    }
 }

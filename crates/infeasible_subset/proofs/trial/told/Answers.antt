@@ -1,6 +1,6 @@
 use Rattle.std.proofs.Common.{[], None, subst}
 use Rattle.branch_search.specs.Treatment.{IsEndless, IsTreatment}
-use Rattle.infeasible_subset.proofs.Treated.{refuted, no_ray, root_fault}
+use Rattle.infeasible_subset.proofs.Treated.{accepted, no_ray, root_fault}
 use Rattle.infeasible_subset.proofs.trial.told.Goals as goal
 
 pub unreachable-requires-in-Unbounded : goal.unreachable-requires-in-Unbounded
@@ -13,7 +13,7 @@ unreachable-requires-in-Unbounded c =
 pub returns-in-Refuted : goal.returns-in-Refuted
 returns-in-Refuted c =
     let p = c.args.part.now in
-    refuted p c.in-Refuted.weights (subst (IsTreatment p [] c.args.pivot_limit [] None) c.in-Refuted.is c.requires.treatment)
+    accepted p c.in-Refuted.weights (subst (IsTreatment p [] c.args.pivot_limit [] None) c.in-Refuted.is c.requires.treatment)
 
 pub returns-in-NotFitting : goal.returns-in-NotFitting
 returns-in-NotFitting c =
