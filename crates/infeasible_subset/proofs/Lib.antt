@@ -2,8 +2,8 @@ mod Building
 mod Lists
 mod Subsets
 mod There
+mod NoSplits
 mod Accepted
 mod OneByOne
 mod Treated
 mod EachMet
-mod NoSplits
