@@ -282,6 +282,9 @@ record Parted (s : Setting) (w : Weights) (all : List Weighted) : Type 0 where
   are_splits : AreTerms s OfSplit w.splits splits
   whole : all ≡ rows ++ (columns ++ (derived ++ splits))
 
+in_turn : (all us vs ws xs a b c d : List Weighted) → all ≡ a ++ us → us ≡ b ++ vs → vs ≡ c ++ ws → ws ≡ d ++ xs → xs ≡ [] → all ≡ a ++ (b ++ (c ++ d))
+in_turn all us vs ws xs a b c d first second third fourth none = first ∙ ap (λ z. a ++ z) (second ∙ ap (λ z. b ++ z) (third ∙ ap (λ z. c ++ z) (fourth ∙ ap (λ z. d ++ z) none ∙ append-nil d)))
+
 parted : (s : Setting) (w : Weights) (all : List Weighted) → terms s.problem s.derived (narrowed s.version s.sides) (taken s.version s.sides) w ≡ Some all → Parted s w all
 unfolding term_of
 parted s w all e =
@@ -292,9 +295,17 @@ parted s w all e =
     let second = begun s OfColumn w.columns derived first.us first.more in
     let third = begun s OfDerived w.derived splits second.us second.more in
     let fourth = begun s OfSplit w.splits (Some []) third.us third.more in
-    let none : fourth.us ≡ [] = sym (same_Some [] fourth.us fourth.more) in
-    let last : third.us ≡ fourth.ts = fourth.whole ∙ ap (λ us. fourth.ts ++ us) none ∙ append-nil fourth.ts in
-    record { rows = first.ts; columns = second.ts; derived = third.ts; splits = fourth.ts; are_rows = first.terms; are_columns = second.terms; are_derived = third.terms; are_splits = fourth.terms; whole = first.whole ∙ ap (λ us. first.ts ++ us) (second.whole ∙ ap (λ us. second.ts ++ us) (third.whole ∙ ap (λ us. third.ts ++ us) last)) }
+    record {
+      rows = first.ts;
+      columns = second.ts;
+      derived = third.ts;
+      splits = fourth.ts;
+      are_rows = first.terms;
+      are_columns = second.terms;
+      are_derived = third.terms;
+      are_splits = fourth.terms;
+      whole = in_turn all first.us second.us third.us fourth.us first.ts second.ts third.ts fourth.ts first.whole second.whole third.whole fourth.whole (sym (same_Some [] fourth.us fourth.more));
+    }
 
 pub bound_sum_ok : (s : Setting) (w : Weights) (all : List Weighted) (total : Rational) → terms s.problem s.derived (narrowed s.version s.sides) (taken s.version s.sides) w ≡ Some all → IfOk (bound_sum s total w) (λ v. v ≡ total +ℚ combined_bound all)
 bound_sum_ok s w all total e =

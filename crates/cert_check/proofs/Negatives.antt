@@ -1,5 +1,5 @@
 -- The products of a weight with the negative of a form.
-use Rattle.std.proofs.Common.{◌≡◌, ◌∙◌, ℕ, ◌==◌, Bool, true, false, if◌then◌else◌, List, [], ◌∷◌, Option, Some, None, refl, ap}
+use Rattle.std.proofs.Common.{◌≡◌, ◌∙◌, ℕ, ◌==◌, Bool, true, false, if◌then◌else◌, List, [], ◌∷◌, Some, None, refl, ap}
 use Rattle.std.specs.Prelude.{negsuc}
 use Rattle.rational.specs.Rational.{Rational, whole, ◌*ℚ◌}
 use Rattle.milp.specs.Form.{Entry}

@@ -1,13 +1,14 @@
 -- The way to the place behind a node, and the turns from the root on.
-use Rattle.std.proofs.Common.{◌≡◌, ◌∙◌, ℕ, zero, suc, ◌+◌, ◌<◌, ◌≤◌, ◌==◌, Bool, true, false, if◌then◌else◌, List, [], ◌∷◌, ◌++◌, length, get_or, take, reverse, slice_get, Option, Some, None, refl, sym, ap, subst, add-one, arith}
+use Rattle.std.proofs.Common.{◌≡◌, ◌∙◌, ℕ, zero, suc, ◌+◌, ◌<◌, ◌≤◌, ◌==◌, true, false, List, [], ◌∷◌, ◌++◌, length, get_or, take, reverse, slice_get, Some, None, refl, sym, ap, add-one, arith}
 use Rattle.std.specs.Option.{option_map}
 use Rattle.std.proofs.lemmas.Bool.Decides.{nat_tests}
+use Rattle.std.proofs.lemmas.Option.{slice_get-get_or}
 use Rattle.verdicts.specs.Certificate.{TreeNode, Branch, Empty, Bound, Side}
 use Rattle.verdicts.specs.Certificate as of
 use Rattle.verdicts.specs.Proves.{way_get}
 use Rattle.verdicts.specs.Preorder.{way_to}
 use Rattle.certificate.specs.declared.split.Turn.{Turn}
-use Rattle.certificate.specs.Ways.{way, IsLastTurn}
+use Rattle.certificate.specs.Ways.{way}
 use Rattle.certificate.proofs.Laws.{back}
 use Rattle.cert_check.specs.Walk.{turn_side, sides_onto, turned, past_node}
 
@@ -54,8 +55,19 @@ behind_onto sides (t ∷ ts) zero n e =
     before_onto (turn_side t ∷ sides) ts n (omega arith) ∙ rw it refl
 behind_onto sides (t ∷ ts) (suc i) n e = behind_onto (turn_side t ∷ sides) ts i n (omega arith)
 
-pub turn_found : (ts : List Turn) (i : ℕ) → way_get (sides_onto [] ts) i ≡ option_map turn_side (slice_get ts i)
+turn_found : (ts : List Turn) (i : ℕ) → way_get (sides_onto [] ts) i ≡ option_map turn_side (slice_get ts i)
 turn_found ts i = behind_onto [] ts i i (omega arith)
+
+pub turn_there : (ts : List Turn) (i : ℕ) (t : Turn) → i < length ts → t ≡ get_or ts i t → Some (turn_side t) ≡ way_get (sides_onto [] ts) i
+turn_there ts i t h is = sym (turn_found ts i ∙ ap (option_map turn_side) (slice_get-get_or ts i t h ∙ ap Some (sym is)))
+
+pub turn_missing : (ts : List Turn) (i : ℕ) → length ts ≤ i → None ≡ way_get (sides_onto [] ts) i
+turn_missing ts i h = sym (turn_found ts i ∙ ap (option_map turn_side) (beyond ts i h))
+  where
+    beyond : (ts : List Turn) (i : ℕ) → length ts ≤ i → slice_get ts i ≡ None
+    beyond [] i h = refl
+    beyond (t ∷ ts) zero h = absurd (omega arith)
+    beyond (t ∷ ts) (suc i) h = beyond ts i (omega arith)
 
 -- ---- back to the latest low side
 
@@ -69,18 +81,3 @@ over_low ts rest made t u s all is low new high inv =
     let here : sides_onto [] ts ≡ of.Low s ∷ sides_onto [] rest = ap (sides_onto []) is ∙ onto_more [] rest t ∙ ap (λ d. d ∷ sides_onto [] rest) low in
     let there : sides_onto [] made ≡ of.High s ∷ sides_onto [] rest = ap (sides_onto []) new ∙ onto_more [] rest u ∙ ap (λ d. d ∷ sides_onto [] rest) high in
     there ∙ sym (ap turned here) ∙ inv
-
--- ---- the walk back
-
--- the turn at the i-th split, or the rest of the way
-pub way_longer : (here rest : List Side) (side : Side) (i : ℕ) (all : Option Side) → here ≡ side ∷ rest → ¬ (length rest ≡ i) → way_get here i ≡ all → way_get rest i ≡ all
-way_longer here rest side i all is not_it inv =
-    let other : (i == length rest) ≡ false = grind (arith, nat_tests) in
-    let start : way_get (side ∷ rest) i ≡ all = sym (ap (λ sides. way_get sides i) is) ∙ inv in
-    rw other at start
-
-pub way_here : (here rest : List Side) (side : Side) (i : ℕ) (all : Option Side) → here ≡ side ∷ rest → length rest ≡ i → way_get here i ≡ all → Some side ≡ all
-way_here here rest side i all is it inv =
-    let same : (i == length rest) ≡ true = grind (arith, nat_tests) in
-    let start : way_get (side ∷ rest) i ≡ all = sym (ap (λ sides. way_get sides i) is) ∙ inv in
-    rw same at start

@@ -210,9 +210,7 @@ pub(crate) fn with_negative_coefficient(
 {
     match entry_of(form, column) {
         None => Ok(total),
-        Some(coefficient) => {
-            with_product(total, weight, signed(Direction::Max, coefficient))
-        }
+        Some(coefficient) => { with_product(total, weight, signed(Direction::Max, coefficient)) }
     }
 }
 
@@ -225,12 +223,7 @@ fn with_derived_row(total: Frac, weight: Frac, row: &Derived, column: u32) -> Re
 }
 
 // A total plus a weight times the coefficient of a column in the derived row that it names.
-fn with_derived_item(
-    setting: &Setting,
-    item: Item,
-    column: u32,
-    total: Frac,
-) -> Result<Frac, NoFit>
+fn with_derived_item(setting: &Setting, item: Item, column: u32, total: Frac) -> Result<Frac, NoFit>
     ensures { result ≡ with_products total (products item.weight (form_at setting.now Kind.OfDerived item.index) column) }
 {
     match setting.derived().get(item.index as usize) {
@@ -268,12 +261,7 @@ fn with_side(
 }
 
 // A total plus a weight times the coefficient of a column in the side taken of the split that it names.
-fn with_split_item(
-    setting: &Setting,
-    item: Item,
-    column: u32,
-    total: Frac,
-) -> Result<Frac, NoFit>
+fn with_split_item(setting: &Setting, item: Item, column: u32, total: Frac) -> Result<Frac, NoFit>
     ensures { result ≡ with_products total (products item.weight (form_at setting.now Kind.OfSplit item.index) column) }
 {
     match setting.turn(item.index) {
