@@ -36,7 +36,7 @@ def items(fields, kinds=""):
 
 
 def read(text):
-    """Version, sizes, what is shown, derived rows (form, bound, split, cases) and nodes (word, split, weights)."""
+    """Version, sizes, numbers by word, derived rows (form, bound, split, W and weights of its sides), nodes (word, split, weights)."""
     lines, derived, nodes, places = iter(text.split("\n")), [], [], 1
 
     def fields(*words):
@@ -46,14 +46,13 @@ def read(text):
 
     (_, version), (_, rows, columns), (_, verdict) = fields("cert"), fields("size"), fields("verdict")
     need(version in ("1", "2") and verdict in SHOWN)
-    sizes = number(rows, COUNT), number(columns, COUNT)
     shown = {word: [number(field) for field in fields(word)[1:]] for word in SHOWN[verdict]}
-    need(all(len(numbers) == (1 if word == "value" else sizes[1]) for word, numbers in shown.items()))
+    need(all(len(numbers) == (1 if word == "value" else number(columns, COUNT)) for word, numbers in shown.items()))
     if verdict != "unbounded":
         _, count = fields("derived")
         for _ in range(number(count, COUNT)):
             (_, least, *form), (word, *rest) = fields("derive"), fields("plain", "split")
-            most, *combination = rest if word == "split" else ["0"]
+            most, *combination = rest if word == "split" else ["0"]  # by `plain`: one side of a split of nothing, with W 0
             cases = [fields("low"), fields("high")] if word == "split" else [(word, "0", *rest)]
             cases = [(number(own), items(weights, "rcd")) for _, own, *weights in cases]
             derived.append((items(form), number(least), (items(combination), number(most, WHOLE)), cases))
@@ -68,7 +67,7 @@ def read(text):
                 nodes.append((word, (items(form), number(most, WHOLE)), []))
             places += 1 if nodes[-1][1] else -1
     need(list(lines) == ["end", ""])
-    return version, sizes, shown, derived, nodes
+    return version, (number(rows, COUNT), number(columns, COUNT)), shown, derived, nodes
 
 
 def value_of(form, point):
@@ -91,7 +90,8 @@ def sums(known, weights):
     made, total = {}, Fraction(0)
     for kind, place, weight in weights:
         form, low, up = known[kind][place] if place < len(known[kind]) else ({}, -inf, inf)
-        total += weight * (low if weight > 0 else up)
+        end = low if weight > 0 else up
+        total = -inf if inf in (abs(total), abs(end)) else total + weight * end
         for column, a in form.items():
             made[column] = made.get(column, 0) + weight * a
     return {column: a for column, a in made.items() if a}, total
@@ -132,8 +132,8 @@ def parts(problem, certificate):
             waiting += [(len(known["s"]), [side], own) for side, own in zip(sides(*split), bounds)][::-1]
         else:
             made, total = sums(known, weights)
-            is_best = word == "bound" and "value" in shown and made == wanted and total >= sign * (shown["value"][0] - constant)
-            yield f"node {k + 1}", is_best or (word == "empty" and made == {} and total > 0)
+            is_best = "value" in shown and made == wanted and total >= sign * (shown["value"][0] - constant)
+            yield f"node {k + 1}", is_best if word == "bound" else made == {} and total > 0
 
 
 def check(problem, certificate):
