@@ -25,7 +25,7 @@ none_named n f g h rows columns derived [] e = refl
 none_named n f g h rows columns derived (i ∷ is) e =
     let inner : gathered (split_term []) (i ∷ is) (Some []) ≡ None = ap (λ t. joined t (gathered (split_term []) is (Some []))) (no_split i) in
     let all : gathered f rows (gathered g columns (gathered h derived (gathered (split_term []) (i ∷ is) (Some [])))) ≡ None =
-        ap (λ o. gathered f rows (gathered g columns (gathered h derived o))) inner ∙ ap (λ o. gathered f rows (gathered g columns o)) (gathered_none h derived) ∙ ap (gathered f rows) (gathered_none g columns) ∙ gathered_none f rows in
+    ap (λ o. gathered f rows (gathered g columns (gathered h derived o))) inner ∙ ap (λ o. gathered f rows (gathered g columns o)) (gathered_none h derived) ∙ ap (gathered f rows) (gathered_none g columns) ∙ gathered_none f rows in
     let never : false ≡ true = ap (refutes n) (sym all) ∙ e in
     cc
 

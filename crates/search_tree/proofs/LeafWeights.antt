@@ -1,5 +1,5 @@
 -- Where the sums of a node's weights have their faults.
-use Rattle.std.proofs.Common.{◌≡◌, ◌∙◌, ℕ, ◌+◌, inl, ◌==◌, List, [], ◌∷◌, ◌++◌, map, slice_get, Bool, true, false, cond, if◌then◌else◌, Option, Some, None, is_some, Result, Ok, IfOk, refl, sym, ap, subst, arith, append-nil}
+use Rattle.std.proofs.Common.{◌≡◌, ◌∙◌, ℕ, ◌+◌, inl, ◌==◌, List, [], ◌∷◌, ◌++◌, map, slice_get, Bool, true, false, cond, if◌then◌else◌, Option, Some, None, is_some, Result, Ok, Err, IfOk, refl, sym, ap, subst, arith, append-nil}
 use Rattle.std.specs.Prelude.{option_and_then}
 use mathlib.Core.Path.{ap₂}
 use Rattle.std.proofs.lemmas.Bool.Decides.{nat_tests}
@@ -370,7 +370,7 @@ module _ (p : Problem) (ds : List Derived) (sides : List Side) where
   then_no_bounds items (Ok d) = no_bounds items d
   then_no_bounds items (Err e) = refl
 
-  three_products : Weights → ℕ → List Product
+  abbrev three_products : Weights → ℕ → List Product
   three_products w j = item_products row_form_at w.rows j ++ (item_products unit_form_at w.columns j ++ item_products derived_form_at w.derived j)
 
   same_products : (w : Weights) (j : ℕ) → weight_products (node_setting p ds sides) w j ≡ three_products w j

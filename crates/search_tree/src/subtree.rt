@@ -39,7 +39,12 @@ impl Subtree {
     }
 
     /// The tree of one split, whose sides no one has worked on, with hints for them.
-    pub fn split(alloc: Global, split: ColumnSplit, low: Hint, high: Hint) -> Result<Self, AllocError>
+    pub fn split(
+        alloc: Global,
+        split: ColumnSplit,
+        low: Hint,
+        high: Hint,
+    ) -> Result<Self, AllocError>
         ensures { IfOk result (λ t. t ≡ Divided split (AtLeaf (Todo low)) (AtLeaf (Todo high))) }
     {
         let mut slots = Vec::with_capacity(alloc, 3)?;
