@@ -1,6 +1,6 @@
 -- Weights that the checker accepts: they refute the problem, and those that it accepts with some of the problem's bounds it accepts
--- with all of them, since its test meets the same operations there. The certificate of such weights is accepted, and gives them back.
-use Rattle.std.proofs.Common.{◌≡◌, ◌∙◌, ℕ, ◌+◌, ◌==◌, ◌&&◌, zero, suc, List, [], ◌∷◌, ◌++◌, length, Bool, true, false, cond, refl, sym, ap, subst, Option, Some, None, Result, Ok, Err, IfOk, IsTrue, slice_get, option_and_then, if◌then◌else◌}
+-- with all of them, since its test makes the same operations there. The certificate of such weights is accepted.
+use Rattle.std.proofs.Common.{◌≡◌, ◌∙◌, ℕ, ◌+◌, ◌==◌, ◌&&◌, suc, List, [], ◌∷◌, ◌++◌, length, Bool, true, false, cond, refl, sym, ap, subst, Option, Some, None, Result, Ok, Err, IfOk, IsTrue, slice_get, option_and_then, if◌then◌else◌}
 use Rattle.std.proofs.lemmas.Bool.{and_from, eq-eqb}
 use mathlib.Core.Path.{ap₂}
 use Rattle.rational.specs.Rational.{Rational, zero_ℚ}
@@ -9,17 +9,17 @@ use Rattle.fraction.specs.declared.frac.NoFit.{NoFit}
 use Rattle.milp.specs.Form.{Entry}
 use Rattle.milp.specs.Problem.{Column, Row, Problem}
 use Rattle.instance.specs.Sums.{and_then, form_of}
-use Rattle.verdicts.specs.Certificate.{One, Verdict, Optimal, Infeasible, Unbounded, Item, Weights, TreeNode, Empty, Certificate}
-use Rattle.verdicts.specs.Proves.{Part, Size, Node, Proves, lower_under, upper_under, node_passes}
+use Rattle.verdicts.specs.Certificate.{One, Infeasible, Item, Weights, Empty, Certificate}
+use Rattle.verdicts.specs.Proves.{Proves, lower_under, upper_under, node_passes}
 use Rattle.basis.specs.Relaxation.{leaf_certificate}
 use Rattle.cert_check.specs.Sums.{and_also, row_bound, are_there, all_there, with_bound, with_bounds, bound_sum, Product, item_products, weight_products, with_products, are_forms}
-use Rattle.cert_check.specs.Parts.{problem_alone, node_answer}
-use Rattle.cert_check.specs.Outcome.{Outcome, Acceptance, judged, outcome, trials}
+use Rattle.cert_check.specs.Parts.{node_answer}
+use Rattle.cert_check.specs.Outcome.{Acceptance, outcome, trials}
 use Rattle.cert_check.specs.declared.part.Checked.TheVariants.{Accepted}
 use Rattle.cert_check.proofs.Laws.{check_accepted, node_ok}
-use Rattle.branch_search.specs.Plain.{IsPlainCertificate}
-use Rattle.infeasible_subset.specs.Members.{Side, Lower, Upper, Member, OfRow, OfColumn}
-use Rattle.infeasible_subset.specs.Subsets.{kept_if, sub_columns, sub, side_used, row_used, column_used, AllUse, UsesOnly, Refutes, AreAccepted}
+use Rattle.search_tree.specs.Work.{node_setting}
+use Rattle.infeasible_subset.specs.Members.{Side, Member, OfRow, OfColumn}
+use Rattle.infeasible_subset.specs.Subsets.{sub_columns, sub, row_used, column_used, AllUse, UsesOnly, Refutes, AreAccepted}
 use Rattle.infeasible_subset.proofs.Subsets.{row_or_none, get_row, column_or_none, get_column, used_bound, trial_refutes}
 
 -- weights that are accepted refute the problem
@@ -81,7 +81,7 @@ products_same f g h (i ∷ is) j = rw (h i.index, products_same f g h is j) refl
 append_same : {A : Type 0} (xs ys zs : List A) → xs ≡ ys → xs ++ zs ≡ ys ++ zs
 append_same xs ys zs e = ap (λ all. all ++ zs) e
 
-weights_same : (p : Problem) (keep : Member → Bool) (w : Weights) (j : ℕ) → weight_products (problem_alone (sub p keep)) w j ≡ weight_products (problem_alone p) w j
+weights_same : (p : Problem) (keep : Member → Bool) (w : Weights) (j : ℕ) → weight_products (node_setting (sub p keep) [] []) w j ≡ weight_products (node_setting p [] []) w j
 weights_same p keep w j = append_same _ _ _ (products_same _ _ (row_form_same p keep) w.rows j)
 
 forms_same : (f g : ℕ → List Product) (wanted : ℕ → Rational) (keep : ℕ → Side → Bool) → ((j : ℕ) → f j ≡ g j) → (j : ℕ) (cs : List Column) → are_forms f wanted j (sub_columns keep cs) ≡ are_forms g wanted j cs
@@ -91,17 +91,17 @@ forms_same f g wanted keep h j (c ∷ cs) = then_same (with_products zero_ℚ (f
 -- ---- the test of weights that use bounds which are kept
 
 module _ (p : Problem) (keep : Member → Bool) (w : Weights) (h : UsesOnly keep w) where
-  all_there_same : all_there (problem_alone (sub p keep)) w ≡ all_there (problem_alone p) w
+  all_there_same : all_there (node_setting (sub p keep) [] []) w ≡ all_there (node_setting p [] []) w
   all_there_same =
       ap₂ and_also (there_same (of_row (sub p keep)) (of_row p) row_used keep w.rows (row_bound_same p keep) h.rows)
       (ap₂ and_also (there_same (of_column (sub p keep)) (of_column p) column_used keep w.columns (column_bound_same p keep) h.columns) refl)
 
-  bound_sum_same : bound_sum (problem_alone (sub p keep)) zero_ℚ w ≡ bound_sum (problem_alone p) zero_ℚ w
+  bound_sum_same : bound_sum (node_setting (sub p keep) [] []) zero_ℚ w ≡ bound_sum (node_setting p [] []) zero_ℚ w
   bound_sum_same =
       then_same _ _ _ _ (bounds_same (of_row (sub p keep)) (of_row p) row_used keep zero_ℚ w.rows (row_bound_same p keep) h.rows)
       (λ r. then_same _ _ _ _ (bounds_same (of_column (sub p keep)) (of_column p) column_used keep r w.columns (column_bound_same p keep) h.columns) (λ c. refl))
 
-  answer_same : node_answer (problem_alone (sub p keep)) None (Empty w) ≡ node_answer (problem_alone p) None (Empty w)
+  answer_same : node_answer (node_setting (sub p keep) [] []) None (Empty w) ≡ node_answer (node_setting p [] []) None (Empty w)
   answer_same =
       ap₂ and_also all_there_same
       (ap₂ and_also (forms_same _ _ (λ j. zero_ℚ) _ (weights_same p keep w) 0 p.columns)
@@ -114,21 +114,6 @@ trial_accepted p keep w a =
     (uses, record { passes = sym (answer_same p keep w uses) ∙ a.passes })
 
 -- ---- the certificate of weights
-
--- a test that decides passes
-passes : (part : Part) (answer : Result Bool NoFit) (rest : Outcome) → judged part answer rest ≡ Acceptance → (answer ≡ Ok true) × (rest ≡ Acceptance)
-passes part (Ok true) rest h = (refl, h)
-passes part (Ok false) rest h = cc
-passes part (Err e) rest h = cc
-
--- an accepted certificate made of weights alone gives them back, accepted
-pub of_leaf : (p : Problem) (w : Weights) (c : Certificate) → c ≡ leaf_certificate p Infeasible None None (Empty w) → outcome (trials p c) ≡ Acceptance → AreAccepted p w
-of_leaf p w c is h =
-    let P : Certificate → Type 0 = λ d. outcome (trials p d) ≡ Acceptance in
-    let answer : Result Bool NoFit = node_answer (problem_alone p) None (Empty w) in
-    let size : Result Bool NoFit = Ok ((length p.rows == length p.rows) && (length p.columns == length p.columns)) in
-    let node : judged (Node 1) answer Acceptance ≡ Acceptance = (passes Size size (judged (Node 1) answer Acceptance) (subst P is h)).1 in
-    record { passes = (passes (Node 1) answer Acceptance node).0 }
 
 -- the certificate of accepted weights is accepted
 pub leaf_accepted : (p : Problem) (w : Weights) (c : Certificate) → AreAccepted p w → c ≡ leaf_certificate p Infeasible None None (Empty w) → outcome (trials p c) ≡ Acceptance

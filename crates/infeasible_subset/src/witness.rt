@@ -74,11 +74,7 @@ impl Subset {
 
     /// The certificate that the problem has no feasible point, by the weights alone: it has no derived row, and its tree is
     /// one leaf. The checker accepts it.
-    pub fn certificate(
-        &self,
-        alloc: Global,
-        problem: &Instance,
-    ) -> Result<Certificate, AllocError>
+    pub fn certificate(&self, alloc: Global, problem: &Instance) -> Result<Certificate, AllocError>
         requires { AreAccepted problem.now self.now.weights }
         ensures of_weights { IfOk result (λ c. c ≡ leaf_certificate problem.now Infeasible None None (Empty self.now.weights)) }
         ensures proves { IfOk result (λ c. Proves problem.now c) }
