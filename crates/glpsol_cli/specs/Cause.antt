@@ -88,8 +88,8 @@ pub record IsByWeights (c : Certificate) (w : FoundSubset) : Type 0 where
   pub derived : c.derived ≡ []
   pub tree : c.tree ≡ kind.Empty w.weights ∷ []
 
--- a subset is wanted, w is one of the bounds of the problem that is asked about, and c proves by its weights that no point is feasible
--- there, and the checker accepts it
+-- a subset is wanted, w is a subset of the bounds of the problem that is asked about, c proves by the weights of w alone that no point is
+-- feasible there, and the checker accepts c
 pub record HasSubset (c : Certificate) (w : FoundSubset) (s : Settings) (texts : List (List ℕ)) : Type 0 where
   pub proved : IsProved c s texts
   pub wanted : wants_subset s.task ≡ true
