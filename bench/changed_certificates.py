@@ -3,12 +3,13 @@
 
 usage: bench/changed_certificates.py [--ours PATH] [--changes N] [--from SEED]
 
-Twenty problems: those of examples/ in free MPS, three with certificates written by hand that have derived rows, and random ones of up
-to five columns and rows, at least half of them with a tree of several nodes. Each good certificate is changed so many times (1,000),
-one to three times at once: a digit or a sign, and less often a line dropped, doubled or moved. The two checkers are to say the same of
-each text (that it is no certificate, which part does not hold, or that it is accepted; where the program says that a number does not
-fit, the other may say anything), and what is accepted has the verdict and the value that are true. It tells where that fails, and its
-status is then 1. PATH is the program; else it is the one that ./glpsol builds.
+Twenty problems: those of examples/ in free MPS, six with certificates written by hand (three of version 1 with derived rows, three of
+version 2: a tree, derived rows, a split on a combination), and random ones of up to five columns and rows, at least half of them with a
+tree of several nodes. Each good certificate is changed so many times (1,000), one to three times at once: a digit or a sign, less often
+the kind of a weight, and a line dropped, doubled or moved. The two checkers are to say the same of each text (that it is no
+certificate, which part does not hold, or that it is accepted; where the program says that a number does not fit, the other may say
+anything), and what is accepted has the verdict and the value that are true. It tells where that fails, and its status is then 1. PATH
+is the program; else it is the one that ./glpsol builds.
 """
 import argparse
 import collections
@@ -28,9 +29,11 @@ import check_certificate  # noqa: E402
 import free_mps  # noqa: E402
 
 WHOLE = " M 'MARKER' 'INTORG'\n"
+PARITY = f"ROWS\n N z\n E r\nCOLUMNS\n{WHOLE} x r 2\n y r -2\nRHS\n b r 1\nENDATA\n"
+GREATEST = f"OBJSENSE MAX\nROWS\n N z\n L a\n L b\nCOLUMNS\n{WHOLE} x a -2 b 2\n y z 1 a 2\n y b 2\nRHS\n b a 3 b 5\nENDATA\n"
 BY_HAND = {
     "2 x - 2 y = 1": (
-        f"ROWS\n N z\n E r\nCOLUMNS\n{WHOLE} x r 2\n y r -2\nRHS\n b r 1\nENDATA\n",
+        PARITY,
         "cert 1\nsize 1 2\nverdict infeasible\nderived 1\nderive 1\nsplit 0 1:1 2:-1\nlow 2 r1:1\nhigh 2 r1:-1\ntree\nempty d1:1\nend\n",
     ),
     "1 <= 3 x <= 2": (
@@ -41,6 +44,20 @@ BY_HAND = {
         f"OBJSENSE MAX\nROWS\n N z\n L a\n L b\nCOLUMNS\n{WHOLE} x z 1 a 2\n x b 2\n y a -2 b 2\nRHS\n b a 1 b 5\nENDATA\n",
         "cert 1\nsize 2 2\nverdict optimal\nvalue 1\npoint 1 1\nderived 1\nderive -2 1:-2\nsplit 1 1:1\nlow 2\nhigh 2 r1:-1 r2:-1\n"
         "tree\nbranch 1 1\nbound d1:1/2\nempty c1:2 d1:1\nend\n",
+    ),
+    "2 x - 2 y = 1 by a split": (
+        PARITY,
+        "cert 2\nsize 1 2\nverdict infeasible\nderived 0\ntree\nsplit 0 1:1 2:-1\nempty r1:1 s1:2\nempty r1:-1 s1:2\nend\n",
+    ),
+    "greatest y by a tree": (
+        GREATEST,
+        "cert 2\nsize 2 2\nverdict optimal\nvalue 1\npoint 0 1\nderived 0\n"
+        "tree\nsplit 1 2:1\nbound s1:1\nsplit 0 1:1\nempty r1:-1 s1:2 s2:2\nempty r2:-1 s1:2 s2:2\nend\n",
+    ),
+    "greatest y by derived rows": (
+        GREATEST,
+        "cert 2\nsize 2 2\nverdict optimal\nvalue 1\npoint 0 1\nderived 2\nderive -1 1:1 2:-1\nsplit 1 1:-1 2:1\nlow 1\nhigh 1 r1:-1\n"
+        "derive -1 2:-1\nsplit 1 2:1\nlow 1\nhigh 3 r2:-1 d1:2\ntree\nbound d2:1\nend\n",
     ),
 }
 
@@ -65,7 +82,7 @@ def random_problem(seed):
 
 def changed(text, pick):
     """A text with one change."""
-    lines, way = text.split("\n")[:-1], pick.choice(4 * ["digit", "sign"] + ["drop", "double", "move", "move"])
+    lines, way = text.split("\n")[:-1], pick.choice(8 * ["digit", "sign"] + 2 * ["kind", "drop", "double", "move", "move"])
     at = pick.randrange(len(lines))
     if way == "digit":
         digits = [it.start() for it in re.finditer("[0-9]", text)]
@@ -74,6 +91,9 @@ def changed(text, pick):
     if way == "sign":
         it = pick.choice(list(re.finditer("(?<![0-9/a-z-])-?[0-9]", text)) or [re.search("", text)])
         return text[: it.start()] + (it[0][1:] if it[0][:1] == "-" else "-" + it[0]) + text[it.end() :]
+    if way == "kind":
+        it = pick.choice(list(re.finditer("(?<= )[rcds](?=[0-9])", text)) or [re.search("", text)])
+        return text[: it.start()] + (it[0] and pick.choice("rcds")) + text[it.end() :]
     line = lines[at]
     if way != "double":
         del lines[at]
@@ -156,8 +176,9 @@ def main():
                 with open(file, encoding="utf-8") as it:
                     good = it.read()
                 os.remove(file)
-                single += name.startswith("random") and "branch" not in good
-                if name.startswith("random") and "branch" not in good and single > 5:
+                is_single = name.startswith("random") and len(good.partition("tree\n")[2].split("\n")) < 4
+                single += is_single
+                if is_single and single > 4:
                     continue
             found, texts, wrong = try_changes(given.ours, name, good, model, file, given.changes)
             all_found += found

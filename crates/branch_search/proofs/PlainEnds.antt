@@ -45,7 +45,7 @@ made_of p ds best t = record {
 }
 
 passing : (p : Problem) (goal : Option Rational) (node : TreeNode) → NodePasses p goal [] [] node → node_passes p One goal [] [] node ≡ true
-passing p goal node h = let P : Result Bool NoFit → Type 0 = λ r. IfOk r (λ b. b ≡ node_passes p One goal [] [] node) in sym (subst P h (node_ok p goal [] [] node))
+passing p goal node h = let P : Result Bool NoFit → Type 0 = λ r. IfOk r (λ b. b ≡ node_passes p One goal [] [] node) in sym (subst P h (node_ok p One goal [] [] node))
 
 -- no feasible point is refuted
 refuted : (p : Problem) (best : Option (List Rational)) (w : Weights) → IfSome best (λ x. Feasible p x × HasSums p x) → NodePasses p (option_map (objective_value p) best) [] [] (Empty w) → IsPlainCertificate p (made_of p [] best (AtLeaf (Refuted w)))

@@ -84,7 +84,7 @@ stuck_fault p ds node limit r stuck site fault e f g h =
 not_failing : (p : Problem) (goal : Option Rational) (ds : List Derived) (sides : List Side) (node : TreeNode) → node_passes p One goal ds sides node ≡ true → node_answer (node_setting p ds sides) (form_goal p goal) node ≡ Ok false → ⊥
 not_failing p goal ds sides node h e =
     let P : Result Bool Operation → Type 0 = λ r. IfOk r (λ b. b ≡ node_passes p One goal ds sides node) in
-    let never : false ≡ true = subst P e (node_ok p goal ds sides node) ∙ h in
+    let never : false ≡ true = subst P e (node_ok p One goal ds sides node) ∙ h in
     cc
 
 pub refuted : (p : Problem) (ds : List Derived) (sides : List Side) (w : Weights) → IsOverColumns p ds sides → IsInfeasibleRelaxation p ds sides w → node_answer (node_setting p ds sides) None (Empty w) ≡ Ok false → ⊥

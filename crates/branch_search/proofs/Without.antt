@@ -7,20 +7,20 @@ use Rattle.milp.specs.Form.{Entry}
 use Rattle.milp.specs.Problem.{Problem}
 use Rattle.fraction.specs.declared.frac.NoFit.{NoFit}
 use Rattle.instance.specs.Sums.{and_then}
-use Rattle.verdicts.specs.Certificate.{One, Item, Weights, Split, Side, Low, High, Proof, Plain, BySplit, Derived, TreeNode, Branch, Empty, Bound, Infeasible, Verdict, Certificate}
-use Rattle.verdicts.specs.Proves.{narrows, may_split, greater, lesser, lower_under, upper_under, is_integer, is_whole_form, below, Proves}
+use Rattle.verdicts.specs.Certificate.{Version, One, Two, Item, Weights, Split, Side, Low, High, FormSplit, Proof, Plain, BySplit, Derived, TreeNode, Branch, Empty, Bound, Infeasible, Verdict, Certificate}
+use Rattle.verdicts.specs.Proves.{narrows, may_split, greater, lesser, lower_under, upper_under, way_get, narrowed, taken, is_integer, is_whole_form, below, Proves}
 use Rattle.verdicts.specs.Proves as of
 use Rattle.cert_check.specs.Setting.{Setting}
-use Rattle.cert_check.specs.Sums.{and_also, next_answer, lower_answer, row_bound, derived_bound, are_there, are_none, with_bounds, weight_products, are_forms}
-use Rattle.cert_check.specs.Parts.{problem_alone, shown_answer, side_answer, proof_answer, derived_answer, node_answer}
+use Rattle.cert_check.specs.Sums.{and_also, next_answer, lower_answer, row_bound, derived_bound, split_bound, are_there, with_bounds, weight_products, are_forms}
+use Rattle.cert_check.specs.Parts.{proof_setting, shown_answer, side_answer, proof_answer, derived_answer, node_answer}
 use Rattle.cert_check.specs.Outcome.{Trial, Acceptance, outcome, derived_trials, node_trials, tree_trials, verdict_trials, trials}
 use Rattle.cert_check.specs.declared.part.Checked.TheVariants.{Accepted}
 use Rattle.cert_check.proofs.Laws.{check_accepted}
 use Rattle.certificate.specs.declared.split.Side.TheVariants as on_side
 use Rattle.branch_search.specs.WholeFaults.{without_objective}
 
-abbrev setting : Problem → List Derived → List Side → Setting
-setting p ds sides = record { problem = p; derived = ds; sides = sides }
+abbrev setting : Problem → Version → List Derived → List Side → Setting
+setting p v ds sides = record { version = v; problem = p; derived = ds; sides = sides }
 
 -- ---- bounds under splits
 
@@ -43,7 +43,7 @@ same_lower p (High s ∷ sides) = ap (lower_below s) (same_lower p sides)
 
 -- ---- weights
 
--- the bounds that weights of rows, columns and derived rows use
+-- the bounds that weights of rows, columns, derived rows and splits use
 abbrev row_bounds : Problem → Item → Result (Option Rational) NoFit
 row_bounds p i = Ok (row_bound i.weight (slice_get p.rows i.index))
 
@@ -53,16 +53,19 @@ column_bounds lower upper i = if is_less zero_ℚ i.weight then lower i.index el
 abbrev derived_bounds : List Derived → Item → Result (Option Rational) NoFit
 derived_bounds ds i = Ok (derived_bound i.weight (slice_get ds i.index))
 
+abbrev split_bounds : List Side → Item → Result (Option Rational) NoFit
+split_bounds sides i = split_bound i.weight (way_get sides i.index)
+
 -- what weights show, with these bounds of columns
 abbrev shown_with : (Item → Result (Option Rational) NoFit) → Setting → Weights → (ℕ → Rational) → (Rational → Bool) → Result Bool NoFit
 shown_with b s w wanted enough =
-    and_also (and_also (are_there (row_bounds s.problem) w.rows) (and_also (are_there b w.columns) (and_also (are_there (derived_bounds s.derived) w.derived) (Ok (are_none w.splits)))))
+    and_also (and_also (are_there (row_bounds s.problem) w.rows) (and_also (are_there b w.columns) (and_also (are_there (derived_bounds s.derived) w.derived) (are_there (split_bounds (taken s.version s.sides)) w.splits))))
     (and_also (are_forms (weight_products s w) wanted 0 s.problem.columns)
-    (and_then (and_then (with_bounds (row_bounds s.problem) zero_ℚ w.rows) (λ r. and_then (with_bounds b r w.columns) (λ c. with_bounds (derived_bounds s.derived) c w.derived))) (λ r. Ok (enough r))))
+    (and_then (and_then (with_bounds (row_bounds s.problem) zero_ℚ w.rows) (λ r. and_then (with_bounds b r w.columns) (λ c. and_then (with_bounds (derived_bounds s.derived) c w.derived) (λ d. with_bounds (split_bounds (taken s.version s.sides)) d w.splits)))) (λ r. Ok (enough r))))
 
-same_shown : (p : Problem) (ds : List Derived) (sides : List Side) (w : Weights) (wanted : ℕ → Rational) (enough : Rational → Bool)
-    → shown_answer (setting (without_objective p) ds sides) w wanted enough ≡ shown_answer (setting p ds sides) w wanted enough
-same_shown p ds sides w wanted enough = ap₂ (λ (lower : ℕ → Result (Option Rational) NoFit) (upper : ℕ → Option Rational). shown_with (column_bounds lower upper) (setting p ds sides) w wanted enough) (same_lower p sides) (same_upper p sides)
+same_shown : (p : Problem) (v : Version) (ds : List Derived) (sides : List Side) (w : Weights) (wanted : ℕ → Rational) (enough : Rational → Bool)
+    → shown_answer (setting (without_objective p) v ds sides) w wanted enough ≡ shown_answer (setting p v ds sides) w wanted enough
+same_shown p v ds sides w wanted enough = ap₂ (λ (lower : ℕ → Result (Option Rational) NoFit) (upper : ℕ → Option Rational). shown_with (column_bounds lower upper) (setting p v ds sides) w wanted enough) (same_lower p (narrowed v sides)) (same_upper p (narrowed v sides))
 
 -- ---- derived rows
 
@@ -70,38 +73,42 @@ same_whole : (p : Problem) (form : List Entry) → is_whole_form (without_object
 same_whole p [] = refl
 same_whole p (e ∷ es) = ap (λ (b : Bool). (is_whole e.coefficient && is_integer (slice_get p.columns e.column)) && b) (same_whole p es)
 
-same_proof : (p : Problem) (form : List Entry) (bound : Rational) (proof : Proof)
-    → proof_answer (problem_alone (without_objective p)) form bound proof ≡ proof_answer (problem_alone p) form bound proof
-same_proof p form bound (Plain w) = refl
-same_proof p form bound (BySplit s) =
-    ap (λ (b : Bool). and_also (Ok (b && (is_at_most zero_ℚ s.low && is_at_most zero_ℚ s.high))) (and_also (side_answer (problem_alone p) s on_side.Low form bound) (side_answer (problem_alone p) s on_side.High form bound)))
-    (same_whole p s.form)
+same_split : (p : Problem) (low high : Result Bool NoFit) (s : FormSplit)
+    → and_also (Ok (is_whole_form (without_objective p) s.form && (is_at_most zero_ℚ s.low && is_at_most zero_ℚ s.high))) (and_also low high) ≡ and_also (Ok (is_whole_form p s.form && (is_at_most zero_ℚ s.low && is_at_most zero_ℚ s.high))) (and_also low high)
+same_split p low high s = ap (λ (b : Bool). and_also (Ok (b && (is_at_most zero_ℚ s.low && is_at_most zero_ℚ s.high))) (and_also low high)) (same_whole p s.form)
 
-same_derived : (p : Problem) (d : Derived) → derived_answer (without_objective p) d ≡ derived_answer p d
-same_derived p d = ap (λ (r : Result Bool NoFit). and_also (Ok (of.in_range (length p.columns) d.form)) r) (same_proof p d.form d.bound d.proof)
+same_proof : (p : Problem) (v : Version) (before : List Derived) (form : List Entry) (bound : Rational) (proof : Proof)
+    → proof_answer (proof_setting (without_objective p) v before) form bound proof ≡ proof_answer (proof_setting p v before) form bound proof
+same_proof p One before form bound (Plain w) = refl
+same_proof p Two before form bound (Plain w) = refl
+same_proof p One before form bound (BySplit s) = same_split p (side_answer (proof_setting p One before) s on_side.Low form bound) (side_answer (proof_setting p One before) s on_side.High form bound) s
+same_proof p Two before form bound (BySplit s) = same_split p (side_answer (proof_setting p Two before) s on_side.Low form bound) (side_answer (proof_setting p Two before) s on_side.High form bound) s
 
-same_rows : (p : Problem) (k : ℕ) (ds : List Derived) → derived_trials (without_objective p) k ds ≡ derived_trials p k ds
-same_rows p k [] = refl
-same_rows p k (d ∷ ds) = ap₂ (λ (r : Result Bool NoFit) (rest : List Trial). record { part = of.DerivedRow k; answer = r } ∷ rest) (same_derived p d) (same_rows p (k + 1) ds)
+same_derived : (p : Problem) (v : Version) (before : List Derived) (d : Derived) → derived_answer (without_objective p) v before d ≡ derived_answer p v before d
+same_derived p v before d = ap (λ (r : Result Bool NoFit). and_also (Ok (of.in_range (length p.columns) d.form)) r) (same_proof p v before d.form d.bound d.proof)
+
+same_rows : (p : Problem) (v : Version) (k : ℕ) (before ds : List Derived) → derived_trials (without_objective p) v k before ds ≡ derived_trials p v k before ds
+same_rows p v k before [] = refl
+same_rows p v k before (d ∷ ds) = ap₂ (λ (r : Result Bool NoFit) (rest : List Trial). record { part = of.DerivedRow k; answer = r } ∷ rest) (same_derived p v before d) (same_rows p v (k + 1) (before ++ d ∷ []) ds)
 
 -- ---- nodes
 
-same_node : (p : Problem) (ds : List Derived) (sides : List Side) (node : TreeNode)
-    → node_answer (setting (without_objective p) ds sides) None node ≡ node_answer (setting p ds sides) None node
-same_node p ds sides (Branch s) = ap (λ (b : Bool). Ok (may_split One s.form && b)) (same_whole p s.form)
-same_node p ds sides (Empty w) = same_shown p ds sides w (λ j. zero_ℚ) (is_less zero_ℚ)
-same_node p ds sides (Bound w) = refl
+same_node : (p : Problem) (v : Version) (ds : List Derived) (sides : List Side) (node : TreeNode)
+    → node_answer (setting (without_objective p) v ds sides) None node ≡ node_answer (setting p v ds sides) None node
+same_node p v ds sides (Branch s) = ap (λ (b : Bool). Ok (may_split v s.form && b)) (same_whole p s.form)
+same_node p v ds sides (Empty w) = same_shown p v ds sides w (λ j. zero_ℚ) (is_less zero_ℚ)
+same_node p v ds sides (Bound w) = refl
 
-same_nodes : (p : Problem) (ds : List Derived) (k : ℕ) (places : List (List Side)) (nodes : List TreeNode)
-    → node_trials (without_objective p) None ds k places nodes ≡ node_trials p None ds k places nodes
-same_nodes p ds k [] [] = refl
-same_nodes p ds k [] (node ∷ nodes) = refl
-same_nodes p ds k (sides ∷ places) [] = refl
-same_nodes p ds k (sides ∷ places) (node ∷ nodes) =
-    ap₂ (λ (r : Result Bool NoFit) (rest : List Trial). record { part = of.Node k; answer = r } ∷ rest) (same_node p ds sides node) (same_nodes p ds (k + 1) (below node sides ++ places) nodes)
+same_nodes : (p : Problem) (v : Version) (ds : List Derived) (k : ℕ) (places : List (List Side)) (nodes : List TreeNode)
+    → node_trials (without_objective p) v None ds k places nodes ≡ node_trials p v None ds k places nodes
+same_nodes p v ds k [] [] = refl
+same_nodes p v ds k [] (node ∷ nodes) = refl
+same_nodes p v ds k (sides ∷ places) [] = refl
+same_nodes p v ds k (sides ∷ places) (node ∷ nodes) =
+    ap₂ (λ (r : Result Bool NoFit) (rest : List Trial). record { part = of.Node k; answer = r } ∷ rest) (same_node p v ds sides node) (same_nodes p v ds (k + 1) (below node sides ++ places) nodes)
 
 same_tree : (p : Problem) (c : Certificate) → tree_trials (without_objective p) None c ≡ tree_trials p None c
-same_tree p c = ap₂ (λ (xs ys : List Trial). xs ++ ys) (same_rows p 1 c.derived) (same_nodes p c.derived 1 ([] ∷ []) c.tree)
+same_tree p c = ap₂ (λ (xs ys : List Trial). xs ++ ys) (same_rows p c.version 1 [] c.derived) (same_nodes p c.version c.derived 1 ([] ∷ []) c.tree)
 
 -- ---- the whole
 
@@ -115,5 +122,5 @@ same_trials p c e = ap (λ (rest : List Trial). record { part = of.Size; answer 
 pub none_accepted : (p : Problem) (c : Certificate) → outcome (trials (without_objective p) c) ≡ Acceptance → c.verdict ≡ Infeasible → outcome (trials p c) ≡ Acceptance
 none_accepted p c h e = ap (λ (ts : List Trial). outcome ts) (sym (same_trials p c e)) ∙ h
 
-pub none_proves : (p : Problem) (c : Certificate) → c.version ≡ One → outcome (trials (without_objective p) c) ≡ Acceptance → c.verdict ≡ Infeasible → Proves p c
-none_proves p c v h e = check_accepted p c (Ok Accepted) v (sym (none_accepted p c h e)) refl
+pub none_proves : (p : Problem) (c : Certificate) → outcome (trials (without_objective p) c) ≡ Acceptance → c.verdict ≡ Infeasible → Proves p c
+none_proves p c h e = check_accepted p c (Ok Accepted) (sym (none_accepted p c h e)) refl

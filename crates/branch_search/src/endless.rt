@@ -12,7 +12,7 @@ use crate::told::ray_or_fault;
 use crate::whole_fault::{VerdictFault, Wanted};
 use crate::{EndlessAt, search};
 use cert_check::{CheckFault, Checked, check};
-use certificate::{Certificate, Verdict};
+use certificate::{Certificate, Verdict, Version};
 use instance::{Instance, Point, meets};
 use search_node::Site;
 use std::alloc::Global;
@@ -98,8 +98,6 @@ fn decided(
     ensures plain { NoneInteger problem.now.columns → IfOk result (λ c. IsPlainCertificate problem.now c) }
     ensures fault { IfErr result (IsAfterSearch problem.now split_limit) }
 {
-    // What has a text is of version 1.
-    let _rows = certificate.rows();
     match certificate.verdict() {
         Verdict::Optimal => improved(alloc, problem, &certificate, ray, split_limit),
         Verdict::Infeasible => Ok(certificate),
@@ -149,7 +147,7 @@ fn checked(
     problem.keeps_its_limits();
     let EndlessAt { node, endless } = ray;
     let certificate = of_ray(alloc, problem, point, endless.ray);
-    match check(problem, &certificate) {
+    match check(alloc, problem, &certificate) {
         Ok(Checked::Accepted) => Ok(certificate),
         Ok(Checked::Refused(_)) => unreachable!(),
         Err(CheckFault { fault, .. }) => {
@@ -167,5 +165,5 @@ fn of_ray(alloc: Global, problem: &Instance, point: Point, ray: Point) -> Certif
     problem.keeps_its_limits();
     let columns = problem.columns().len() as u32;
     let rows = problem.rows().len() as u32;
-    Certificate::unbounded(alloc, rows, columns, point, ray)
+    Certificate::unbounded(alloc, Version::One, rows, columns, point, ray)
 }

@@ -15,7 +15,7 @@ ghost use Rattle.branch_search.specs.Fractions.{IsFraction};
 
 use crate::treatment::{Found, Fractional, Treatment};
 use candidate::ProposedOptimum;
-use certificate::{DerivedRows, Split, WholeNumber};
+use certificate::{ColumnSplit, DerivedRows, WholeNumber};
 use fraction::{Frac, NoFit};
 use instance::{Column, Instance, Point, meets, signed};
 use milp::Direction;
@@ -213,7 +213,7 @@ fn fractional(
 {
     problem.keeps_its_limits();
     let numbers = found.point.as_slice();
-    let split = Split::new(j as u32, WholeNumber::floor(numbers[j]));
+    let split = ColumnSplit::new(j as u32, WholeNumber::floor(numbers[j]));
     Treatment::ToSplit(Fractional {
         split,
         value: objective,

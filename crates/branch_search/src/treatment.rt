@@ -1,6 +1,6 @@
 // What becomes of a node.
 
-use certificate::{Split, Weights};
+use certificate::{ColumnSplit, Weights};
 use fraction::{Frac, NoFit};
 use instance::Point;
 use search_node::{Bases, Basis};
@@ -18,7 +18,7 @@ pub struct Found {
 /// point, and the basis of it, from which the work at the nodes below may begin.
 #[derive(Drop)]
 pub struct Fractional {
-    pub split: Split,
+    pub split: ColumnSplit,
     pub value: Frac,
     pub basis: Basis,
 }

@@ -16,13 +16,13 @@ use Rattle.instance.specs.Sums.{and_then, form_of}
 use Rattle.verdicts.specs.WeightedSums.{Weighted, combined, combined_bound, coefficient_of}
 use Rattle.rational.specs.Compare.{is_less, is_same}
 use Rattle.verdicts.specs.Certificate.{Item, Weights, Side, Low, High, Derived}
-use Rattle.verdicts.specs.Proves.{narrows, lower_under, upper_under, greater, term, bound_used, row_term, column_term, derived_term, split_term, joined, gathered, terms, same_form}
+use Rattle.verdicts.specs.Proves.{narrows, narrowed, taken, lower_under, upper_under, greater, side_form, side_bound, way_get, term, bound_used, row_term, column_term, derived_term, split_term, joined, gathered, terms, same_form}
 use Rattle.rational.proofs.Laws.{whole-add}
 use Rattle.verdicts.proofs.Laws.{coefficient-combined}
 use Rattle.cert_check.specs.Setting.{Setting}
-use Rattle.cert_check.specs.Sums.{and_also, with_product, next_answer, lower_answer, row_bound, derived_bound, bound_of, then_there, are_there, are_none, all_there, with_bound, with_bounds, bound_sum, Product, products, derived_form, form_at, item_products, weight_products, with_products, are_forms}
+use Rattle.cert_check.specs.Sums.{and_also, with_product, next_answer, lower_answer, row_bound, derived_bound, taken_bound, split_bound, bound_of, then_there, are_there, all_there, with_bound, with_bounds, bound_sum, Product, products, derived_form, taken_form, form_at, item_products, weight_products, with_products, are_forms}
 use Rattle.cert_check.specs.declared.kind.Kind.{Kind}
-use Rattle.cert_check.specs.declared.kind.Kind.TheVariants.{OfRow, OfColumn, OfDerived}
+use Rattle.cert_check.specs.declared.kind.Kind.TheVariants.{OfRow, OfColumn, OfDerived, OfSplit}
 
 -- ---- steps
 
@@ -83,27 +83,47 @@ lower_ok p (High s ∷ sides) j = go (narrows s j) (lower_ok p sides j)
         ok_then (next_answer s.at) (λ b. and_then (lower_answer p sides j) (λ o. Ok (Some (greater o b)))) (λ b. b ≡ whole (s.at +ℤ pos 1)) (λ o. o ≡ wanted) (next_ok s.at)
         (λ b e. ok_then (lower_answer p sides j) (λ o. Ok (Some (greater o b))) (λ o. o ≡ lower_under p sides j) (λ o. o ≡ wanted) h (λ o k. ap₂ (λ o b. Some (greater o b)) k e))
 
+taken_ok : (side : Side) → IfOk (taken_bound side) (λ o. o ≡ Some (side_bound side))
+taken_ok (Low s) = refl
+taken_ok (High s) = ok_then (next_answer s.at) (λ b. Ok (Some b)) (λ b. b ≡ whole (s.at +ℤ pos 1)) (λ o. o ≡ Some (whole (s.at +ℤ pos 1))) (next_ok s.at) (λ b e. ap Some e)
+
+-- the bound of a split that a weight uses
+abbrev exact_split : Rational → Option Side → Option Rational
+exact_split w None = None
+exact_split w (Some s) = if is_less zero_ℚ w then Some (side_bound s) else None
+
+split_ok : (w : Rational) (o : Option Side) → IfOk (split_bound w o) (λ b. b ≡ exact_split w o)
+split_ok w None = refl
+split_ok w (Some s) = go (is_less zero_ℚ w)
+  where
+    go : (t : Bool) → IfOk (if t then taken_bound s else Ok None) (λ b. b ≡ (if t then Some (side_bound s) else None))
+    go true = taken_ok s
+    go false = refl
+
 -- the bound that an item uses
 exact_bound : Setting → Kind → Item → Option Rational
 exact_bound s OfRow i = row_bound i.weight (slice_get s.problem.rows i.index)
-exact_bound s OfColumn i = bound_used i.weight (lower_under s.problem s.sides i.index) (upper_under s.problem s.sides i.index)
+exact_bound s OfColumn i = bound_used i.weight (lower_under s.problem (narrowed s.version s.sides) i.index) (upper_under s.problem (narrowed s.version s.sides) i.index)
 exact_bound s OfDerived i = derived_bound i.weight (slice_get s.derived i.index)
+exact_bound s OfSplit i = exact_split i.weight (way_get (taken s.version s.sides) i.index)
 
 bound_ok : (s : Setting) (kind : Kind) (i : Item) → IfOk (bound_of s kind i) (λ o. o ≡ exact_bound s kind i)
 unfolding exact_bound
 bound_ok s OfRow i = refl
 bound_ok s OfDerived i = refl
-bound_ok s OfColumn i = go (is_less zero_ℚ i.weight)
+bound_ok s OfSplit i = split_ok i.weight (way_get (taken s.version s.sides) i.index)
+bound_ok s OfColumn i = go (is_less zero_ℚ i.weight) (narrowed s.version s.sides)
   where
-    go : (t : Bool) → IfOk (if t then lower_answer s.problem s.sides i.index else Ok (upper_under s.problem s.sides i.index)) (λ o. o ≡ (if t then lower_under s.problem s.sides i.index else upper_under s.problem s.sides i.index))
-    go true = lower_ok s.problem s.sides i.index
-    go false = refl
+    go : (t : Bool) (sides : List Side) → IfOk (if t then lower_answer s.problem sides i.index else Ok (upper_under s.problem sides i.index)) (λ o. o ≡ (if t then lower_under s.problem sides i.index else upper_under s.problem sides i.index))
+    go true sides = lower_ok s.problem sides i.index
+    go false sides = refl
 
 -- the term that an item names
 term_of : Setting → Kind → Item → Option Weighted
 term_of s OfRow i = row_term s.problem i
-term_of s OfColumn i = column_term s.problem s.sides i
+term_of s OfColumn i = column_term s.problem (narrowed s.version s.sides) i
 term_of s OfDerived i = derived_term s.derived i
+term_of s OfSplit i = split_term (taken s.version s.sides) i
 
 term_is : (s : Setting) (kind : Kind) (i : Item) → term_of s kind i ≡ term i.weight (form_at s kind i.index) (exact_bound s kind i)
 unfolding exact_bound term_of
@@ -124,6 +144,17 @@ term_is s OfDerived i = go (is_less zero_ℚ i.weight) (slice_get s.derived i.in
     go false None = refl
     go true (Some d) = refl
     go false (Some d) = refl
+term_is s OfSplit i = go (is_less zero_ℚ i.weight) (way_get (taken s.version s.sides) i.index)
+  where
+    bound : Bool → Option Side → Option Rational
+    bound t None = None
+    bound t (Some side) = if t then Some (side_bound side) else None
+
+    go : (t : Bool) (o : Option Side) → (if t then option_and_then (λ (side : Side). term i.weight (side_form side) (Some (side_bound side))) o else None) ≡ term i.weight (taken_form o) (bound t o)
+    go true None = refl
+    go false None = refl
+    go true (Some side) = refl
+    go false (Some side) = refl
 
 -- ---- which terms there are
 
@@ -155,39 +186,21 @@ gathered_some f (i ∷ is) rest = go (f i) (gathered f is rest) (gathered f is (
     go (Some t) (Some rs) None h = h
     go (Some t) (Some rs) (Some us) h = h
 
--- without sides that may have weights an item names no split
-no_split : (i : Item) → split_term [] i ≡ None
-no_split i = go (is_less zero_ℚ i.weight)
-  where
-    none : Option Weighted
-    none = None
-
-    go : (t : Bool) → (if t then none else none) ≡ none
-    go true = refl
-    go false = refl
-
-are_none_ok : (items : List Item) → are_none items ≡ is_some (gathered (split_term []) items (Some []))
-are_none_ok [] = refl
-are_none_ok (i ∷ is) = sym (ap (λ t. is_some (joined t (gathered (split_term []) is (Some [])))) (no_split i))
-
-none_gathered : (items : List Item) (all : List Weighted) → gathered (split_term []) items (Some []) ≡ Some all → all ≡ []
-none_gathered [] all e = sym (same_Some [] all e)
-none_gathered (i ∷ is) all e = let none : None ≡ Some all = sym (ap (λ t. joined t (gathered (split_term []) is (Some []))) (no_split i)) ∙ e in cc
-
-pub all_there_ok : (s : Setting) (w : Weights) → IfOk (all_there s w) (λ b. b ≡ is_some (terms s.problem s.derived s.sides [] w))
+pub all_there_ok : (s : Setting) (w : Weights) → IfOk (all_there s w) (λ b. b ≡ is_some (terms s.problem s.derived (narrowed s.version s.sides) (taken s.version s.sides) w))
 unfolding term_of
 all_there_ok s w =
+    let sides = narrowed s.version s.sides in
     let rows = gathered (row_term s.problem) w.rows (Some []) in
-    let columns = gathered (column_term s.problem s.sides) w.columns (Some []) in
+    let columns = gathered (column_term s.problem sides) w.columns (Some []) in
     let derived = gathered (derived_term s.derived) w.derived (Some []) in
-    let splits = gathered (split_term []) w.splits (Some []) in
+    let splits = gathered (split_term (taken s.version s.sides)) w.splits (Some []) in
     let last = gathered (derived_term s.derived) w.derived splits in
-    let more = gathered (column_term s.problem s.sides) w.columns last in
-    let two : IfOk (and_also (are_there (bound_of s OfDerived) w.derived) (Ok (are_none w.splits))) (λ b. b ≡ (is_some derived && is_some splits)) = also_ok _ _ (is_some derived) (is_some splits) (there_ok s OfDerived w.derived) (λ h. are_none_ok w.splits) in
-    let three : IfOk (and_also (are_there (bound_of s OfColumn) w.columns) (and_also (are_there (bound_of s OfDerived) w.derived) (Ok (are_none w.splits)))) (λ b. b ≡ (is_some columns && (is_some derived && is_some splits))) = also_ok _ _ (is_some columns) (is_some derived && is_some splits) (there_ok s OfColumn w.columns) (λ h. two) in
+    let more = gathered (column_term s.problem sides) w.columns last in
+    let two : IfOk (and_also (are_there (bound_of s OfDerived) w.derived) (are_there (bound_of s OfSplit) w.splits)) (λ b. b ≡ (is_some derived && is_some splits)) = also_ok _ _ (is_some derived) (is_some splits) (there_ok s OfDerived w.derived) (λ h. there_ok s OfSplit w.splits) in
+    let three : IfOk (and_also (are_there (bound_of s OfColumn) w.columns) (and_also (are_there (bound_of s OfDerived) w.derived) (are_there (bound_of s OfSplit) w.splits))) (λ b. b ≡ (is_some columns && (is_some derived && is_some splits))) = also_ok _ _ (is_some columns) (is_some derived && is_some splits) (there_ok s OfColumn w.columns) (λ h. two) in
     let four : IfOk (all_there s w) (λ b. b ≡ (is_some rows && (is_some columns && (is_some derived && is_some splits)))) = also_ok _ _ (is_some rows) (is_some columns && (is_some derived && is_some splits)) (there_ok s OfRow w.rows) (λ h. three) in
-    let all : is_some (terms s.problem s.derived s.sides [] w) ≡ (is_some rows && (is_some columns && (is_some derived && is_some splits))) =
-    gathered_some (row_term s.problem) w.rows more ∙ ap (λ b. is_some rows && b) (gathered_some (column_term s.problem s.sides) w.columns last ∙ ap (λ b. is_some columns && b) (gathered_some (derived_term s.derived) w.derived splits)) in
+    let all : is_some (terms s.problem s.derived sides (taken s.version s.sides) w) ≡ (is_some rows && (is_some columns && (is_some derived && is_some splits))) =
+    gathered_some (row_term s.problem) w.rows more ∙ ap (λ b. is_some rows && b) (gathered_some (column_term s.problem sides) w.columns last ∙ ap (λ b. is_some columns && b) (gathered_some (derived_term s.derived) w.derived splits)) in
     if_ok (all_there s w) _ _ four (sym all)
 
 -- ---- the terms of items, one by one
@@ -206,10 +219,10 @@ record Begins (s : Setting) (kind : Kind) (items : List Item) (rest : Option (Li
   more : rest ≡ Some us
   whole : all ≡ ts ++ us
 
-taken : (s : Setting) (kind : Kind) (items : List Item) (rest : Option (List Weighted)) (all : List Weighted) → gathered (term_of s kind) items rest ≡ Some all → Begins s kind items rest all
+begun : (s : Setting) (kind : Kind) (items : List Item) (rest : Option (List Weighted)) (all : List Weighted) → gathered (term_of s kind) items rest ≡ Some all → Begins s kind items rest all
 unfolding AreTerms
-taken s kind [] rest all e = record { ts = []; us = all; terms = tt; more = e; whole = refl }
-taken s kind (i ∷ is) rest all e = go (term_of s kind i) refl (gathered (term_of s kind) is rest) (λ rs k. taken s kind is rest rs k) e
+begun s kind [] rest all e = record { ts = []; us = all; terms = tt; more = e; whole = refl }
+begun s kind (i ∷ is) rest all e = go (term_of s kind i) refl (gathered (term_of s kind) is rest) (λ rs k. begun s kind is rest rs k) e
   where
     go : (o : Option Weighted) → term_of s kind i ≡ o → (r : Option (List Weighted)) → ((rs : List Weighted) → r ≡ Some rs → Begins s kind is rest rs) → joined o r ≡ Some all → Begins s kind (i ∷ is) rest all
     go None h r k e = cc
@@ -262,34 +275,55 @@ record Parted (s : Setting) (w : Weights) (all : List Weighted) : Type 0 where
   rows : List Weighted
   columns : List Weighted
   derived : List Weighted
+  splits : List Weighted
   are_rows : AreTerms s OfRow w.rows rows
   are_columns : AreTerms s OfColumn w.columns columns
   are_derived : AreTerms s OfDerived w.derived derived
-  whole : all ≡ rows ++ (columns ++ derived)
+  are_splits : AreTerms s OfSplit w.splits splits
+  whole : all ≡ rows ++ (columns ++ (derived ++ splits))
 
-parted : (s : Setting) (w : Weights) (all : List Weighted) → terms s.problem s.derived s.sides [] w ≡ Some all → Parted s w all
+in_turn : (all us vs ws xs a b c d : List Weighted) → all ≡ a ++ us → us ≡ b ++ vs → vs ≡ c ++ ws → ws ≡ d ++ xs → xs ≡ [] → all ≡ a ++ (b ++ (c ++ d))
+in_turn all us vs ws xs a b c d first second third fourth none = first ∙ ap (λ z. a ++ z) (second ∙ ap (λ z. b ++ z) (third ∙ ap (λ z. c ++ z) (fourth ∙ ap (λ z. d ++ z) none ∙ append-nil d)))
+
+parted : (s : Setting) (w : Weights) (all : List Weighted) → terms s.problem s.derived (narrowed s.version s.sides) (taken s.version s.sides) w ≡ Some all → Parted s w all
 unfolding term_of
 parted s w all e =
-    let splits : Option (List Weighted) = gathered (split_term []) w.splits (Some []) in
+    let splits : Option (List Weighted) = gathered (split_term (taken s.version s.sides)) w.splits (Some []) in
     let derived = gathered (derived_term s.derived) w.derived splits in
-    let more = gathered (column_term s.problem s.sides) w.columns derived in
-    let first = taken s OfRow w.rows more all e in
-    let second = taken s OfColumn w.columns derived first.us first.more in
-    let third = taken s OfDerived w.derived splits second.us second.more in
-    let last : second.us ≡ third.ts = third.whole ∙ ap (λ us. third.ts ++ us) (none_gathered w.splits third.us third.more) ∙ append-nil third.ts in
-    record { rows = first.ts; columns = second.ts; derived = third.ts; are_rows = first.terms; are_columns = second.terms; are_derived = third.terms; whole = first.whole ∙ ap (λ us. first.ts ++ us) (second.whole ∙ ap (λ us. second.ts ++ us) last) }
+    let more = gathered (column_term s.problem (narrowed s.version s.sides)) w.columns derived in
+    let first = begun s OfRow w.rows more all e in
+    let second = begun s OfColumn w.columns derived first.us first.more in
+    let third = begun s OfDerived w.derived splits second.us second.more in
+    let fourth = begun s OfSplit w.splits (Some []) third.us third.more in
+    record {
+      rows = first.ts;
+      columns = second.ts;
+      derived = third.ts;
+      splits = fourth.ts;
+      are_rows = first.terms;
+      are_columns = second.terms;
+      are_derived = third.terms;
+      are_splits = fourth.terms;
+      whole = in_turn all first.us second.us third.us fourth.us first.ts second.ts third.ts fourth.ts first.whole second.whole third.whole fourth.whole (sym (same_Some [] fourth.us fourth.more));
+    }
 
-pub bound_sum_ok : (s : Setting) (w : Weights) (all : List Weighted) (total : Rational) → terms s.problem s.derived s.sides [] w ≡ Some all → IfOk (bound_sum s total w) (λ v. v ≡ total +ℚ combined_bound all)
+pub bound_sum_ok : (s : Setting) (w : Weights) (all : List Weighted) (total : Rational) → terms s.problem s.derived (narrowed s.version s.sides) (taken s.version s.sides) w ≡ Some all → IfOk (bound_sum s total w) (λ v. v ≡ total +ℚ combined_bound all)
 bound_sum_ok s w all total e =
     let p = parted s w all e in
-    let wanted : combined_bound all ≡ combined_bound p.rows +ℚ (combined_bound p.columns +ℚ combined_bound p.derived) = ap combined_bound p.whole ∙ bound-append p.rows (p.columns ++ p.derived) ∙ ap (λ z. combined_bound p.rows +ℚ z) (bound-append p.columns p.derived) in
-    ok_then (with_bounds (bound_of s OfRow) total w.rows) (λ r. and_then (with_bounds (bound_of s OfColumn) r w.columns) (λ c. with_bounds (bound_of s OfDerived) c w.derived)) (λ v. v ≡ total +ℚ combined_bound p.rows) (λ v. v ≡ total +ℚ combined_bound all) (bounds_ok s OfRow w.rows p.rows total p.are_rows)
-    (λ r er. ok_then (with_bounds (bound_of s OfColumn) r w.columns) (λ c. with_bounds (bound_of s OfDerived) c w.derived) (λ v. v ≡ r +ℚ combined_bound p.columns) (λ v. v ≡ total +ℚ combined_bound all) (bounds_ok s OfColumn w.columns p.columns r p.are_columns)
-    (λ c ec. if_ok (with_bounds (bound_of s OfDerived) c w.derived) (c +ℚ combined_bound p.derived) (total +ℚ combined_bound all) (bounds_ok s OfDerived w.derived p.derived c p.are_derived)
-    (ap (λ z. z +ℚ combined_bound p.derived) (ec ∙ ap (λ z. z +ℚ combined_bound p.columns) er) ∙ three total (combined_bound p.rows) (combined_bound p.columns) (combined_bound p.derived) ∙ ap (λ z. total +ℚ z) (sym wanted))))
+    let a = combined_bound p.rows in
+    let b = combined_bound p.columns in
+    let d = combined_bound p.derived in
+    let k = combined_bound p.splits in
+    let wanted : combined_bound all ≡ a +ℚ (b +ℚ (d +ℚ k)) = ap combined_bound p.whole ∙ bound-append p.rows (p.columns ++ (p.derived ++ p.splits)) ∙ ap (λ z. a +ℚ z) (bound-append p.columns (p.derived ++ p.splits) ∙ ap (λ z. b +ℚ z) (bound-append p.derived p.splits)) in
+    let goal : Rational → Type 0 = λ v. v ≡ total +ℚ combined_bound all in
+    ok_then (with_bounds (bound_of s OfRow) total w.rows) (λ r. and_then (with_bounds (bound_of s OfColumn) r w.columns) (λ c. and_then (with_bounds (bound_of s OfDerived) c w.derived) (λ d. with_bounds (bound_of s OfSplit) d w.splits))) (λ v. v ≡ total +ℚ a) goal (bounds_ok s OfRow w.rows p.rows total p.are_rows)
+    (λ r er. ok_then (with_bounds (bound_of s OfColumn) r w.columns) (λ c. and_then (with_bounds (bound_of s OfDerived) c w.derived) (λ d. with_bounds (bound_of s OfSplit) d w.splits)) (λ v. v ≡ r +ℚ b) goal (bounds_ok s OfColumn w.columns p.columns r p.are_columns)
+    (λ c ec. ok_then (with_bounds (bound_of s OfDerived) c w.derived) (λ d. with_bounds (bound_of s OfSplit) d w.splits) (λ v. v ≡ c +ℚ d) goal (bounds_ok s OfDerived w.derived p.derived c p.are_derived)
+    (λ v ev. if_ok (with_bounds (bound_of s OfSplit) v w.splits) (v +ℚ k) (total +ℚ combined_bound all) (bounds_ok s OfSplit w.splits p.splits v p.are_splits)
+    (ap (λ z. z +ℚ k) (ev ∙ ap (λ z. z +ℚ d) (ec ∙ ap (λ z. z +ℚ b) er)) ∙ four total a b d k ∙ ap (λ z. total +ℚ z) (sym wanted)))))
   where
-    three : (t a b c : Rational) → ((t +ℚ a) +ℚ b) +ℚ c ≡ t +ℚ (a +ℚ (b +ℚ c))
-    three t a b c = simp Q.field
+    four : (t a b c d : Rational) → (((t +ℚ a) +ℚ b) +ℚ c) +ℚ d ≡ t +ℚ (a +ℚ (b +ℚ (c +ℚ d)))
+    four t a b c d = simp Q.field
 
 -- ---- F
 
@@ -337,12 +371,17 @@ coefficient-both : (xs ys : List Weighted) (j : ℕ) → coefficient_of (combine
 coefficient-both [] ys j = sym (Q.zero-add (coefficient_of (combined ys) j))
 coefficient-both (x ∷ xs) ys j = coefficient-combined x (xs ++ ys) j ∙ ap (λ z. x.weight *ℚ coefficient_of x.form j +ℚ z) (coefficient-both xs ys j) ∙ sym (Q.add_assoc _ _ _) ∙ ap (λ z. z +ℚ coefficient_of (combined ys) j) (sym (coefficient-combined x xs j))
 
-pub weights_sum : (s : Setting) (w : Weights) (all : List Weighted) (j : ℕ) → terms s.problem s.derived s.sides [] w ≡ Some all → product_sum (weight_products s w j) ≡ coefficient_of (combined all) j
+pub weights_sum : (s : Setting) (w : Weights) (all : List Weighted) (j : ℕ) → terms s.problem s.derived (narrowed s.version s.sides) (taken s.version s.sides) w ≡ Some all → product_sum (weight_products s w j) ≡ coefficient_of (combined all) j
 weights_sum s w all j e =
     let p = parted s w all e in
-    sum-append (item_products (form_at s OfRow) w.rows j) (item_products (form_at s OfColumn) w.columns j ++ item_products (form_at s OfDerived) w.derived j)
-    ∙ ap₂ (λ a b. a +ℚ b) (items_sum s OfRow w.rows p.rows j p.are_rows) (sum-append (item_products (form_at s OfColumn) w.columns j) (item_products (form_at s OfDerived) w.derived j) ∙ ap₂ (λ a b. a +ℚ b) (items_sum s OfColumn w.columns p.columns j p.are_columns) (items_sum s OfDerived w.derived p.derived j p.are_derived) ∙ sym (coefficient-both p.columns p.derived j))
-    ∙ sym (coefficient-both p.rows (p.columns ++ p.derived) j)
+    let columns = item_products (form_at s OfColumn) w.columns j in
+    let derived = item_products (form_at s OfDerived) w.derived j in
+    let splits = item_products (form_at s OfSplit) w.splits j in
+    let last : product_sum (derived ++ splits) ≡ coefficient_of (combined (p.derived ++ p.splits)) j = sum-append derived splits ∙ ap₂ (λ a b. a +ℚ b) (items_sum s OfDerived w.derived p.derived j p.are_derived) (items_sum s OfSplit w.splits p.splits j p.are_splits) ∙ sym (coefficient-both p.derived p.splits j) in
+    let more : product_sum (columns ++ (derived ++ splits)) ≡ coefficient_of (combined (p.columns ++ (p.derived ++ p.splits))) j = sum-append columns (derived ++ splits) ∙ ap₂ (λ a b. a +ℚ b) (items_sum s OfColumn w.columns p.columns j p.are_columns) last ∙ sym (coefficient-both p.columns (p.derived ++ p.splits) j) in
+    sum-append (item_products (form_at s OfRow) w.rows j) (columns ++ (derived ++ splits))
+    ∙ ap₂ (λ a b. a +ℚ b) (items_sum s OfRow w.rows p.rows j p.are_rows) more
+    ∙ sym (coefficient-both p.rows (p.columns ++ (p.derived ++ p.splits)) j)
     ∙ ap (λ ts. coefficient_of (combined ts) j) (sym p.whole)
 
 -- ---- the form column by column

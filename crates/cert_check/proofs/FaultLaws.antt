@@ -12,15 +12,15 @@ use Rattle.fraction.specs.Answers.{add_answer, mul_answer, DoesNotFit}
 use Rattle.rational.specs.Compare.{is_zero, is_less, is_at_most, is_same}
 use Rattle.instance.specs.Sums.{and_then, step_answer, sum_answer, rows_answer}
 use Rattle.verdicts.specs.WeightedSums.{coefficient_of}
-use Rattle.verdicts.specs.Certificate.{Verdict, Optimal, Infeasible, Unbounded, Item, Weights, Side as SideOf, FormSplit, Proof, Plain, BySplit, Derived, TreeNode, Branch, Empty, Bound, Certificate}
+use Rattle.verdicts.specs.Certificate.{Version, Verdict, Optimal, Infeasible, Unbounded, Item, Weights, Side as SideOf, FormSplit, Proof, Plain, BySplit, Derived, TreeNode, Branch, Empty, Bound, Certificate}
 use Rattle.verdicts.specs.Certificate as of
-use Rattle.verdicts.specs.Proves.{lies_above, lies_below, bound_for, meets_columns, narrows, greater, below, upper_under}
+use Rattle.verdicts.specs.Proves.{lies_above, lies_below, bound_for, meets_columns, narrows, narrowed, taken, way_get, greater, below, upper_under}
 use Rattle.cert_check.specs.Setting.{Setting}
-use Rattle.cert_check.specs.Sums.{and_also, with_product, next_answer, lower_answer, bound_of, then_there, are_there, all_there, with_bound, with_bounds, bound_sum, Product, with_products, weight_products, are_forms}
-use Rattle.cert_check.specs.Parts.{point_answer, goal_answer, value_answer, ray_rows_answer, ray_answer, shown_answer, problem_alone, side_weights, side_products, side_bound, side_answer, proof_answer, derived_answer, bound_answer, node_answer}
+use Rattle.cert_check.specs.Sums.{and_also, with_product, next_answer, lower_answer, taken_bound, split_bound, bound_of, then_there, are_there, all_there, with_bound, with_bounds, bound_sum, Product, with_products, weight_products, are_forms}
+use Rattle.cert_check.specs.Parts.{point_answer, goal_answer, value_answer, ray_rows_answer, ray_answer, shown_answer, proof_setting, side_weights, side_products, side_bound, side_answer, proof_answer, derived_answer, bound_answer, node_answer}
 use Rattle.cert_check.specs.Outcome.{Trial, Outcome, Acceptance, Refusal, Fault, judged, outcome, derived_trials, node_trials, tree_trials, form_goal, verdict_trials, trials, outcome_of}
 use Rattle.cert_check.specs.declared.kind.Kind.{Kind}
-use Rattle.cert_check.specs.declared.kind.Kind.TheVariants.{OfRow, OfColumn, OfDerived}
+use Rattle.cert_check.specs.declared.kind.Kind.TheVariants.{OfRow, OfColumn, OfDerived, OfSplit}
 use Rattle.certificate.specs.declared.split.Side.{Side}
 use Rattle.certificate.specs.declared.split.Side.TheVariants.{Low, High}
 use Rattle.cert_check.specs.declared.part.Checked.{Checked}
@@ -72,14 +72,27 @@ lower_honest p (of.High s ∷ sides) j = go (narrows s j) (lower_honest p sides 
     go true h = then_honest (next_answer s.at) (λ b. and_then (lower_answer p sides j) (λ o. Ok (Some (greater o b)))) (next_honest s.at) (λ b. then_honest (lower_answer p sides j) (λ o. Ok (Some (greater o b))) h (λ o. tt))
     go false h = h
 
+taken_honest : (side : SideOf) → IsHonest (taken_bound side)
+taken_honest (of.Low s) = tt
+taken_honest (of.High s) = then_honest (next_answer s.at) (λ b. Ok (Some b)) (next_honest s.at) (λ b. tt)
+
+split_honest : (w : Rational) (o : Option SideOf) → IsHonest (split_bound w o)
+split_honest w None = tt
+split_honest w (Some side) = go (is_less zero_ℚ w)
+  where
+    go : (t : Bool) → IfErr (if t then taken_bound side else Ok None) DoesNotFit
+    go true = taken_honest side
+    go false = tt
+
 bound_honest : (s : Setting) (kind : Kind) (i : Item) → IsHonest (bound_of s kind i)
 bound_honest s OfRow i = tt
 bound_honest s OfDerived i = tt
-bound_honest s OfColumn i = go (is_less zero_ℚ i.weight) (lower_honest s.problem s.sides i.index)
+bound_honest s OfSplit i = split_honest i.weight (way_get (taken s.version s.sides) i.index)
+bound_honest s OfColumn i = go (is_less zero_ℚ i.weight) (narrowed s.version s.sides)
   where
-    go : (t : Bool) → IsHonest (lower_answer s.problem s.sides i.index) → IfErr (if t then lower_answer s.problem s.sides i.index else Ok (upper_under s.problem s.sides i.index)) DoesNotFit
-    go true h = h
-    go false h = tt
+    go : (t : Bool) (sides : List SideOf) → IfErr (if t then lower_answer s.problem sides i.index else Ok (upper_under s.problem sides i.index)) DoesNotFit
+    go true sides = lower_honest s.problem sides i.index
+    go false sides = tt
 
 there_honest : (s : Setting) (kind : Kind) (items : List Item) → IsHonest (are_there (bound_of s kind) items)
 there_honest s kind [] = tt
@@ -90,7 +103,7 @@ there_honest s kind (i ∷ is) = then_honest (bound_of s kind i) (λ o. then_the
     go (Some b) h = h
 
 all_there_honest : (s : Setting) (w : Weights) → IsHonest (all_there s w)
-all_there_honest s w = also_honest _ _ (there_honest s OfRow w.rows) (also_honest _ _ (there_honest s OfColumn w.columns) (also_honest _ _ (there_honest s OfDerived w.derived) tt))
+all_there_honest s w = also_honest _ _ (there_honest s OfRow w.rows) (also_honest _ _ (there_honest s OfColumn w.columns) (also_honest _ _ (there_honest s OfDerived w.derived) (there_honest s OfSplit w.splits)))
 
 with_bound_honest : (total w : Rational) (o : Option Rational) → IsHonest (with_bound total w o)
 with_bound_honest total w None = tt
@@ -101,7 +114,11 @@ bounds_honest s kind total [] = tt
 bounds_honest s kind total (i ∷ is) = then_honest (bound_of s kind i) (λ o. and_then (with_bound total i.weight o) (λ t. with_bounds (bound_of s kind) t is)) (bound_honest s kind i) (λ o. then_honest (with_bound total i.weight o) (λ t. with_bounds (bound_of s kind) t is) (with_bound_honest total i.weight o) (λ t. bounds_honest s kind t is))
 
 sum_honest : (s : Setting) (total : Rational) (w : Weights) → IsHonest (bound_sum s total w)
-sum_honest s total w = then_honest (with_bounds (bound_of s OfRow) total w.rows) (λ r. and_then (with_bounds (bound_of s OfColumn) r w.columns) (λ c. with_bounds (bound_of s OfDerived) c w.derived)) (bounds_honest s OfRow total w.rows) (λ r. then_honest (with_bounds (bound_of s OfColumn) r w.columns) (λ c. with_bounds (bound_of s OfDerived) c w.derived) (bounds_honest s OfColumn r w.columns) (λ c. bounds_honest s OfDerived c w.derived))
+sum_honest s total w =
+    then_honest (with_bounds (bound_of s OfRow) total w.rows) (λ r. and_then (with_bounds (bound_of s OfColumn) r w.columns) (λ c. and_then (with_bounds (bound_of s OfDerived) c w.derived) (λ d. with_bounds (bound_of s OfSplit) d w.splits))) (bounds_honest s OfRow total w.rows)
+    (λ r. then_honest (with_bounds (bound_of s OfColumn) r w.columns) (λ c. and_then (with_bounds (bound_of s OfDerived) c w.derived) (λ d. with_bounds (bound_of s OfSplit) d w.splits)) (bounds_honest s OfColumn r w.columns)
+    (λ c. then_honest (with_bounds (bound_of s OfDerived) c w.derived) (λ d. with_bounds (bound_of s OfSplit) d w.splits) (bounds_honest s OfDerived c w.derived)
+    (λ d. bounds_honest s OfSplit d w.splits)))
 
 products_honest : (total : Rational) (ps : List Product) → IsHonest (with_products total ps)
 products_honest total [] = tt
@@ -133,8 +150,8 @@ proof_honest : (st : Setting) (form : List Entry) (bound : Rational) (proof : Pr
 proof_honest st form bound (Plain w) = shown_honest st w (coefficient_of form) (is_at_most bound)
 proof_honest st form bound (BySplit s) = first_honest _ _ (also_honest _ _ (side_honest st s Low form bound) (side_honest st s High form bound))
 
-derived_honest : (p : Problem) (d : Derived) → IsHonest (derived_answer p d)
-derived_honest p d = first_honest _ _ (proof_honest (problem_alone p) d.form d.bound d.proof)
+derived_honest : (p : Problem) (v : Version) (before : List Derived) (d : Derived) → IsHonest (derived_answer p v before d)
+derived_honest p v before d = first_honest _ _ (proof_honest (proof_setting p v before) d.form d.bound d.proof)
 
 leaf_honest : (s : Setting) (goal : Option Rational) (w : Weights) → IsHonest (bound_answer s goal w)
 leaf_honest s None w = tt
@@ -184,20 +201,20 @@ unfolding AreHonest
 both_honest [] bs h k = k
 both_honest (a ∷ xs) bs h k = (h.0, both_honest xs bs h.1 k)
 
-derived_all_honest : (p : Problem) (k : ℕ) (ds : List Derived) → AreHonest (derived_trials p k ds)
+derived_all_honest : (p : Problem) (v : Version) (k : ℕ) (before ds : List Derived) → AreHonest (derived_trials p v k before ds)
 unfolding AreHonest
-derived_all_honest p k [] = tt
-derived_all_honest p k (d ∷ ds) = (derived_honest p d, derived_all_honest p (k + 1) ds)
+derived_all_honest p v k before [] = tt
+derived_all_honest p v k before (d ∷ ds) = (derived_honest p v before d, derived_all_honest p v (k + 1) (before ++ d ∷ []) ds)
 
-nodes_honest : (p : Problem) (goal : Option Rational) (ds : List Derived) (k : ℕ) (places : List (List SideOf)) (nodes : List TreeNode) → AreHonest (node_trials p goal ds k places nodes)
+nodes_honest : (p : Problem) (v : Version) (goal : Option Rational) (ds : List Derived) (k : ℕ) (places : List (List SideOf)) (nodes : List TreeNode) → AreHonest (node_trials p v goal ds k places nodes)
 unfolding AreHonest
-nodes_honest p goal ds k [] [] = tt
-nodes_honest p goal ds k [] (node ∷ nodes) = (tt, tt)
-nodes_honest p goal ds k (sides ∷ places) [] = (tt, tt)
-nodes_honest p goal ds k (sides ∷ places) (node ∷ nodes) = (node_honest (record { problem = p; derived = ds; sides = sides }) goal node, nodes_honest p goal ds (k + 1) (below node sides ++ places) nodes)
+nodes_honest p v goal ds k [] [] = tt
+nodes_honest p v goal ds k [] (node ∷ nodes) = (tt, tt)
+nodes_honest p v goal ds k (sides ∷ places) [] = (tt, tt)
+nodes_honest p v goal ds k (sides ∷ places) (node ∷ nodes) = (node_honest (record { version = v; problem = p; derived = ds; sides = sides }) goal node, nodes_honest p v goal ds (k + 1) (below node sides ++ places) nodes)
 
 tree_honest : (p : Problem) (goal : Option Rational) (c : Certificate) → AreHonest (tree_trials p goal c)
-tree_honest p goal c = both_honest (derived_trials p 1 c.derived) (node_trials p goal c.derived 1 ([] ∷ []) c.tree) (derived_all_honest p 1 c.derived) (nodes_honest p goal c.derived 1 ([] ∷ []) c.tree)
+tree_honest p goal c = both_honest (derived_trials p c.version 1 [] c.derived) (node_trials p c.version goal c.derived 1 ([] ∷ []) c.tree) (derived_all_honest p c.version 1 [] c.derived) (nodes_honest p c.version goal c.derived 1 ([] ∷ []) c.tree)
 
 verdict_honest : (p : Problem) (c : Certificate) (v : Verdict) → AreHonest (verdict_trials p c v)
 unfolding AreHonest

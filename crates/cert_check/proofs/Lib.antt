@@ -4,6 +4,8 @@ mod ItemOrder
 mod Merge
 mod Signs
 mod Ascending
+mod Negatives
+mod Turning
 mod Meeting
 mod Places
 mod Trials

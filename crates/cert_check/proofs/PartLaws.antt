@@ -14,18 +14,22 @@ use Rattle.rational.specs.Compare.{is_zero, is_less, is_at_most, is_same}
 use Rattle.instance.specs.Sums.{and_then, sum_answer, rows_answer}
 use Rattle.instance.proofs.Laws.{sum_fits_ok, and_rest, rows_ok}
 use Rattle.verdicts.specs.WeightedSums.{Weighted, scaled, combined, combined_bound, coefficient_of}
-use Rattle.verdicts.specs.Certificate.{One, Weights, Side as SideOf, FormSplit, Proof, Plain, BySplit, Derived, TreeNode, Branch, Empty, Bound}
-use Rattle.verdicts.specs.Proves.{lies_above, lies_below, bound_for, meets_columns, meets_rows, is_improving_ray, joined, terms, same_form, shows, refutes, in_range, is_whole_form, low_term, high_term, proof_passes, derived_passes, bound_passes, node_passes, point_passes, value_passes, ray_passes}
+use Rattle.verdicts.specs.Certificate.{Version, One, Two, Weights, Side as SideOf, FormSplit, Proof, Plain, BySplit, Derived, TreeNode, Branch, Empty, Bound}
+use Rattle.verdicts.specs.Proves.{lies_above, lies_below, bound_for, meets_columns, meets_rows, is_improving_ray, joined, terms, same_form, shows, refutes, in_range, is_whole_form, low_term, high_term, usable, narrowed, taken, proof_passes, derived_passes, bound_passes, node_passes, point_passes, value_passes, ray_passes}
 use Rattle.verdicts.proofs.Laws.{coefficient-scaled, coefficient-combined}
 use Rattle.cert_check.specs.Setting.{Setting}
 use Rattle.cert_check.specs.Sums.{and_also, with_product, next_answer, all_there, bound_sum, Product, weight_products, are_forms}
-use Rattle.cert_check.specs.Parts.{point_answer, form_value_answer, value_answer, ray_rows_answer, is_improving_answer, ray_answer, shown_answer, problem_alone, side_weights, side_products, side_bound, side_answer, proof_answer, derived_answer, bound_answer, node_answer}
+use Rattle.cert_check.specs.Parts.{point_answer, form_value_answer, value_answer, ray_rows_answer, is_improving_answer, ray_answer, shown_answer, proof_setting, side_weights, side_products, side_bound, side_answer, proof_answer, derived_answer, bound_answer, node_answer}
 use Rattle.cert_check.specs.Outcome.{form_goal}
 use Rattle.certificate.specs.declared.split.Side.{Side}
 use Rattle.certificate.specs.declared.split.Side.TheVariants.{Low, High}
 use Rattle.cert_check.proofs.Exact.{ok_then, also_ok, also_true, also_false, if_ok, add_ok, product_ok, next_ok, all_there_ok, bound_sum_ok, product_sum, sum-append, sum-products, weights_sum, forms_ok}
 
 -- ---- weights
+
+-- the terms that weights name
+abbrev terms_of : Setting → Weights → Option (List Weighted)
+terms_of s w = terms s.problem s.derived (narrowed s.version s.sides) (taken s.version s.sides) w
 
 -- the test of weights: their terms are there, F is the form, and R is enough
 abbrev judge : ℕ → Option (List Weighted) → List Entry → (Rational → Bool) → Bool
@@ -40,13 +44,13 @@ refutes_is : (n : ℕ) (o : Option (List Weighted)) → judge n o [] (is_less ze
 refutes_is n None = refl
 refutes_is n (Some ts) = refl
 
-shown_ok : (s : Setting) (w : Weights) (wanted : ℕ → Rational) (form : List Entry) (enough : Rational → Bool) → ((j : ℕ) → wanted j ≡ coefficient_of form j) → IfOk (shown_answer s w wanted enough) (λ b. b ≡ judge (length s.problem.columns) (terms s.problem s.derived s.sides [] w) form enough)
-shown_ok s w wanted form enough k = go (terms s.problem s.derived s.sides [] w) refl (all_there_ok s w)
+shown_ok : (s : Setting) (w : Weights) (wanted : ℕ → Rational) (form : List Entry) (enough : Rational → Bool) → ((j : ℕ) → wanted j ≡ coefficient_of form j) → IfOk (shown_answer s w wanted enough) (λ b. b ≡ judge (length s.problem.columns) (terms_of s w) form enough)
+shown_ok s w wanted form enough k = go (terms_of s w) refl (all_there_ok s w)
   where
     rest : Result Bool NoFit
     rest = and_also (are_forms (weight_products s w) wanted 0 s.problem.columns) (and_then (bound_sum s zero_ℚ w) (λ r. Ok (enough r)))
 
-    go : (o : Option (List Weighted)) → terms s.problem s.derived s.sides [] w ≡ o → IfOk (all_there s w) (λ b. b ≡ is_some o) → IfOk (and_also (all_there s w) rest) (λ b. b ≡ judge (length s.problem.columns) o form enough)
+    go : (o : Option (List Weighted)) → terms_of s w ≡ o → IfOk (all_there s w) (λ b. b ≡ is_some o) → IfOk (and_also (all_there s w) rest) (λ b. b ≡ judge (length s.problem.columns) o form enough)
     go None e h = also_false (all_there s w) rest h
     go (Some ts) e h =
         also_true (all_there s w) rest (λ b. b ≡ judge (length s.problem.columns) (Some ts) form enough) h
@@ -75,35 +79,29 @@ side_bound_ok s High = go (is_zero s.high) refl
     go false e = ok_then (next_answer s.at) (λ b. with_product zero_ℚ s.high b) (λ b. b ≡ whole (s.at +ℤ pos 1)) (λ v. v ≡ zero_ℚ +ℚ s.high *ℚ whole (s.at +ℤ pos 1)) (next_ok s.at)
         (λ b eb. if_ok (with_product zero_ℚ s.high b) (zero_ℚ +ℚ s.high *ℚ b) (zero_ℚ +ℚ s.high *ℚ whole (s.at +ℤ pos 1)) (product_ok zero_ℚ s.high b) (ap (λ b. zero_ℚ +ℚ s.high *ℚ b) eb))
 
-side_ok : (p : Problem) (s : FormSplit) (side : Side) (form : List Entry) (bound : Rational) → IfOk (side_answer (problem_alone p) s side form bound) (λ b. b ≡ shows (length p.columns) (joined (Some (side_term s side)) (terms p [] [] [] (side_weights s side))) form bound)
-side_ok p s side form bound = go (terms p [] [] [] (side_weights s side)) refl (all_there_ok (problem_alone p) (side_weights s side))
+side_ok : (st : Setting) (s : FormSplit) (side : Side) (form : List Entry) (bound : Rational) → IfOk (side_answer st s side form bound) (λ b. b ≡ shows (length st.problem.columns) (joined (Some (side_term s side)) (terms_of st (side_weights s side))) form bound)
+side_ok st s side form bound = go (terms_of st (side_weights s side)) refl (all_there_ok st (side_weights s side))
   where
-    st : Setting
-    st = problem_alone p
-
-    w : Weights
-    w = side_weights s side
-
     f : ℕ → List Product
-    f j = side_products s side j ++ weight_products (problem_alone p) (side_weights s side) j
+    f j = side_products s side j ++ weight_products st (side_weights s side) j
 
     last : Result Bool NoFit
-    last = and_then (side_bound s side) (λ t. and_then (bound_sum (problem_alone p) t (side_weights s side)) (λ r. Ok (is_at_most bound r)))
+    last = and_then (side_bound s side) (λ t. and_then (bound_sum st t (side_weights s side)) (λ r. Ok (is_at_most bound r)))
 
     rest : Result Bool NoFit
-    rest = and_also (are_forms (λ j. side_products s side j ++ weight_products (problem_alone p) (side_weights s side) j) (coefficient_of form) 0 p.columns) (and_then (side_bound s side) (λ t. and_then (bound_sum (problem_alone p) t (side_weights s side)) (λ r. Ok (is_at_most bound r))))
+    rest = and_also (are_forms (λ j. side_products s side j ++ weight_products st (side_weights s side) j) (coefficient_of form) 0 st.problem.columns) (and_then (side_bound s side) (λ t. and_then (bound_sum st t (side_weights s side)) (λ r. Ok (is_at_most bound r))))
 
-    go : (o : Option (List Weighted)) → terms p [] [] [] (side_weights s side) ≡ o → IfOk (all_there (problem_alone p) (side_weights s side)) (λ b. b ≡ is_some o) → IfOk (and_also (all_there (problem_alone p) (side_weights s side)) rest) (λ b. b ≡ shows (length p.columns) (joined (Some (side_term s side)) o) form bound)
-    go None e h = also_false (all_there (problem_alone p) (side_weights s side)) rest h
+    go : (o : Option (List Weighted)) → terms_of st (side_weights s side) ≡ o → IfOk (all_there st (side_weights s side)) (λ b. b ≡ is_some o) → IfOk (and_also (all_there st (side_weights s side)) rest) (λ b. b ≡ shows (length st.problem.columns) (joined (Some (side_term s side)) o) form bound)
+    go None e h = also_false (all_there st (side_weights s side)) rest h
     go (Some ts) e h =
         let t : Weighted = side_term s side in
         let all : List Weighted = t ∷ ts in
-        let sums : (j : ℕ) → product_sum (f j) ≡ coefficient_of (combined all) j = λ j. sum-append (side_products s side j) (weight_products (problem_alone p) (side_weights s side) j) ∙ ap₂ (λ a b. a +ℚ b) (side_sum s side j) (weights_sum (problem_alone p) (side_weights s side) ts j e) ∙ sym (coefficient-combined t ts j) in
-        also_true (all_there (problem_alone p) (side_weights s side)) rest (λ b. b ≡ shows (length p.columns) (Some all) form bound) h
-        (also_ok (are_forms f (coefficient_of form) 0 p.columns) last (same_form (length p.columns) (combined all) form) (is_at_most bound (combined_bound all))
-        (forms_ok f (coefficient_of form) p.columns (combined all) form sums (λ j. refl))
-        (λ same. ok_then (side_bound s side) (λ t. and_then (bound_sum (problem_alone p) t (side_weights s side)) (λ r. Ok (is_at_most bound r))) (λ v. v ≡ zero_ℚ +ℚ t.weight *ℚ t.bound) (λ b. b ≡ is_at_most bound (combined_bound all)) (side_bound_ok s side)
-        (λ v ev. ok_then (bound_sum (problem_alone p) v (side_weights s side)) (λ r. Ok (is_at_most bound r)) (λ r. r ≡ v +ℚ combined_bound ts) (λ b. b ≡ is_at_most bound (combined_bound all)) (bound_sum_ok (problem_alone p) (side_weights s side) ts v e)
+        let sums : (j : ℕ) → product_sum (f j) ≡ coefficient_of (combined all) j = λ j. sum-append (side_products s side j) (weight_products st (side_weights s side) j) ∙ ap₂ (λ a b. a +ℚ b) (side_sum s side j) (weights_sum st (side_weights s side) ts j e) ∙ sym (coefficient-combined t ts j) in
+        also_true (all_there st (side_weights s side)) rest (λ b. b ≡ shows (length st.problem.columns) (Some all) form bound) h
+        (also_ok (are_forms f (coefficient_of form) 0 st.problem.columns) last (same_form (length st.problem.columns) (combined all) form) (is_at_most bound (combined_bound all))
+        (forms_ok f (coefficient_of form) st.problem.columns (combined all) form sums (λ j. refl))
+        (λ same. ok_then (side_bound s side) (λ t. and_then (bound_sum st t (side_weights s side)) (λ r. Ok (is_at_most bound r))) (λ v. v ≡ zero_ℚ +ℚ t.weight *ℚ t.bound) (λ b. b ≡ is_at_most bound (combined_bound all)) (side_bound_ok s side)
+        (λ v ev. ok_then (bound_sum st v (side_weights s side)) (λ r. Ok (is_at_most bound r)) (λ r. r ≡ v +ℚ combined_bound ts) (λ b. b ≡ is_at_most bound (combined_bound all)) (bound_sum_ok st (side_weights s side) ts v e)
         (λ r er. ap (is_at_most bound) (er ∙ ap (λ z. z +ℚ combined_bound ts) (ev ∙ Q.zero-add (t.weight *ℚ t.bound)))))))
 
 -- ---- derived rows
@@ -112,28 +110,41 @@ first_ok : (b c : Bool) (rest : Result Bool NoFit) → (b ≡ true → IfOk rest
 first_ok true c rest k = k refl
 first_ok false c rest k = refl
 
-proof_ok : (p : Problem) (form : List Entry) (bound : Rational) (proof : Proof) → IfOk (proof_answer (problem_alone p) form bound proof) (λ b. b ≡ proof_passes p [] form bound proof)
-unfolding side_term
-proof_ok p form bound (Plain w) = if_ok (shown_answer (problem_alone p) w (coefficient_of form) (is_at_most bound)) _ _ (shown_ok (problem_alone p) w (coefficient_of form) form (is_at_most bound) (λ j. refl)) (shows_is (length p.columns) (terms p [] [] [] w) form bound)
-proof_ok p form bound (BySplit s) =
-    first_ok (is_whole_form p s.form && (is_at_most zero_ℚ s.low && is_at_most zero_ℚ s.high)) _ _ (λ h. also_ok _ _ _ _ (side_ok p s Low form bound) (λ k. side_ok p s High form bound))
+-- in a proof no split is taken
+no_sides : (p : Problem) (v : Version) (before : List Derived) (w : Weights) → terms_of (proof_setting p v before) w ≡ terms p (usable v before) [] [] w
+no_sides p One before w = refl
+no_sides p Two before w = refl
 
-pub derived_ok : (p : Problem) (d : Derived) → IfOk (derived_answer p d) (λ b. b ≡ derived_passes p [] d)
-derived_ok p d = also_ok (Ok (in_range (length p.columns) d.form)) (proof_answer (problem_alone p) d.form d.bound d.proof) (in_range (length p.columns) d.form) (proof_passes p [] d.form d.bound d.proof) refl (λ h. proof_ok p d.form d.bound d.proof)
+split_side_ok : (p : Problem) (v : Version) (before : List Derived) (s : FormSplit) (side : Side) (form : List Entry) (bound : Rational) → IfOk (side_answer (proof_setting p v before) s side form bound) (λ b. b ≡ shows (length p.columns) (joined (Some (side_term s side)) (terms p (usable v before) [] [] (side_weights s side))) form bound)
+split_side_ok p v before s side form bound =
+    if_ok (side_answer (proof_setting p v before) s side form bound) _ _ (side_ok (proof_setting p v before) s side form bound) (ap (λ ts. shows (length p.columns) (joined (Some (side_term s side)) ts) form bound) (no_sides p v before (side_weights s side)))
+
+proof_ok : (p : Problem) (v : Version) (before : List Derived) (form : List Entry) (bound : Rational) (proof : Proof) → IfOk (proof_answer (proof_setting p v before) form bound proof) (λ b. b ≡ proof_passes p (usable v before) form bound proof)
+unfolding side_term
+proof_ok p v before form bound (Plain w) =
+    let st : Setting = proof_setting p v before in
+    if_ok (shown_answer st w (coefficient_of form) (is_at_most bound)) _ _ (shown_ok st w (coefficient_of form) form (is_at_most bound) (λ j. refl)) (shows_is (length p.columns) (terms_of st w) form bound ∙ ap (λ ts. shows (length p.columns) ts form bound) (no_sides p v before w))
+proof_ok p v before form bound (BySplit s) =
+    first_ok (is_whole_form p s.form && (is_at_most zero_ℚ s.low && is_at_most zero_ℚ s.high)) _ _ (λ h. also_ok _ _ _ _ (split_side_ok p v before s Low form bound) (λ k. split_side_ok p v before s High form bound))
+
+pub derived_ok : (p : Problem) (v : Version) (before : List Derived) (d : Derived) → IfOk (derived_answer p v before d) (λ b. b ≡ derived_passes p (usable v before) d)
+derived_ok p v before d = also_ok (Ok (in_range (length p.columns) d.form)) (proof_answer (proof_setting p v before) d.form d.bound d.proof) (in_range (length p.columns) d.form) (proof_passes p (usable v before) d.form d.bound d.proof) refl (λ h. proof_ok p v before d.form d.bound d.proof)
 
 -- ---- nodes
 
-bound_ok : (s : Setting) (goal : Option Rational) (w : Weights) → IfOk (bound_answer s (form_goal s.problem goal) w) (λ b. b ≡ bound_passes s.problem goal (terms s.problem s.derived s.sides [] w))
+bound_ok : (s : Setting) (goal : Option Rational) (w : Weights) → IfOk (bound_answer s (form_goal s.problem goal) w) (λ b. b ≡ bound_passes s.problem goal (terms_of s w))
 bound_ok s None w = refl
 bound_ok s (Some v) w =
     let p = s.problem in
     let needed : Rational = sign_of p.direction *ℚ (v -ℚ p.constant) in
-    if_ok (bound_answer s (Some (v -ℚ p.constant)) w) _ _ (shown_ok s w (λ j. sign_of p.direction *ℚ coefficient_of p.objective j) (scaled (sign_of p.direction) p.objective) (is_at_most needed) (λ j. sym (coefficient-scaled (sign_of p.direction) p.objective j))) (shows_is (length p.columns) (terms p s.derived s.sides [] w) (scaled (sign_of p.direction) p.objective) needed)
+    if_ok (bound_answer s (Some (v -ℚ p.constant)) w) _ _ (shown_ok s w (λ j. sign_of p.direction *ℚ coefficient_of p.objective j) (scaled (sign_of p.direction) p.objective) (is_at_most needed) (λ j. sym (coefficient-scaled (sign_of p.direction) p.objective j))) (shows_is (length p.columns) (terms_of s w) (scaled (sign_of p.direction) p.objective) needed)
 
-pub node_ok : (p : Problem) (goal : Option Rational) (ds : List Derived) (sides : List SideOf) (node : TreeNode) → IfOk (node_answer (record { problem = p; derived = ds; sides = sides }) (form_goal p goal) node) (λ b. b ≡ node_passes p One goal ds sides node)
-node_ok p goal ds sides (Branch b) = refl
-node_ok p goal ds sides (Empty w) = if_ok (shown_answer (record { problem = p; derived = ds; sides = sides }) w (λ j. zero_ℚ) (is_less zero_ℚ)) _ _ (shown_ok (record { problem = p; derived = ds; sides = sides }) w (λ j. zero_ℚ) [] (is_less zero_ℚ) (λ j. refl)) (refutes_is (length p.columns) (terms p ds sides [] w))
-node_ok p goal ds sides (Bound w) = bound_ok (record { problem = p; derived = ds; sides = sides }) goal w
+pub node_ok : (p : Problem) (v : Version) (goal : Option Rational) (ds : List Derived) (sides : List SideOf) (node : TreeNode) → IfOk (node_answer (record { version = v; problem = p; derived = ds; sides = sides }) (form_goal p goal) node) (λ b. b ≡ node_passes p v goal ds sides node)
+node_ok p v goal ds sides (Branch b) = refl
+node_ok p v goal ds sides (Empty w) =
+    let s : Setting = record { version = v; problem = p; derived = ds; sides = sides } in
+    if_ok (shown_answer s w (λ j. zero_ℚ) (is_less zero_ℚ)) _ _ (shown_ok s w (λ j. zero_ℚ) [] (is_less zero_ℚ) (λ j. refl)) (refutes_is (length p.columns) (terms_of s w))
+node_ok p v goal ds sides (Bound w) = bound_ok (record { version = v; problem = p; derived = ds; sides = sides }) goal w
 
 -- ---- points and rays
 

@@ -3,7 +3,7 @@ use Rattle.std.specs.Prelude.{ℕ, ◌+◌, ◌≡◌, ◌⊎◌, ◌++◌, List
 use Rattle.rational.specs.Rational.{Rational, ◌-ℚ◌}
 use Rattle.milp.specs.Problem.{Problem}
 use Rattle.fraction.specs.declared.frac.NoFit.{NoFit}
-use Rattle.verdicts.specs.Certificate.{Verdict, Optimal, Infeasible, Unbounded, Derived, TreeNode, Side, Certificate}
+use Rattle.verdicts.specs.Certificate.{Version, Verdict, Optimal, Infeasible, Unbounded, Derived, TreeNode, Side, Certificate}
 use Rattle.verdicts.specs.Proves.{Part as PartOf, Test, below}
 use Rattle.verdicts.specs.Proves as of
 use Rattle.cert_check.specs.Parts.{point_answer, value_answer, ray_answer, derived_answer, node_answer}
@@ -35,19 +35,20 @@ outcome (t ∷ ts) = judged t.part t.answer (outcome ts)
 
 -- ---- the parts, in order
 
-abbrev pub derived_trials : Problem → ℕ → List Derived → List Trial
-derived_trials p k [] = []
-derived_trials p k (d ∷ ds) = record { part = of.DerivedRow k; answer = derived_answer p d } ∷ derived_trials p (k + 1) ds
+-- the rows behind those `before`
+abbrev pub derived_trials : Problem → Version → ℕ → List Derived → List Derived → List Trial
+derived_trials p v k before [] = []
+derived_trials p v k before (d ∷ ds) = record { part = of.DerivedRow k; answer = derived_answer p v before d } ∷ derived_trials p v (k + 1) (before ++ d ∷ []) ds
 
 -- the places that are still to be filled are known by the splits on the way to each
-abbrev pub node_trials : Problem → Option Rational → List Derived → ℕ → List (List Side) → List TreeNode → List Trial
-node_trials p goal ds k [] [] = []
-node_trials p goal ds k [] (node ∷ nodes) = record { part = of.Node k; answer = Ok false } ∷ []
-node_trials p goal ds k (sides ∷ places) [] = record { part = of.Node k; answer = Ok false } ∷ []
-node_trials p goal ds k (sides ∷ places) (node ∷ nodes) = record { part = of.Node k; answer = node_answer (record { problem = p; derived = ds; sides = sides }) goal node } ∷ node_trials p goal ds (k + 1) (below node sides ++ places) nodes
+abbrev pub node_trials : Problem → Version → Option Rational → List Derived → ℕ → List (List Side) → List TreeNode → List Trial
+node_trials p v goal ds k [] [] = []
+node_trials p v goal ds k [] (node ∷ nodes) = record { part = of.Node k; answer = Ok false } ∷ []
+node_trials p v goal ds k (sides ∷ places) [] = record { part = of.Node k; answer = Ok false } ∷ []
+node_trials p v goal ds k (sides ∷ places) (node ∷ nodes) = record { part = of.Node k; answer = node_answer (record { version = v; problem = p; derived = ds; sides = sides }) goal node } ∷ node_trials p v goal ds (k + 1) (below node sides ++ places) nodes
 
 abbrev pub tree_trials : Problem → Option Rational → Certificate → List Trial
-tree_trials p goal c = derived_trials p 1 c.derived ++ node_trials p goal c.derived 1 ([] ∷ []) c.tree
+tree_trials p goal c = derived_trials p c.version 1 [] c.derived ++ node_trials p c.version goal c.derived 1 ([] ∷ []) c.tree
 
 -- the value that the objective's form has, where the objective has this one
 abbrev pub form_goal : Problem → Option Rational → Option Rational

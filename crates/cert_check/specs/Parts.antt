@@ -11,8 +11,8 @@ use Rattle.fraction.specs.Answers.{add_answer}
 use Rattle.rational.specs.Compare.{is_zero, is_less, is_at_most, is_same}
 use Rattle.instance.specs.Sums.{and_then, sum_answer, meets_answer}
 use Rattle.verdicts.specs.WeightedSums.{scaled, coefficient_of}
-use Rattle.verdicts.specs.Certificate.{One, Weights, FormSplit, Proof, Plain, BySplit, Derived, TreeNode, Branch, Empty, Bound}
-use Rattle.verdicts.specs.Proves.{lies_above, lies_below, bound_for, meets_columns, in_range, is_whole_form, may_split}
+use Rattle.verdicts.specs.Certificate.{Version, Weights, FormSplit, Proof, Plain, BySplit, Derived, TreeNode, Branch, Empty, Bound}
+use Rattle.verdicts.specs.Proves.{lies_above, lies_below, bound_for, meets_columns, in_range, is_whole_form, usable, may_split}
 use Rattle.cert_check.specs.Setting.{Setting}
 use Rattle.cert_check.specs.Sums.{and_also, with_product, next_answer, all_there, bound_sum, Product, products, weight_products, are_forms}
 use Rattle.certificate.specs.declared.split.Side.{Side}
@@ -67,9 +67,9 @@ shown_answer s w wanted enough = and_also (all_there s w) (and_also (are_forms (
 
 -- ---- derived rows
 
--- the problem alone: no derived rows, no splits
-abbrev pub problem_alone : Problem → Setting
-problem_alone p = record { problem = p; derived = []; sides = [] }
+-- what the proof of a derived row stands on: the problem and, of the rows before it, those that the version lets it use
+abbrev pub proof_setting : Problem → Version → List Derived → Setting
+proof_setting p v before = record { version = v; problem = p; derived = usable v before; sides = [] }
 
 abbrev pub side_weights : FormSplit → Side → Weights
 side_weights s Low = s.low_weights
@@ -96,8 +96,9 @@ abbrev pub proof_answer : Setting → List Entry → Rational → Proof → Resu
 proof_answer st form bound (Plain w) = shown_answer st w (coefficient_of form) (is_at_most bound)
 proof_answer st form bound (BySplit s) = split_answer st s form bound
 
-abbrev pub derived_answer : Problem → Derived → Result Bool NoFit
-derived_answer p d = and_also (Ok (in_range (length p.columns) d.form)) (proof_answer (problem_alone p) d.form d.bound d.proof)
+-- `before` are the derived rows before it
+abbrev pub derived_answer : Problem → Version → List Derived → Derived → Result Bool NoFit
+derived_answer p v before d = and_also (Ok (in_range (length p.columns) d.form)) (proof_answer (proof_setting p v before) d.form d.bound d.proof)
 
 -- ---- nodes
 
@@ -107,6 +108,6 @@ bound_answer s None w = Ok false
 bound_answer s (Some f) w = shown_answer s w (λ j. sign_of s.problem.direction *ℚ coefficient_of s.problem.objective j) (is_at_most (sign_of s.problem.direction *ℚ f))
 
 abbrev pub node_answer : Setting → Option Rational → TreeNode → Result Bool NoFit
-node_answer s goal (Branch b) = Ok (may_split One b.form && is_whole_form s.problem b.form)
+node_answer s goal (Branch b) = Ok (may_split s.version b.form && is_whole_form s.problem b.form)
 node_answer s goal (Empty w) = shown_answer s w (λ j. zero_ℚ) (is_less zero_ℚ)
 node_answer s goal (Bound w) = bound_answer s goal w

@@ -1,11 +1,44 @@
--- Steps of the walk back over the turns on the way to a place.
-use Rattle.std.specs.Prelude.{ℕ, Option, Some, None, Result, Ok, if◌then◌else◌}
+-- The way to a place of a tree: the turns on it from the root on, and steps of the walk back over them.
+use Rattle.std.specs.Prelude.{ℕ, List, [], ◌∷◌, Option, Some, None, Result, Ok, if◌then◌else◌}
 use Rattle.rational.specs.Rational.{Rational, whole}
 use Rattle.fraction.specs.declared.frac.NoFit.{NoFit}
 use Rattle.instance.specs.Sums.{and_then}
-use Rattle.verdicts.specs.Certificate.{Side, Low, High}
+use Rattle.verdicts.specs.Certificate.{TreeNode, Branch, Empty, Bound, Side, Low, High}
 use Rattle.verdicts.specs.Proves.{narrows, greater, lesser}
+use Rattle.certificate.specs.Ways.{side_of, way}
+use Rattle.certificate.specs.declared.split.Turn.{Turn}
 use Rattle.cert_check.specs.Sums.{next_answer}
+
+-- a place in the preorder of a tree
+pub record Place : Type 0 where
+  pub nodes : List TreeNode
+  pub place : ℕ
+
+-- the splits on the way to it, the latest first
+abbrev pub sides_to : Place → List Side
+sides_to p = way p.nodes p.place
+
+abbrev pub turn_side : Turn → Side
+turn_side t = side_of t.split.now t.side
+
+-- turns from the root on, as sides of which the latest stands first, onto earlier ones
+abbrev pub sides_onto : List Side → List Turn → List Side
+sides_onto sides [] = sides
+sides_onto sides (t ∷ ts) = sides_onto (turn_side t ∷ sides) ts
+
+-- the way to the place behind a subtree: from the latest low side to its high side
+abbrev pub turned : List Side → List Side
+turned [] = []
+turned (High s ∷ sides) = turned sides
+turned (Low s ∷ sides) = High s ∷ sides
+
+-- the way to the place behind a node
+abbrev pub past_node : TreeNode → List Side → List Side
+past_node (Branch s) sides = Low s ∷ sides
+past_node (Empty w) sides = turned sides
+past_node (Bound w) sides = turned sides
+
+-- ---- the walk back
 
 -- the greatest lower bound of a column's sides so far, with one more side
 abbrev pub found_lower : Option Rational → Side → ℕ → Result (Option Rational) NoFit

@@ -1,14 +1,14 @@
 // The bounds of columns under the splits on the way to a node.
-ghost use Rattle.std.specs.Prelude.{◌≡◌, ◌≤◌, ◌+ℤ◌, pos, [], length, unsigned_abs, IfSome};
+ghost use Rattle.std.specs.Prelude.{◌≡◌, ◌≤◌, ◌+ℤ◌, pos, [], ◌∷◌, length, unsigned_abs, IfSome};
 ghost use Rattle.fraction.specs.Fits.{part_max};
-ghost use Rattle.verdicts.specs.Proves.{narrows, lower_under, upper_under};
+ghost use Rattle.verdicts.specs.Proves.{unit_column, narrows, lower_under, upper_under};
 ghost use Rattle.certificate.specs.Ways.{side_of, way};
 ghost use Rattle.cert_check.specs.Sums.{next_answer, lower_answer};
 ghost use Rattle.cert_check.specs.Walk.{found_lower, found_upper, merged_lower, merged_upper};
 
 use certificate::{Side, Split, Tree, WholeNumber};
 use fraction::{Frac, NoFit, whole_numbers};
-use instance::{Instance, greater, lesser};
+use instance::{Entry, Instance, greater, lesser};
 
 /// The lower bound of a column at a place: the greatest of its own and of the sums P + 1 on the way, or the first of these
 /// from the place back that does not fit.
@@ -46,11 +46,11 @@ pub fn upper_at(problem: &Instance, tree: &Tree, place: usize, column: u32) -> O
 
 fn with_lower(
     found: Option<Frac>,
-    split: Split,
+    split: &Split,
     side: Side,
     column: u32,
 ) -> Result<Option<Frac>, NoFit>
-    ensures { result ≡ found_lower found (side_of split side) column }
+    ensures { result ≡ found_lower found (side_of split.now side) column }
 {
     match side {
         Side::Low => Ok(found),
@@ -64,8 +64,8 @@ fn with_lower(
     }
 }
 
-fn with_upper(found: Option<Frac>, split: Split, side: Side, column: u32) -> Option<Frac>
-    ensures { result ≡ found_upper found (side_of split side) column }
+fn with_upper(found: Option<Frac>, split: &Split, side: Side, column: u32) -> Option<Frac>
+    ensures { result ≡ found_upper found (side_of split.now side) column }
 {
     match side {
         Side::High => found,
@@ -78,11 +78,34 @@ fn with_upper(found: Option<Frac>, split: Split, side: Side, column: u32) -> Opt
     }
 }
 
-// The split is of the column.
-fn is_split_of(split: Split, column: u32) -> bool
-    ensures { result ≡ narrows split column }
+// The column of a form that is one column with coefficient 1.
+pub(crate) fn unit_column(form: &[Entry]) -> Option<u32>
+    ensures { result ≡ unit_column form.now }
 {
-    split.column() == column
+    match form {
+        [entry] => unit_entry(*entry),
+        _ => None,
+    }
+}
+
+fn unit_entry(entry: Entry) -> Option<u32>
+    ensures { result ≡ unit_column (entry ∷ []) }
+{
+    if entry.coefficient == Frac::one() {
+        Some(entry.column)
+    } else {
+        None
+    }
+}
+
+// The split is one of the column with coefficient 1.
+fn is_split_of(split: &Split, column: u32) -> bool
+    ensures { result ≡ narrows split.now column }
+{
+    match unit_column(split.form().as_slice()) {
+        None => false,
+        Some(own) => own == column,
+    }
 }
 
 // at + 1.
@@ -130,7 +153,8 @@ fn under_own(found: Option<Frac>, problem: &Instance, column: u32) -> Option<Fra
     }
 }
 
-fn own_lower(problem: &Instance, column: u32) -> Option<Frac>
+// The column's own lower bound.
+pub(crate) fn own_lower(problem: &Instance, column: u32) -> Option<Frac>
     ensures { result ≡ lower_under problem.now [] column }
 {
     match problem.columns().get(column as usize) {
@@ -139,7 +163,8 @@ fn own_lower(problem: &Instance, column: u32) -> Option<Frac>
     }
 }
 
-fn own_upper(problem: &Instance, column: u32) -> Option<Frac>
+// The column's own upper bound.
+pub(crate) fn own_upper(problem: &Instance, column: u32) -> Option<Frac>
     ensures { result ≡ upper_under problem.now [] column }
 {
     match problem.columns().get(column as usize) {

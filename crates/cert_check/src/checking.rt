@@ -10,14 +10,21 @@ use crate::derived::check_derived;
 use crate::nodes::check_nodes;
 use crate::part::{CheckFault, Checked, Part};
 use crate::points::{goal_of, point_passes, ray_passes};
+use crate::way::Way;
 use certificate::{Certificate, Verdict};
 use fraction::Frac;
 use instance::Instance;
+use std::alloc::Global;
 
 /// Whether a certificate proves its verdict for a problem: the first part that does not hold, if there is one. A fault is
 /// the first operation on the way, in the order of the parts and of the tests of each, whose result does not fit. It takes
-/// memory for the problem's entries by column; where that is not there it answers the same, and takes longer.
-pub fn check(problem: &Instance, certificate: &Certificate) -> Result<Checked, CheckFault>
+/// memory for the problem's entries by column and for the splits on the way to a node; where that is not there it answers
+/// the same, and takes longer.
+pub fn check(
+    alloc: Global,
+    problem: &Instance,
+    certificate: &Certificate,
+) -> Result<Checked, CheckFault>
     ensures exact { outcome_of result ≡ outcome (trials problem.now certificate.now) }
     ensures accepted { IfOk result (λ r. r ≡ Checked.Accepted → Proves problem.now certificate.now) }
     ensures verdict { IfOk result (λ r. r ≡ Checked.Accepted → Holds problem.now certificate.now certificate.now.verdict) }
@@ -26,19 +33,23 @@ pub fn check(problem: &Instance, certificate: &Certificate) -> Result<Checked, C
     ensures operation { IfErr result (λ e. DoesNotFit e.fault) }
 {
     let _rows = certificate.rows();
-    check_parts(problem, certificate)
+    check_parts(alloc, problem, certificate)
 }
 
 // The parts, up to the first that decides.
-fn check_parts(problem: &Instance, certificate: &Certificate) -> Result<Checked, CheckFault>
+fn check_parts(
+    alloc: Global,
+    problem: &Instance,
+    certificate: &Certificate,
+) -> Result<Checked, CheckFault>
     ensures { outcome_of result ≡ outcome (trials problem.now certificate.now) }
 {
     if !has_size(problem, certificate) {
         return Ok(Checked::Refused(Part::Size));
     }
     match certificate.verdict() {
-        Verdict::Optimal => check_optimal(problem, certificate),
-        Verdict::Infeasible => check_tree(problem, &None, certificate),
+        Verdict::Optimal => check_optimal(alloc, problem, certificate),
+        Verdict::Infeasible => check_tree(alloc, problem, &None, certificate),
         Verdict::Unbounded => check_unbounded(problem, certificate),
     }
 }
@@ -52,7 +63,11 @@ fn has_size(problem: &Instance, certificate: &Certificate) -> bool
 }
 
 // The parts point, value and tree.
-fn check_optimal(problem: &Instance, certificate: &Certificate) -> Result<Checked, CheckFault>
+fn check_optimal(
+    alloc: Global,
+    problem: &Instance,
+    certificate: &Certificate,
+) -> Result<Checked, CheckFault>
     ensures { outcome_of result ≡ outcome (verdict_trials problem.now certificate.now Optimal) }
 {
     let point = certificate.point();
@@ -62,12 +77,16 @@ fn check_optimal(problem: &Instance, certificate: &Certificate) -> Result<Checke
             fault,
         }),
         Ok(false) => Ok(Checked::Refused(Part::Point)),
-        Ok(true) => check_value(problem, certificate),
+        Ok(true) => check_value(alloc, problem, certificate),
     }
 }
 
 // The parts value and tree. A leaf without better points is tested against the value of the objective's form.
-fn check_value(problem: &Instance, certificate: &Certificate) -> Result<Checked, CheckFault>
+fn check_value(
+    alloc: Global,
+    problem: &Instance,
+    certificate: &Certificate,
+) -> Result<Checked, CheckFault>
     ensures { outcome_of result ≡ outcome (value_trials problem.now certificate.now) }
 {
     let point = certificate.point();
@@ -77,7 +96,7 @@ fn check_value(problem: &Instance, certificate: &Certificate) -> Result<Checked,
             fault,
         }),
         Ok(None) => Ok(Checked::Refused(Part::Value)),
-        Ok(Some(goal)) => check_tree(problem, &Some(goal), certificate),
+        Ok(Some(goal)) => check_tree(alloc, problem, &Some(goal), certificate),
     }
 }
 
@@ -114,17 +133,19 @@ fn check_ray(problem: &Instance, certificate: &Certificate) -> Result<Checked, C
 // The derived rows, and then the nodes.
 #[tactic(auto, using(crate::proofs::Trials::trials_then))]
 fn check_tree(
+    alloc: Global,
     problem: &Instance,
     goal: &Option<Frac>,
     certificate: &Certificate,
 ) -> Result<Checked, CheckFault>
     ensures { outcome_of result ≡ outcome (tree_trials problem.now goal.now certificate.now) }
 {
+    let version = certificate.version();
     let derived = certificate.derived().as_slice();
-    let tree = certificate.tree();
+    let mut way = Way::root(alloc, certificate.tree());
     let problem = ByColumn::new(problem);
-    match check_derived(&problem, tree, derived)? {
-        Checked::Accepted => check_nodes(&problem, goal, derived, tree),
+    match check_derived(&problem, version, &way, derived)? {
+        Checked::Accepted => check_nodes(version, &problem, goal, derived, &mut way),
         Checked::Refused(part) => Ok(Checked::Refused(part)),
     }
 }

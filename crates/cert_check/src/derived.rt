@@ -1,21 +1,22 @@
 // The test of derived rows.
-ghost use Rattle.std.specs.Prelude.{◌≡◌, ◌&&◌, IsTrue, length, slice_get, neg_ℤ};
+ghost use Rattle.std.specs.Prelude.{◌≡◌, ◌&&◌, IsTrue, [], length, slice_get, neg_ℤ};
 ghost use Rattle.rational.specs.Rational.{zero_ℚ};
 ghost use Rattle.rational.specs.Compare.{is_at_most, is_whole};
 ghost use Rattle.verdicts.specs.WeightedSums.{coefficient_of};
-ghost use Rattle.verdicts.specs.Proves.{in_range, is_integer, is_whole_form};
-ghost use Rattle.certificate.specs.Values.{proof_of};
-ghost use Rattle.cert_check.specs.Sums.{weight_products};
-ghost use Rattle.cert_check.specs.Parts.{ascending, problem_alone, side_bound, side_answer, shown_answer, split_answer, proof_answer, derived_answer};
+ghost use Rattle.verdicts.specs.Proves.{in_range, is_integer, is_whole_form, usable};
+ghost use Rattle.certificate.specs.Values.{proof_of, version_of};
+ghost use Rattle.cert_check.specs.Parts.{ascending, side_bound, side_answer, shown_answer, split_answer, proof_answer, derived_answer};
 ghost use Rattle.cert_check.specs.Outcome.{outcome, outcome_of, derived_trials};
 
 use crate::bounds::next;
 use crate::by_column::ByColumn;
 use crate::forms::{is_form, is_side_form, weights_of};
+use crate::named::Named;
 use crate::part::{CheckFault, Checked, Part};
 use crate::setting::Setting;
 use crate::sums::{all_there, bound_sum, with_product};
-use certificate::{Derived, FormSplit, Proof, Side, Tree, Weights};
+use crate::way::Way;
+use certificate::{Derived, FormSplit, Proof, Side, Version, Weights};
 use fraction::{Frac, NoFit};
 use instance::{Entry, Instance};
 
@@ -33,7 +34,7 @@ fn in_range(problem: &Instance, form: &[Entry]) -> bool
 }
 
 // There is a column at the index, and it is integer.
-pub(crate) fn is_integer(problem: &Instance, column: u32) -> bool
+fn is_integer(problem: &Instance, column: u32) -> bool
     ensures { result ≡ is_integer (slice_get problem.now.columns column) }
 {
     match problem.columns().get(column as usize) {
@@ -49,7 +50,7 @@ fn is_whole_entry(problem: &Instance, entry: Entry) -> bool
 }
 
 // The form is whole at each feasible point: whole coefficients on integer columns alone.
-fn is_whole_form(problem: &Instance, form: &[Entry]) -> bool
+pub(crate) fn is_whole_form(problem: &Instance, form: &[Entry]) -> bool
     ensures { result ≡ is_whole_form problem.now form.now }
 {
     for entry in form {
@@ -88,15 +89,15 @@ fn side_passes(
     requires { IsTrue (ascending 0 form.now) }
     ensures { result ≡ side_answer setting.now split.now side form.now bound }
 {
-    let weights = weights_of(split, side);
-    if !all_there(setting, weights)? {
+    let weights = Named::without_splits(weights_of(split, side));
+    if !all_there(setting, &weights)? {
         return Ok(false);
     }
     if !is_side_form(setting, split, side, form)? {
         return Ok(false);
     }
     let start = side_bound(split, side)?;
-    let sum = bound_sum(setting, start, weights)?;
+    let sum = bound_sum(setting, start, &weights)?;
     Ok(bound <= sum)
 }
 
@@ -137,13 +138,14 @@ fn plain_passes(
     requires { IsTrue (ascending 0 form.now) }
     ensures { result ≡ shown_answer setting.now weights.now (coefficient_of form.now) (is_at_most bound) }
 {
-    if !all_there(setting, weights)? {
+    let weights = Named::without_splits(weights);
+    if !all_there(setting, &weights)? {
         return Ok(false);
     }
-    if !is_form(setting, weights, form, None)? {
+    if !is_form(setting, &weights, form, None)? {
         return Ok(false);
     }
-    let sum = bound_sum(setting, Frac::zero(), weights)?;
+    let sum = bound_sum(setting, Frac::zero(), &weights)?;
     Ok(bound <= sum)
 }
 
@@ -162,29 +164,48 @@ fn proof_passes(
     }
 }
 
-// A derived row follows from the problem.
-pub(crate) fn derived_passes(problem: &ByColumn, tree: &Tree, row: &Derived) -> Result<bool, NoFit>
-    ensures { result ≡ derived_answer problem.now row.now }
+// A derived row follows from the problem and the rows before it that its version lets it use.
+pub(crate) fn derived_passes(
+    problem: &ByColumn,
+    version: Version,
+    before: &[Derived],
+    root: &Way,
+    row: &Derived,
+) -> Result<bool, NoFit>
+    requires { root.now.place ≡ 0 }
+    ensures { result ≡ derived_answer problem.now (version_of version) before.now row.now }
 {
     let form = row.form().as_slice();
     if !in_range(problem.problem(), form) {
         return Ok(false);
     }
-    let setting = Setting::alone(problem, tree);
+    let setting = Setting::of_node(version, problem, usable(version, before), root);
     proof_passes(&setting, form, row.bound(), row.proof())
 }
 
-// The first derived row that does not follow from the problem, if there is one.
+// The derived rows that the proof of the next one may use.
+fn usable(version: Version, before: &[Derived]) -> &[Derived]
+    ensures { result.now ≡ usable (version_of version) before.now }
+{
+    match version {
+        Version::One => &[],
+        Version::Two => before,
+    }
+}
+
+// The first derived row that does not follow, if there is one.
 pub(crate) fn check_derived(
     problem: &ByColumn,
-    tree: &Tree,
+    version: Version,
+    root: &Way,
     rows: &[Derived],
 ) -> Result<Checked, CheckFault>
-    ensures { outcome_of result ≡ outcome (derived_trials problem.now 1 rows.now) }
+    requires { root.now.place ≡ 0 }
+    ensures { outcome_of result ≡ outcome (derived_trials problem.now (version_of version) 1 [] rows.now) }
 {
     for (k, row) in rows.iter().enumerate() {
         let part = Part::DerivedRow(k + 1);
-        match derived_passes(problem, tree, row) {
+        match derived_passes(problem, version, &rows[..k], root, row) {
             Err(fault) => return Err(CheckFault { part, fault }),
             Ok(false) => return Ok(Checked::Refused(part)),
             Ok(true) => {}

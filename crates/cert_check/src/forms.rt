@@ -1,14 +1,14 @@
 // Whether weights make a form.
 ghost use Rattle.std.specs.Prelude.{◌<◌, length, ◌≡◌, ◌++◌, IsTrue};
-ghost use Rattle.rational.specs.Rational.{zero_ℚ, whole};
-ghost use Rattle.std.specs.Prelude.{negsuc, [], ◌∷◌};
-ghost use Rattle.verdicts.specs.WeightedSums.{coefficient_of, scaled};
-ghost use Rattle.cert_check.specs.Sums.{products, with_products, weight_products, are_forms};
-ghost use Rattle.cert_check.specs.Parts.{problem_alone, side_weights, side_products, ascending, signed_by};
+ghost use Rattle.rational.specs.Rational.{zero_ℚ};
+ghost use Rattle.verdicts.specs.WeightedSums.{coefficient_of};
+ghost use Rattle.cert_check.specs.Sums.{with_products, weight_products, are_forms};
+ghost use Rattle.cert_check.specs.Parts.{side_weights, side_products, ascending, signed_by};
 
 use crate::lookup::entry_of;
+use crate::named::Named;
 use crate::setting::Setting;
-use crate::sums::{column_sum, with_form, with_product};
+use crate::sums::{column_sum, with_coefficient, with_negative_coefficient};
 use certificate::{FormSplit, Side, Weights};
 use fraction::{Frac, NoFit};
 use instance::{Entry, signed};
@@ -41,7 +41,7 @@ fn wanted_at(form: &[Entry], sign: Option<Direction>, column: u32) -> Frac
 // F is the form, with the sign of a direction where there is one: column by column, up to the first that differs.
 pub(crate) fn is_form(
     setting: &Setting,
-    weights: &Weights,
+    weights: &Named,
     wanted: &[Entry],
     sign: Option<Direction>,
 ) -> Result<bool, NoFit>
@@ -60,36 +60,15 @@ pub(crate) fn is_form(
     Ok(true)
 }
 
-// A total plus a weight times the negative of an entry's coefficient, where the entry is of the column.
-fn with_negative_entry(total: Frac, weight: Frac, entry: Entry, column: u32) -> Result<Frac, NoFit>
-    ensures { result ≡ with_products total (products weight (scaled (whole (negsuc 0)) (entry ∷ [])) column) }
-{
-    if entry.column == column {
-        with_product(total, weight, signed(Direction::Max, entry.coefficient))
-    } else {
-        Ok(total)
-    }
-}
-
-// A total plus a weight times the coefficients of a column in the negative of a form.
-fn with_negative_form(start: Frac, weight: Frac, form: &[Entry], column: u32) -> Result<Frac, NoFit>
-    ensures { result ≡ with_products start (products weight (scaled (whole (negsuc 0)) form.now) column) }
-{
-    let mut total = start;
-    for entry in form {
-        total = with_negative_entry(total, weight, *entry, column)?;
-    }
-    Ok(total)
-}
-
 // What the inequality of a split's side adds to F at a column.
 fn side_sum(split: &FormSplit, side: Side, column: u32) -> Result<Frac, NoFit>
     ensures { result ≡ with_products zero_ℚ (side_products split.now side column) }
 {
+    let _at = split.at();
     let form = split.form().as_slice();
     match side {
-        Side::Low => with_negative_form(Frac::zero(), split.low(), form, column),
-        Side::High => with_form(Frac::zero(), split.high(), form, column),
+        Side::Low => with_negative_coefficient(Frac::zero(), split.low(), form, column),
+        Side::High => with_coefficient(Frac::zero(), split.high(), form, column),
     }
 }
 
@@ -105,7 +84,8 @@ fn side_column_sum(
     ensures { result ≡ with_products zero_ℚ (side_products split.now side column ++ weight_products setting.now (side_weights split.now side) column) }
 {
     let start = side_sum(split, side, column)?;
-    column_sum(setting, weights_of(split, side), column, start)
+    let weights = Named::without_splits(weights_of(split, side));
+    column_sum(setting, &weights, column, start)
 }
 
 // The other weights of a split's side.

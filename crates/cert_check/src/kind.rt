@@ -9,4 +9,6 @@ pub(crate) enum Kind {
     OfColumn,
     /// Derived rows of the certificate.
     OfDerived,
+    /// Splits on the way to a leaf, the first from the root first.
+    OfSplit,
 }

@@ -3,15 +3,17 @@ ghost use Rattle.std.specs.Prelude.{◌≡◌, ◌≤◌, [], ◌∷◌, length,
 ghost use Rattle.rational.specs.Rational.{one_ℚ};
 ghost use Rattle.verdicts.specs.Proves.{same_form};
 ghost use Rattle.cert_check.specs.Made.{made_form};
-ghost use Rattle.verdicts.specs.Certificate.{Empty, Bound};
+ghost use Rattle.verdicts.specs.Certificate.{One, Empty, Bound};
 ghost use Rattle.certificate.specs.Ways.{way};
 ghost use Rattle.cert_check.specs.Parts.{node_answer};
 
 use crate::by_column::ByColumn;
 use crate::forms::is_form;
+use crate::named::Named;
 use crate::nodes::{bound_passes, empty_passes};
 use crate::setting::Setting;
-use certificate::{Derived, Tree, Weights};
+use crate::way::Way;
+use certificate::{Derived, Tree, Version, Weights};
 use fraction::{Frac, NoFit};
 use instance::{Entry, Instance};
 
@@ -25,11 +27,12 @@ pub fn shows_no_point(
     weights: &Weights,
 ) -> Result<bool, NoFit>
     requires { place ≤ length tree.now }
-    ensures { result ≡ node_answer (record { problem = problem.now; derived = derived.now; sides = way tree.now place }) None (Empty weights.now) }
+    ensures { result ≡ node_answer (record { version = One; problem = problem.now; derived = derived.now; sides = way tree.now place }) None (Empty weights.now) }
 {
     let problem = ByColumn::new(problem);
-    let setting = Setting::of_node(&problem, derived, tree, place);
-    empty_passes(&setting, weights)
+    let way = Way::at(tree, place);
+    let setting = Setting::of_node(Version::One, &problem, derived, &way);
+    empty_passes(&setting, &Named::without_splits(weights))
 }
 
 /// Whether the weights show that no point there has a better value of the objective's form than this one: the test of a
@@ -44,11 +47,12 @@ pub fn shows_none_better(
     value: Frac,
 ) -> Result<bool, NoFit>
     requires { place ≤ length tree.now }
-    ensures { result ≡ node_answer (record { problem = problem.now; derived = derived.now; sides = way tree.now place }) (Some value) (Bound weights.now) }
+    ensures { result ≡ node_answer (record { version = One; problem = problem.now; derived = derived.now; sides = way tree.now place }) (Some value) (Bound weights.now) }
 {
     let problem = ByColumn::new(problem);
-    let setting = Setting::of_node(&problem, derived, tree, place);
-    bound_passes(&setting, weights, value)
+    let way = Way::at(tree, place);
+    let setting = Setting::of_node(Version::One, &problem, derived, &way);
+    bound_passes(&setting, &Named::without_splits(weights), value)
 }
 
 /// Whether the weights make a column alone: the rows, columns and derived rows that they name, each times its weight, have
@@ -63,13 +67,15 @@ pub fn makes_column(
     column: u32,
 ) -> Result<bool, NoFit>
     requires { place ≤ length tree.now }
-    ensures { IfOk result (λ b. b ≡ same_form (length problem.now.columns) (made_form (record { problem = problem.now; derived = derived.now; sides = way tree.now place }) weights.now) (record { column = column; coefficient = one_ℚ } ∷ [])) }
+    ensures { IfOk result (λ b. b ≡ same_form (length problem.now.columns) (made_form (record { version = One; problem = problem.now; derived = derived.now; sides = way tree.now place }) weights.now) (record { column = column; coefficient = one_ℚ } ∷ [])) }
 {
     let problem = ByColumn::new(problem);
-    let setting = Setting::of_node(&problem, derived, tree, place);
+    let way = Way::at(tree, place);
+    let setting = Setting::of_node(Version::One, &problem, derived, &way);
     let alone = [Entry {
         column,
         coefficient: Frac::one(),
     }];
-    is_form(&setting, weights, &alone, None)
+    let _rows = weights.rows();
+    is_form(&setting, &Named::without_splits(weights), &alone, None)
 }

@@ -9,11 +9,14 @@ mod forms;
 mod kind;
 mod leaves;
 mod lookup;
+mod named;
 mod nodes;
 mod part;
 mod points;
 mod setting;
 mod sums;
+mod turns;
+mod way;
 
 pub use bounds::{lower_at, upper_at};
 pub use checking::check;

@@ -13,9 +13,9 @@ pub enum Part {
     Value,
     /// The ray improves without end.
     Ray,
-    /// The derived row follows from the problem.
+    /// The derived row follows from the problem, and from the rows before it where its version lets it use them.
     DerivedRow(usize),
-    /// The node of the tree, in preorder, is a branch on an integer column, or its weights show what it says.
+    /// The node of the tree, in preorder, is a split of a whole form of its version, or its weights show what it says.
     Node(usize),
 }
 

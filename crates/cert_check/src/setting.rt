@@ -1,96 +1,111 @@
 // What weights stand on at a node.
-ghost use Rattle.std.specs.Prelude.{◌≡◌, ◌≤◌, length};
-ghost use Rattle.verdicts.specs.Proves.{upper_under};
-ghost use Rattle.certificate.specs.Ways.{way};
+ghost use Rattle.std.specs.Prelude.{◌≡◌};
+ghost use Rattle.std.specs.Option.{option_map};
+ghost use Rattle.verdicts.specs.Proves.{upper_under, way_get, narrowed, taken};
+ghost use Rattle.certificate.specs.Values.{version_of};
 ghost use Rattle.cert_check.specs.Sums.{lower_answer};
-ghost use Rattle.cert_check.specs.Parts.{problem_alone};
+ghost use Rattle.cert_check.specs.Walk.{sides_to, turn_side};
 
-use crate::bounds::{lower_at, upper_at};
+use crate::bounds::{own_lower, own_upper};
 use crate::by_column::ByColumn;
-use certificate::{Derived, Tree};
+use crate::way::Way;
+use certificate::{Derived, Turn, Version};
 use fraction::{Frac, NoFit};
 use instance::Instance;
 use std::marker::Model;
 
-// The problem, the derived rows that weights may name, and the place of a node in a tree.
+// The version, the problem, the derived rows that weights may name, and the way to a node of a tree.
 #[derive(Drop)]
-pub(crate) struct Setting<'a> {
-    problem: &'a ByColumn<'a>,
-    derived: &'a [Derived],
-    tree: &'a Tree,
-    place: usize,
+pub(crate) struct Setting<'s, 't> {
+    version: Version,
+    problem: &'s ByColumn<'s>,
+    derived: &'s [Derived],
+    way: &'s Way<'t>,
 }
 
-impl<'a> Model for Setting<'a> {
-    ghost use Rattle.std.specs.Prelude.{◌≤◌, length};
-    ghost use Rattle.certificate.specs.Ways.{way};
+impl<'s, 't> Model for Setting<'s, 't> {
+    ghost use Rattle.certificate.specs.Values.{version_of};
     ghost use Rattle.cert_check.specs.Setting.{Setting as SettingOf};
+    ghost use Rattle.cert_check.specs.Walk.{sides_to};
 
     ghost Value = { SettingOf };
 
-    ghost view = { λ s. record { problem = s.problem.now; derived = s.derived.now; sides = way s.tree.now s.place } };
-
-    ghost invariant = { λ s. s.place ≤ length s.tree.now };
+    ghost view = { λ s. record { version = version_of s.version; problem = s.problem.now; derived = s.derived.now; sides = sides_to s.way.now } };
 }
 
-impl<'a> Setting<'a> {
+impl<'s, 't> Setting<'s, 't> {
     // A node of a tree.
     pub(crate) fn of_node(
-        problem: &'a ByColumn<'a>,
-        derived: &'a [Derived],
-        tree: &'a Tree,
-        place: usize,
+        version: Version,
+        problem: &'s ByColumn<'s>,
+        derived: &'s [Derived],
+        way: &'s Way<'t>,
     ) -> Self
-        requires { place ≤ length tree.now }
-        ensures { result ≡ record { problem = problem.now; derived = derived.now; sides = way tree.now place } }
+        ensures { result ≡ record { version = version_of version; problem = problem.now; derived = derived.now; sides = sides_to way.now } }
     {
         Setting {
+            version,
             problem,
             derived,
-            tree,
-            place,
+            way,
         }
     }
 
-    // The problem alone: no derived rows, no splits.
-    pub(crate) fn alone(problem: &'a ByColumn<'a>, tree: &'a Tree) -> Self
-        ensures { result ≡ problem_alone problem.now }
+    // The version.
+    pub(crate) fn version(&self) -> Version
+        ensures { version_of result ≡ self.now.version }
     {
-        Setting::of_node(problem, &[], tree, 0)
+        self.version
     }
 
     // The problem.
-    pub(crate) fn problem(&self) -> &'a Instance
+    pub(crate) fn problem(&self) -> &'s Instance
         ensures { result.now ≡ self.now.problem }
     {
         self.problem.problem()
     }
 
     // The problem with its entries by column.
-    pub(crate) fn by_column(&self) -> &'a ByColumn<'a>
+    pub(crate) fn by_column(&self) -> &'s ByColumn<'s>
         ensures { result.now ≡ self.now.problem }
     {
         self.problem
     }
 
     // The derived rows.
-    pub(crate) fn derived(&self) -> &'a [Derived]
+    pub(crate) fn derived(&self) -> &'s [Derived]
         ensures { result.now ≡ self.now.derived }
     {
         self.derived
     }
 
-    // The lower bound of a column under the splits on the way, or the sum P + 1 that does not fit.
+    // The lower bound of a column under the splits that narrow bounds, or the sum P + 1 that does not fit.
     pub(crate) fn lower(&self, column: u32) -> Result<Option<Frac>, NoFit>
-        ensures { result ≡ lower_answer self.now.problem self.now.sides column }
+        ensures { result ≡ lower_answer self.now.problem (narrowed self.now.version self.now.sides) column }
     {
-        lower_at(self.problem(), self.tree, self.place, column)
+        match self.version {
+            Version::One => self.way.lower(self.problem(), column),
+            Version::Two => Ok(own_lower(self.problem(), column)),
+        }
     }
 
-    // The upper bound of a column under the splits on the way.
+    // The upper bound of a column under the splits that narrow bounds.
     pub(crate) fn upper(&self, column: u32) -> Option<Frac>
-        ensures { result ≡ upper_under self.now.problem self.now.sides column }
+        ensures { result ≡ upper_under self.now.problem (narrowed self.now.version self.now.sides) column }
     {
-        upper_at(self.problem(), self.tree, self.place, column)
+        match self.version {
+            Version::One => self.way.upper(self.problem(), column),
+            Version::Two => own_upper(self.problem(), column),
+        }
+    }
+
+    // The turn at the i-th split from the root, where weights may name splits.
+    pub(crate) fn turn(&self, i: u32) -> Option<Turn<'t>>
+        ensures { option_map turn_side result ≡ way_get (taken self.now.version self.now.sides) i }
+    {
+        match self.version {
+            Version::One => None,
+            Version::Two => self.way.turn(i as usize),
+        }
     }
 }

@@ -8,7 +8,7 @@ use Rattle.certificate.specs.declared.split.Side.TheVariants.{Low, High}
 use Rattle.certificate.specs.declared.tree.Parent.{Parent}
 use Rattle.certificate.specs.declared.split.Turn.{Turn}
 use Rattle.certificate.specs.Ways.{side_of, way, IsLastTurn}
-use Rattle.certificate.specs.Parents.{turn_under, parent_to, parent_of}
+use Rattle.certificate.specs.Parents.{IsTurnUnder, parent_to, parent_of}
 use Rattle.certificate.proofs.Elements.{back, element_at}
 
 -- the nodes before a place, the latest first
@@ -125,11 +125,18 @@ no_turn nodes n h e = is_above nodes n 0 None h (sym e)
 pub parent_before : (nodes : List TreeNode) (n : ℕ) (p : Parent) → n ≤ length nodes → Some p ≡ parent_of nodes n → p.place < n
 parent_before nodes n p h e = (is_above nodes n 0 (Some p) h (sym e)).0
 
-pub turn_is : (nodes : List TreeNode) (n : ℕ) (p : Parent) (x : TreeNode) (t : Option Turn) → n ≤ length nodes → Some p ≡ parent_of nodes n → x ≡ get_or nodes p.place x → t ≡ turn_under x p → IsLastTurn nodes n t
+-- the turn to a branch above is the last one
+last : (nodes : List TreeNode) (n : ℕ) (p : Parent) (s : Split) (t : Option Turn) → p.place < n → way nodes n ≡ side_of s p.side ∷ way nodes p.place → IsTurnUnder (Branch s) p t → IsLastTurn nodes n t
+last nodes n p s None less is under = absurd under
+last nodes n p s (Some t) less is under =
+    let at_place : way nodes n ≡ side_of s p.side ∷ way nodes t.place = subst (λ k. way nodes n ≡ side_of s p.side ∷ way nodes k) (sym under.place) is in
+    let on_side : way nodes n ≡ side_of s t.side ∷ way nodes t.place = subst (λ d. way nodes n ≡ side_of s d ∷ way nodes t.place) (sym under.side) at_place in
+    (subst (λ k. k < n) (sym under.place) less, subst (λ u. way nodes n ≡ side_of u t.side ∷ way nodes t.place) (sym under.split_is) on_side)
+
+pub turn_is : (nodes : List TreeNode) (n : ℕ) (p : Parent) (x : TreeNode) (t : Option Turn) → n ≤ length nodes → Some p ≡ parent_of nodes n → x ≡ get_or nodes p.place x → IsTurnUnder x p t → IsLastTurn nodes n t
 turn_is nodes n p x t h e is turn =
     let all = is_above nodes n 0 (Some p) h (sym e) in
     let branch : Branch all.1 ≡ x = sym (all.2 x) ∙ sym is in
-    let made : Some (record { place = p.place; split = all.1; side = p.side }) ≡ t = ap (λ y. turn_under y p) branch ∙ sym turn in
-    subst (IsLastTurn nodes n) made (all.0, all.3)
+    last nodes n p all.1 t all.0 all.3 (subst (λ y. IsTurnUnder y p t) (sym branch) turn)
 
 -- ---- what the nodes stand for

@@ -1,6 +1,6 @@
 -- The branch above a place of a tree.
 use Rattle.std.specs.Prelude.{ℕ, zero, suc, ◌<◌, ◌≡◌, List, [], ◌∷◌, length, take, reverse, get_or, Option, Some, None}
-use Rattle.verdicts.specs.Certificate.{TreeNode, Branch, Empty, Bound}
+use Rattle.verdicts.specs.Certificate.{Split, TreeNode, Branch, Empty, Bound}
 use Rattle.certificate.specs.declared.split.Side.TheVariants.{Low, High}
 use Rattle.certificate.specs.declared.split.Turn.{Turn}
 use Rattle.certificate.specs.declared.tree.Parent.{Parent}
@@ -23,8 +23,15 @@ pub record AreParents (nodes : List TreeNode) (parents : List (Option Parent)) :
   pub count : length parents ≡ length nodes
   pub each : (place : ℕ) → place < length nodes → get_or parents place None ≡ parent_of nodes place
 
--- the turn to this side of a branch
-abbrev pub turn_under : TreeNode → Parent → Option Turn
-turn_under (Branch s) p = Some (record { place = p.place; split = s; side = p.side })
-turn_under (Empty w) p = None
-turn_under (Bound w) p = None
+-- the turn to the side of a branch that is above
+pub record IsTurnOf (split : Split) (p : Parent) (t : Turn) : Type 0 where
+  pub place : t.place ≡ p.place
+  pub split_is : t.split.now ≡ split
+  pub side : t.side ≡ p.side
+
+-- the turn to this side of a node, which is a branch
+abbrev pub IsTurnUnder : TreeNode → Parent → Option Turn → Type 0
+IsTurnUnder (Branch s) p None = ⊥
+IsTurnUnder (Branch s) p (Some t) = IsTurnOf s p t
+IsTurnUnder (Empty w) p t = t ≡ None
+IsTurnUnder (Bound w) p t = t ≡ None

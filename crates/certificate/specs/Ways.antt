@@ -7,7 +7,7 @@ use Rattle.certificate.specs.declared.split.Side.{Side}
 use Rattle.certificate.specs.declared.split.Side.TheVariants.{Low, High}
 use Rattle.certificate.specs.declared.split.Turn.{Turn}
 
--- a side of a column's split
+-- a side of a split
 abbrev pub side_of : Split → Side → SideOf
 side_of s Low = of.Low s
 side_of s High = of.High s
@@ -19,4 +19,4 @@ way nodes place = way_to (reverse (take place nodes)) 0
 -- the last turn on the way to a place, and the place of the branch where it is taken; none at the root
 abbrev pub IsLastTurn : List TreeNode → ℕ → Option Turn → Type 0
 IsLastTurn nodes place None = way nodes place ≡ []
-IsLastTurn nodes place (Some t) = (t.place < place) × (way nodes place ≡ side_of t.split t.side ∷ way nodes t.place)
+IsLastTurn nodes place (Some t) = (t.place < place) × (way nodes place ≡ side_of t.split.now t.side ∷ way nodes t.place)

@@ -5,7 +5,7 @@ use Rattle.rational.specs.Rational.{Rational, one_ℚ}
 use Rattle.fraction.specs.Fits.{num_fits, fits}
 use Rattle.milp.specs.Form.{Entry}
 use Rattle.instance.specs.WellFormed.{are_entries}
-use Rattle.verdicts.specs.Certificate.{One, Verdict, Optimal, Infeasible, Unbounded, Item, Weights, Split, FormSplit, Proof, Plain, BySplit, Derived, TreeNode, Branch, Empty, Bound, Certificate}
+use Rattle.verdicts.specs.Certificate.{Version, One, Two, Verdict, Optimal, Infeasible, Unbounded, Item, Weights, Split, FormSplit, Proof, Plain, BySplit, Derived, TreeNode, Branch, Empty, Bound, Certificate}
 
 -- the greatest count or index of a text, where indices count from 1
 abbrev pub count_max : ℕ
@@ -33,11 +33,19 @@ abbrev pub AreItemsFrom : ℕ → List Item → Type 0
 AreItemsFrom least [] = Unit {0}
 AreItemsFrom least (i ∷ is) = (least ≤ rank_of i) × IsItem i × AreItemsFrom (rank_of i + 1) is
 
+-- weights of rows, columns and derived rows alone
 pub record AreWeights (w : Weights) : Type 0 where
   pub rows : AreItemsFrom 0 w.rows
   pub columns : AreItemsFrom 0 w.columns
   pub derived : AreItemsFrom 0 w.derived
   pub splits : w.splits ≡ []
+
+-- the weights of a leaf
+pub record AreLeafWeights (w : Weights) : Type 0 where
+  pub rows : AreItemsFrom 0 w.rows
+  pub columns : AreItemsFrom 0 w.columns
+  pub derived : AreItemsFrom 0 w.derived
+  pub splits : AreItemsFrom 0 w.splits
 
 -- entries in ascending order of column, none with the coefficient 0
 pub record IsForm (form : List Entry) : Type 0 where
@@ -61,9 +69,14 @@ abbrev pub split_column : Split → ℕ
 split_column s = first_column s.form
 
 -- a split of one column
-pub record IsSplit (s : Split) : Type 0 where
+pub record IsColumnSplit (s : Split) : Type 0 where
   pub form : s.form ≡ column_form (split_column s)
   pub column : split_column s < count_max
+  pub at : IsTrue (num_fits s.at)
+
+-- a split of any form
+pub record IsSplit (s : Split) : Type 0 where
+  pub form : IsForm s.form
   pub at : IsTrue (num_fits s.at)
 
 pub record IsFormSplit (s : FormSplit) : Type 0 where
@@ -85,8 +98,19 @@ pub record IsDerived (d : Derived) : Type 0 where
 
 abbrev pub IsNode : TreeNode → Type 0
 IsNode (Branch s) = IsSplit s
-IsNode (Empty w) = AreWeights w
-IsNode (Bound w) = AreWeights w
+IsNode (Empty w) = AreLeafWeights w
+IsNode (Bound w) = AreLeafWeights w
+
+-- a node for which version 1 has a line: a split of one column, or weights that name no split
+abbrev pub IsOfOne : TreeNode → Type 0
+IsOfOne (Branch s) = s.form ≡ column_form (split_column s)
+IsOfOne (Empty w) = w.splits ≡ []
+IsOfOne (Bound w) = w.splits ≡ []
+
+-- nodes for which a version has lines
+abbrev pub AreOf : Version → List TreeNode → Type 0
+AreOf One nodes = AllByRecursion IsOfOne nodes
+AreOf Two nodes = Unit {0}
 
 -- how many places are open once a node fills one of these and more
 abbrev pub open_after : TreeNode → ℕ → ℕ
@@ -110,10 +134,11 @@ pub record IsPoint (count : ℕ) (x : List Rational) : Type 0 where
   pub size : length x ≡ count
   pub numbers : AllByRecursion (λ v. IsTrue (fits v)) x
 
-pub record HasTree (derived : List Derived) (tree : List TreeNode) : Type 0 where
+pub record HasTree (version : Version) (derived : List Derived) (tree : List TreeNode) : Type 0 where
   pub count : length derived ≤ count_max
   pub rows : AllByRecursion IsDerived derived
   pub nodes : AllByRecursion IsNode tree
+  pub lines : AreOf version tree
   pub whole : IsTrue (is_tree tree)
 
 abbrev pub HasPoint : ℕ → Option (List Rational) → Type 0
@@ -127,13 +152,12 @@ HasValue (Some v) = IsTrue (fits v)
 -- which parts a verdict has: optimal a value, a point, derived rows and a tree; infeasible derived rows and a tree;
 -- unbounded a point and a ray
 abbrev pub HasParts : Certificate → Verdict → Type 0
-HasParts c Optimal = HasValue c.value × HasPoint c.columns c.point × (c.ray ≡ None) × HasTree c.derived c.tree
-HasParts c Infeasible = (c.value ≡ None) × (c.point ≡ None) × (c.ray ≡ None) × HasTree c.derived c.tree
+HasParts c Optimal = HasValue c.value × HasPoint c.columns c.point × (c.ray ≡ None) × HasTree c.version c.derived c.tree
+HasParts c Infeasible = (c.value ≡ None) × (c.point ≡ None) × (c.ray ≡ None) × HasTree c.version c.derived c.tree
 HasParts c Unbounded = (c.value ≡ None) × HasPoint c.columns c.point × HasPoint c.columns c.ray × (c.derived ≡ []) × (c.tree ≡ [])
 
--- the certificate has a text
+-- the certificate has a text in its version
 pub record HasText (c : Certificate) : Type 0 where
-  pub version : c.version ≡ One
   pub rows : c.rows ≤ count_max
   pub columns : c.columns ≤ count_max
   pub parts : HasParts c c.verdict

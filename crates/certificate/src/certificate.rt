@@ -3,9 +3,9 @@ ghost use Rattle.std.specs.Prelude.{◌≡◌, [], length, IsTrue, Some, None};
 ghost use Rattle.std.specs.Option.{option_map};
 ghost use Rattle.std.specs.List.{AllByRecursion};
 ghost use Rattle.fraction.specs.Fits.{fits};
-ghost use Rattle.verdicts.specs.Certificate.{One, Optimal as is_optimal, Infeasible as is_infeasible, Unbounded as is_unbounded};
-ghost use Rattle.certificate.specs.Written.{is_tree, HasText};
-ghost use Rattle.certificate.specs.Values.{verdict_of};
+ghost use Rattle.verdicts.specs.Certificate.{Optimal as is_optimal, Infeasible as is_infeasible, Unbounded as is_unbounded};
+ghost use Rattle.certificate.specs.Written.{is_tree, AreOf, HasText};
+ghost use Rattle.certificate.specs.Values.{version_of, verdict_of};
 
 use crate::whole::parts_fit;
 use crate::{DerivedRows, Tree};
@@ -13,6 +13,15 @@ use fraction::Frac;
 use instance::Point;
 use std::alloc::Global;
 use std::marker::Model;
+
+/// How a certificate says what it shows.
+#[derive(Clone, Copy, Debug, PartialEq, Eq)]
+pub enum Version {
+    /// Splits of single columns narrow their bounds, and derived rows rest on the problem's own rows alone.
+    One,
+    /// Splits of any form have weights of their own, and derived rows may rest on those before them.
+    Two,
+}
 
 /// What is shown of a problem.
 #[derive(Clone, Copy, Debug, PartialEq, Eq)]
@@ -25,9 +34,10 @@ pub enum Verdict {
     Unbounded,
 }
 
-/// A certificate: a verdict, and what shows it. Its type keeps that it has a text.
+/// A certificate: a verdict, and what shows it. Its type keeps that it has a text in its version.
 #[derive(Drop)]
 pub struct Certificate {
+    version: Version,
     rows: u32,
     columns: u32,
     verdict: Verdict,
@@ -39,15 +49,15 @@ pub struct Certificate {
 }
 
 impl Model for Certificate {
-    ghost use Rattle.verdicts.specs.Certificate.{One, Certificate as CertificateOf};
+    ghost use Rattle.verdicts.specs.Certificate.{Certificate as CertificateOf};
     ghost use Rattle.certificate.specs.Written.{HasText};
-    ghost use Rattle.certificate.specs.Values.{verdict_of};
+    ghost use Rattle.certificate.specs.Values.{version_of, verdict_of};
 
     ghost Value = { CertificateOf };
 
-    ghost view = { λ c. record { version = One; rows = c.rows; columns = c.columns; verdict = verdict_of c.verdict; value = c.value; point = c.point; ray = c.ray; derived = c.derived; tree = c.tree } };
+    ghost view = { λ c. record { version = version_of c.version; rows = c.rows; columns = c.columns; verdict = verdict_of c.verdict; value = c.value; point = c.point; ray = c.ray; derived = c.derived; tree = c.tree } };
 
-    ghost invariant = { λ c. HasText (record { version = One; rows = c.rows; columns = c.columns; verdict = verdict_of c.verdict; value = c.value; point = c.point; ray = c.ray; derived = c.derived; tree = c.tree }) };
+    ghost invariant = { λ c. HasText (record { version = version_of c.version; rows = c.rows; columns = c.columns; verdict = verdict_of c.verdict; value = c.value; point = c.point; ray = c.ray; derived = c.derived; tree = c.tree }) };
 }
 
 // Each number is within 128 bits.
@@ -61,8 +71,9 @@ fn numbers_fit(numbers: &[Frac])
 
 impl Certificate {
     /// The certificate of an optimal point and its value, for a problem with these numbers of rows and columns: a whole
-    /// tree, whose leaves are to show that no point is better. It takes no memory.
+    /// tree, whose leaves are to show that no point is better and for whose nodes the version has lines. It takes no memory.
     pub fn optimal(
+        version: Version,
         rows: u32,
         columns: u32,
         value: Frac,
@@ -72,13 +83,15 @@ impl Certificate {
     ) -> Self
         requires size { length point ≡ columns }
         requires tree { IsTrue (is_tree tree) }
-        ensures { result ≡ record { version = One; rows = rows; columns = columns; verdict = is_optimal; value = Some value; point = Some point; ray = None; derived = derived; tree = tree } }
+        requires lines { AreOf (version_of version) tree }
+        ensures { result ≡ record { version = version_of version; rows = rows; columns = columns; verdict = is_optimal; value = Some value; point = Some point; ray = None; derived = derived; tree = tree } }
     {
         parts_fit(value);
         numbers_fit(point.as_slice());
         let _derived = derived.as_slice();
         let _nodes = tree.as_slice();
         Certificate {
+            version,
             rows,
             columns,
             verdict: Verdict::Optimal,
@@ -92,13 +105,21 @@ impl Certificate {
 
     /// The certificate of a problem without feasible points: a whole tree, whose leaves are to show it. It
     /// takes no memory.
-    pub fn infeasible(rows: u32, columns: u32, derived: DerivedRows, tree: Tree) -> Self
-        requires { IsTrue (is_tree tree) }
-        ensures { result ≡ record { version = One; rows = rows; columns = columns; verdict = is_infeasible; value = None; point = None; ray = None; derived = derived; tree = tree } }
+    pub fn infeasible(
+        version: Version,
+        rows: u32,
+        columns: u32,
+        derived: DerivedRows,
+        tree: Tree,
+    ) -> Self
+        requires tree { IsTrue (is_tree tree) }
+        requires lines { AreOf (version_of version) tree }
+        ensures { result ≡ record { version = version_of version; rows = rows; columns = columns; verdict = is_infeasible; value = None; point = None; ray = None; derived = derived; tree = tree } }
     {
         let _derived = derived.as_slice();
         let _nodes = tree.as_slice();
         Certificate {
+            version,
             rows,
             columns,
             verdict: Verdict::Infeasible,
@@ -111,14 +132,22 @@ impl Certificate {
     }
 
     /// The certificate of a problem that improves without end: a point, and a ray to go from it. It takes no memory.
-    pub fn unbounded(alloc: Global, rows: u32, columns: u32, point: Point, ray: Point) -> Self
+    pub fn unbounded(
+        alloc: Global,
+        version: Version,
+        rows: u32,
+        columns: u32,
+        point: Point,
+        ray: Point,
+    ) -> Self
         requires point { length point ≡ columns }
         requires ray { length ray ≡ columns }
-        ensures { result ≡ record { version = One; rows = rows; columns = columns; verdict = is_unbounded; value = None; point = Some point; ray = Some ray; derived = []; tree = [] } }
+        ensures { result ≡ record { version = version_of version; rows = rows; columns = columns; verdict = is_unbounded; value = None; point = Some point; ray = Some ray; derived = []; tree = [] } }
     {
         numbers_fit(point.as_slice());
         numbers_fit(ray.as_slice());
         Certificate {
+            version,
             rows,
             columns,
             verdict: Verdict::Unbounded,
@@ -128,6 +157,13 @@ impl Certificate {
             derived: DerivedRows::new(alloc),
             tree: Tree::new(alloc),
         }
+    }
+
+    /// Its version.
+    pub fn version(&self) -> Version
+        ensures { version_of result ≡ self.now.version }
+    {
+        self.version
     }
 
     /// The number of rows of its problem. The certificate has a text.

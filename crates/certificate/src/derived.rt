@@ -133,7 +133,7 @@ fn proof_has_text(proof: &Proof)
 }
 
 // Each coefficient is within 128 bits.
-fn entries_fit(form: &[Entry])
+pub(crate) fn entries_fit(form: &[Entry])
     ensures { AllByRecursion (λ e. IsTrue (fits e.coefficient)) form.now }
 {
     for entry in form {

@@ -10,10 +10,10 @@ mod weights;
 mod whole;
 mod writing;
 
-pub use certificate::{Certificate, Verdict};
+pub use certificate::{Certificate, Verdict, Version};
 pub use derived::{Derived, DerivedRows, FormSplit, Proof};
-pub use split::{Side, Split, Turn};
+pub use split::{ColumnSplit, Side, Split, Turn};
 pub use tree::{Tree, TreeNode};
-pub use weights::{Item, Items, Weights};
+pub use weights::{Item, Items, LeafWeights, Weights};
 pub use whole::{WholeNumber, parts_fit};
 pub use writing::text;

@@ -1,12 +1,12 @@
-// Trees of splits of columns.
+// Trees of splits.
 ghost use Rattle.std.specs.Prelude.{◌≡◌, ◌≤◌, ◌+◌, [], ◌∷◌, ◌++◌, length, map, reverse, take, OnOk, OnErr, IfErr};
 ghost use Rattle.std.specs.List.{AllByRecursion};
 ghost use Rattle.certificate.specs.Written.{IsNode};
 ghost use Rattle.certificate.specs.Values.{node_of};
 ghost use Rattle.certificate.specs.Ways.{IsLastTurn};
-ghost use Rattle.certificate.specs.Parents.{parent_to, parent_of, turn_under};
+ghost use Rattle.certificate.specs.Parents.{parent_to, parent_of, IsTurnUnder};
 
-use crate::{Side, Split, Turn, Weights};
+use crate::{LeafWeights, Side, Split, Turn};
 use std::alloc::{AllocFailed, Global};
 use std::marker::Model;
 
@@ -16,9 +16,9 @@ pub enum TreeNode {
     /// Two cases: the low side comes next, then the high side.
     Branch(Split),
     /// A leaf without feasible points, as the weights show.
-    Empty(Weights),
+    Empty(LeafWeights),
     /// A leaf without points better than the value, as the weights show.
-    Bound(Weights),
+    Bound(LeafWeights),
 }
 
 // A node has a text.
@@ -27,13 +27,13 @@ fn node_has_text(node: &TreeNode)
 {
     match node {
         TreeNode::Branch(split) => {
-            let _column = split.column();
+            let _form = split.form();
         }
         TreeNode::Empty(weights) => {
-            let _rows = weights.rows();
+            let _splits = weights.splits();
         }
         TreeNode::Bound(weights) => {
-            let _rows = weights.rows();
+            let _splits = weights.splits();
         }
     }
 }
@@ -146,7 +146,7 @@ impl Tree {
     }
 
     /// The last turn on the way to the node at a place, or to the place after the last node; none at the root.
-    pub fn last_turn(&self, place: usize) -> Option<Turn>
+    pub fn last_turn(&self, place: usize) -> Option<Turn<'_>>
         requires { place ≤ length self.now }
         ensures { IsLastTurn self.now place result }
     {
@@ -166,13 +166,13 @@ impl Tree {
 }
 
 // The turn to a side of a branch.
-fn turn_under(node: &TreeNode, parent: Parent) -> Option<Turn>
-    ensures { result ≡ turn_under (node_of node.now) parent }
+fn turn_under(node: &TreeNode, parent: Parent) -> Option<Turn<'_>>
+    ensures { IsTurnUnder (node_of node.now) parent result }
 {
     match node {
         TreeNode::Branch(split) => Some(Turn {
             place: parent.place,
-            split: *split,
+            split,
             side: parent.side,
         }),
         _ => None,

@@ -1,14 +1,14 @@
 // Weights: the multipliers of rows, columns and derived rows.
 ghost use Rattle.std.specs.Prelude.{◌≡◌, ◌≢◌, ◌+◌, ◌<◌, ◌≤◌, [], ◌∷◌, ◌++◌, pos, IfOk, OnOk, OnErr, IfErr};
 ghost use Rattle.verdicts.specs.Certificate.{Item as ItemOf, Weights as WeightsOf};
-ghost use Rattle.certificate.specs.Written.{count_max, rank_of, next_rank, AreItemsFrom, AreWeights};
+ghost use Rattle.certificate.specs.Written.{count_max, rank_of, next_rank, AreItemsFrom, AreWeights, AreLeafWeights};
 
 use crate::whole::parts_fit;
 use fraction::Frac;
 use std::alloc::{AllocError, Global};
 use std::marker::Model;
 
-/// The weight of a row, a column or a derived row, named by its index from 0.
+/// The weight of a row, a column, a derived row or a split on the way to a leaf, named by its index from 0.
 #[derive(Clone, Copy)]
 pub struct Item {
     pub index: u32,
@@ -158,5 +158,59 @@ impl Weights {
         ensures { result.now ≡ self.now.derived }
     {
         &self.derived
+    }
+}
+
+/// The weights of a leaf: those of rows, columns and derived rows, and those of the splits on the way from the root to the
+/// leaf, of which the first has the index 0. The weight of a split is one of the inequality of the side that is taken.
+#[derive(Drop)]
+pub struct LeafWeights {
+    weights: Weights,
+    splits: Items,
+}
+
+impl Model for LeafWeights {
+    ghost use Rattle.verdicts.specs.Certificate.{Weights as WeightsOf};
+    ghost use Rattle.certificate.specs.Written.{AreLeafWeights};
+
+    ghost Value = { WeightsOf };
+
+    ghost view = { λ l. record { rows = l.weights.rows; columns = l.weights.columns; derived = l.weights.derived; splits = l.splits } };
+
+    ghost invariant = { λ l. AreLeafWeights (record { rows = l.weights.rows; columns = l.weights.columns; derived = l.weights.derived; splits = l.splits }) };
+}
+
+impl LeafWeights {
+    /// These weights. It takes no memory.
+    pub fn new(weights: Weights, splits: Items) -> Self
+        ensures { result ≡ record { rows = weights.rows; columns = weights.columns; derived = weights.derived; splits = splits } }
+    {
+        let _rows = weights.rows();
+        let _splits = splits.as_slice();
+        LeafWeights { weights, splits }
+    }
+
+    /// These weights, and none of splits. It takes no memory.
+    pub fn without_splits(alloc: Global, weights: Weights) -> Self
+        ensures { result ≡ weights }
+    {
+        let _rows = weights.rows();
+        LeafWeights::new(weights, Items::new(alloc))
+    }
+
+    /// The weights of rows, columns and derived rows.
+    pub fn weights(&self) -> &Weights
+        ensures { result.now ≡ record { rows = self.now.rows; columns = self.now.columns; derived = self.now.derived; splits = [] } }
+    {
+        let _rows = self.weights.rows();
+        &self.weights
+    }
+
+    /// The weights of splits. All of the weights have a text.
+    pub fn splits(&self) -> &Items
+        ensures splits { result.now ≡ self.now.splits }
+        ensures written { AreLeafWeights self.now }
+    {
+        &self.splits
     }
 }

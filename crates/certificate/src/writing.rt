@@ -1,10 +1,14 @@
 // The text of a certificate.
 ghost use Rattle.std.specs.Prelude.{◌≡◌, IfOk, string_bytes, map};
 ghost use Rattle.std.specs.Option.{option_map};
-ghost use Rattle.certificate.specs.Text.{certificate_text, head_text, body_text, value_text, point_text, shown_text, derived_rows_text, derived_text, proof_text, form_split_text, node_text, tree_text, weights_text, items_text, item_text, form_text, entry_text, numbers_text};
-ghost use Rattle.certificate.specs.Values.{verdict_of, proof_of, node_of};
+ghost use Rattle.certificate.specs.Text.{certificate_text, head_text, body_text, value_text, point_text, shown_text, derived_rows_text, derived_text, proof_text, form_split_text, split_text, node_text, tree_text, number_of, weights_text, leaf_text, items_text, item_text, form_text, entry_text, numbers_text};
+ghost use Rattle.certificate.specs.Written.{first_column};
+ghost use Rattle.certificate.specs.Values.{version_of, verdict_of, proof_of, node_of};
 
-use crate::{Certificate, Derived, FormSplit, Item, Proof, TreeNode, Verdict, Weights};
+use crate::{
+    Certificate, Derived, FormSplit, Item, LeafWeights, Proof, Split, TreeNode, Verdict, Version,
+    Weights,
+};
 use fraction::Frac;
 use instance::{Entry, Point};
 use std::alloc::{AllocError, Global};
@@ -14,17 +18,28 @@ use std::alloc::{AllocError, Global};
 pub fn text(alloc: Global, certificate: &Certificate) -> Result<Vec<u8>, AllocError>
     ensures { IfOk result (λ text. text.items ≡ certificate_text certificate.now) }
 {
-    let mut text = head_text(alloc, certificate.rows(), certificate.columns())?;
+    let version = certificate.version();
+    let mut text = head_text(alloc, version, certificate.rows(), certificate.columns())?;
     let body = body_text(alloc, certificate)?;
     text.push_str(&body)?;
     text.push_str("end\n")?;
     Ok(text.into_bytes())
 }
 
-fn head_text(alloc: Global, rows: u32, columns: u32) -> Result<String, AllocError>
-    ensures { IfOk result (λ text. string_bytes text ≡ head_text rows columns) }
+fn head_text(alloc: Global, version: Version, rows: u32, columns: u32) -> Result<String, AllocError>
+    ensures { IfOk result (λ text. string_bytes text ≡ head_text (version_of version) rows columns) }
 {
-    format!(in alloc; "cert 1\nsize {rows} {columns}\n")
+    let number = number_of(version);
+    format!(in alloc; "cert {number}\nsize {rows} {columns}\n")
+}
+
+fn number_of(version: Version) -> u32
+    ensures { result ≡ number_of (version_of version) }
+{
+    match version {
+        Version::One => 1,
+        Version::Two => 2,
+    }
 }
 
 fn body_text(alloc: Global, certificate: &Certificate) -> Result<String, AllocError>
@@ -86,12 +101,12 @@ fn numbers_text(alloc: Global, numbers: &[Frac]) -> Result<String, AllocError>
 }
 
 fn shown_text(alloc: Global, certificate: &Certificate) -> Result<String, AllocError>
-    ensures { IfOk result (λ text. string_bytes text ≡ shown_text certificate.now.derived certificate.now.tree) }
+    ensures { IfOk result (λ text. string_bytes text ≡ shown_text certificate.now.version certificate.now.derived certificate.now.tree) }
 {
     let rows = certificate.derived().as_slice();
     let count = rows.len();
     let rows = derived_rows_text(alloc, rows)?;
-    let tree = tree_text(alloc, certificate.tree().as_slice())?;
+    let tree = tree_text(alloc, certificate.version(), certificate.tree().as_slice())?;
     format!(in alloc; "derived {count}\n{rows}tree\n{tree}")
 }
 
@@ -139,34 +154,56 @@ fn form_split_text(alloc: Global, split: &FormSplit) -> Result<String, AllocErro
     format!(in alloc; "split {at}{form}\nlow {low}{low_weights}\nhigh {high}{high_weights}\n")
 }
 
-fn tree_text(alloc: Global, nodes: &[TreeNode]) -> Result<String, AllocError>
-    ensures { IfOk result (λ text. string_bytes text ≡ tree_text (map node_of nodes.now)) }
+fn tree_text(alloc: Global, version: Version, nodes: &[TreeNode]) -> Result<String, AllocError>
+    ensures { IfOk result (λ text. string_bytes text ≡ tree_text (version_of version) (map node_of nodes.now)) }
 {
     let mut text = String::new(alloc);
     for node in nodes {
-        let node = node_text(alloc, node)?;
+        let node = node_text(alloc, version, node)?;
         text.push_str(&node)?;
     }
     Ok(text)
 }
 
-fn node_text(alloc: Global, node: &TreeNode) -> Result<String, AllocError>
-    ensures { IfOk result (λ text. string_bytes text ≡ node_text (node_of node.now)) }
+fn node_text(alloc: Global, version: Version, node: &TreeNode) -> Result<String, AllocError>
+    ensures { IfOk result (λ text. string_bytes text ≡ node_text (version_of version) (node_of node.now)) }
 {
     match node {
-        TreeNode::Branch(split) => {
-            let column = u64::from(split.column()) + 1;
-            let at = split.at().to_frac().text(alloc)?;
-            format!(in alloc; "branch {column} {at}\n")
-        }
+        TreeNode::Branch(split) => split_text(alloc, version, split),
         TreeNode::Empty(weights) => {
-            let weights = weights_text(alloc, weights)?;
+            let weights = leaf_text(alloc, weights)?;
             format!(in alloc; "empty{weights}\n")
         }
         TreeNode::Bound(weights) => {
-            let weights = weights_text(alloc, weights)?;
+            let weights = leaf_text(alloc, weights)?;
             format!(in alloc; "bound{weights}\n")
         }
+    }
+}
+
+fn split_text(alloc: Global, version: Version, split: &Split) -> Result<String, AllocError>
+    ensures { IfOk result (λ text. string_bytes text ≡ split_text (version_of version) split.now) }
+{
+    let at = split.at().to_frac().text(alloc)?;
+    match version {
+        Version::One => {
+            let column = u64::from(first_column(split.form().as_slice())) + 1;
+            format!(in alloc; "branch {column} {at}\n")
+        }
+        Version::Two => {
+            let form = form_text(alloc, split.form().as_slice())?;
+            format!(in alloc; "split {at}{form}\n")
+        }
+    }
+}
+
+// The column of a form's first entry, 0 where there is none.
+fn first_column(form: &[Entry]) -> u32
+    ensures { result ≡ first_column form.now }
+{
+    match form {
+        [first, ..] => first.column,
+        [] => 0,
     }
 }
 
@@ -177,6 +214,14 @@ fn weights_text(alloc: Global, weights: &Weights) -> Result<String, AllocError>
     let columns = items_text(alloc, "c", weights.columns().as_slice())?;
     let derived = items_text(alloc, "d", weights.derived().as_slice())?;
     format!(in alloc; "{rows}{columns}{derived}")
+}
+
+fn leaf_text(alloc: Global, weights: &LeafWeights) -> Result<String, AllocError>
+    ensures { IfOk result (λ text. string_bytes text ≡ leaf_text weights.now) }
+{
+    let first = weights_text(alloc, weights.weights())?;
+    let splits = items_text(alloc, "s", weights.splits().as_slice())?;
+    format!(in alloc; "{first}{splits}")
 }
 
 fn items_text(alloc: Global, kind: &str, items: &[Item]) -> Result<String, AllocError>

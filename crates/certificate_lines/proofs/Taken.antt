@@ -5,12 +5,13 @@ use Rattle.std.proofs.lemmas.Bool.{leb-true, le-leb, lt-ltb}
 use Rattle.rational.specs.Rational.{Rational}
 use Rattle.fraction.specs.Canonical.{plain_digits_of}
 use Rattle.milp.specs.Form.{Entry}
+use Rattle.verdicts.specs.Certificate.{One, Weights}
 use Rattle.rational.specs.Compare.{is_zero}
 use Rattle.instance.specs.WellFormed.{are_entries_from}
 use Rattle.certificate_lines.specs.declared.fault.FaultKind.{FaultKind}
 use Rattle.certificate_lines.specs.declared.fault.FaultKind.TheVariants.{TooWide}
 use Rattle.certificate.specs.Written.{count_max}
-use Rattle.certificate_lines.specs.Fields.{◌>>=◌, expect, counted, count_of, index_of, number_of, is_some, some_number_of, is_colon, entry_of, form_of}
+use Rattle.certificate_lines.specs.Fields.{◌>>=◌, expect, counted, count_of, index_of, number_of, is_some, some_number_of, is_colon, entry_of, form_of, ended, row_weights_of, splits_of, with_splits, leaf_weights_of}
 
 -- the value of a step that did not fail
 pub bind_ok : {A B E : Type 0} (r : Result A E) (f : A → Result B E) (y : B) → (r >>= f) ≡ Ok y → (x : A) × (r ≡ Ok x) × (f x ≡ Ok y)
@@ -98,3 +99,11 @@ form_entries least (field ∷ fields) es read =
     let rest = form_entries (a.0.column + 1) fields b.0 b.1 in
     let all : are_entries_from least count_max (a.0 ∷ b.0) ≡ true = and_true _ _ (le-leb _ _ t.order) (and_true _ _ (lt-ltb _ _ t.small) (and_true _ _ (ap not t.nonzero) rest)) in
     subst (λ (xs : List Entry). are_entries_from least count_max xs ≡ true) (ok_is (a.0 ∷ b.0) es b.2) all
+
+-- version 1 has no weights of splits
+pub no_splits : (fields : List (List ℕ)) (w : Weights) → leaf_weights_of One fields ≡ Ok w → w.splits ≡ []
+unfolding leaf_weights_of splits_of
+no_splits fields w read =
+    let a = bind_ok (row_weights_of fields) (λ weights. splits_of One weights.1 >>= λ splits. ended splits.1 >>= λ _. Ok (with_splits weights.0 splits.0)) w read in
+    let b = bind_ok (ended a.0.1) (λ _. Ok (with_splits a.0.0 [])) w a.2 in
+    subst (λ (x : Weights). x.splits ≡ []) (ok_is (with_splits a.0.0 []) w b.2) refl

@@ -7,7 +7,7 @@ use Rattle.fraction.specs.declared.read.ReadFault.{ReadFault}
 use Rattle.fraction.specs.declared.read.ReadFault.TheVariants as fault
 use Rattle.milp.specs.Form.{Entry}
 use Rattle.rational.specs.Compare.{is_zero}
-use Rattle.verdicts.specs.Certificate.{Item, Weights}
+use Rattle.verdicts.specs.Certificate.{Version, One, Two, Item, Weights}
 use Rattle.fraction.specs.Literal.{code}
 use Rattle.fraction.specs.Canonical.{plain_digits_of, read_canonical_of}
 use Rattle.certificate.specs.Written.{count_max, rank_of}
@@ -112,7 +112,7 @@ form_of least (field ∷ fields) = do
   es ← form_of (e.column + 1) fields
   Ok (e ∷ es)
 
--- ---- weights: `rI:w`, then `cJ:w`, then `dK:w`, each kind by ascending rank
+-- ---- weights: `rI:w`, then `cJ:w`, then `dK:w`, then `sL:w`, each kind by ascending rank
 
 -- an item after its kind, of a rank from `least` on; its index is judged before its weight is read
 unfoldable pub item_of : ℕ → List ℕ → Result Item FaultKind
@@ -133,10 +133,33 @@ items_of kind least (field ∷ fields) =
     if is_of kind field then (item_of least (drop 1 field) >>= λ i. items_of kind (rank_of i + 1) fields >>= λ more. Ok (i ∷ more.0, more.1))
     else Ok ([], field ∷ fields)
 
-unfoldable pub weights_of : List (List ℕ) → Result Weights FaultKind
-weights_of fields = do
+-- the weights of rows, columns and derived rows, and the fields after them
+unfoldable pub row_weights_of : List (List ℕ) → Result (Weights × List (List ℕ)) FaultKind
+row_weights_of fields = do
   rows ← items_of (code (codes "r")) 0 fields
   columns ← items_of (code (codes "c")) 0 rows.1
   derived ← items_of (code (codes "d")) 0 columns.1
-  end ← ended derived.1
-  Ok (record { rows = rows.0; columns = columns.0; derived = derived.0; splits = [] })
+  Ok (record { rows = rows.0; columns = columns.0; derived = derived.0; splits = [] }, derived.1)
+
+-- these alone
+unfoldable pub weights_of : List (List ℕ) → Result Weights FaultKind
+weights_of fields = do
+  weights ← row_weights_of fields
+  end ← ended weights.1
+  Ok weights.0
+
+-- the weights of splits, which version 2 alone has, and the fields after them
+unfoldable pub splits_of : Version → List (List ℕ) → Result (List Item × List (List ℕ)) FaultKind
+splits_of One fields = Ok ([], fields)
+splits_of Two fields = items_of (code (codes "s")) 0 fields
+
+abbrev pub with_splits : Weights → List Item → Weights
+with_splits w splits = record { rows = w.rows; columns = w.columns; derived = w.derived; splits = splits }
+
+-- the weights of a leaf: those of rows, columns and derived rows, and then those of splits
+unfoldable pub leaf_weights_of : Version → List (List ℕ) → Result Weights FaultKind
+leaf_weights_of v fields = do
+  weights ← row_weights_of fields
+  splits ← splits_of v weights.1
+  end ← ended splits.1
+  Ok (with_splits weights.0 splits.0)

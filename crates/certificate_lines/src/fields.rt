@@ -7,12 +7,13 @@ ghost use Rattle.fraction.specs.Canonical.{plain_digits_of};
 ghost use Rattle.rational.specs.Compare.{is_zero};
 ghost use Rattle.instance.specs.WellFormed.{are_entries, are_entries_from};
 ghost use Rattle.certificate.specs.Written.{count_max, rank_of, IsItem};
-ghost use Rattle.certificate_lines.specs.Fields.{count_of, index_of, numbered, number_of, some_number_of, is_some, whole_of, fields_of, is_colon, after_word as word_first, next_field, ended, numbers_of, entry_of, form_of, item_of, is_of as begins_with, items_of, weights_of};
+ghost use Rattle.certificate.specs.Values.{version_of};
+ghost use Rattle.certificate_lines.specs.Fields.{count_of, index_of, numbered, number_of, some_number_of, is_some, whole_of, fields_of, is_colon, after_word as word_first, next_field, ended, numbers_of, entry_of, form_of, item_of, is_of as begins_with, items_of, row_weights_of, weights_of, splits_of, leaf_weights_of};
 ghost use Rattle.certificate_lines.specs.Gives.{Takes, LineGives};
 
 use crate::FaultKind;
 use crate::fault::LineError;
-use certificate::{Item, Items, Weights, WholeNumber, parts_fit};
+use certificate::{Item, Items, LeafWeights, Version, Weights, WholeNumber, parts_fit};
 use fraction::{Frac, ReadFault};
 use instance::{Entries, Entry, Point};
 use model_text::as_text;
@@ -314,22 +315,62 @@ fn items(alloc: Global, kind: u8, fields: &[&[u8]]) -> Result<(Items, usize), Li
 // The fields after so many.
 fn after<'a, 'b>(fields: &'b [&'a [u8]], count: usize) -> &'b [&'a [u8]]
     requires { count ≤ length fields.now }
-    ensures { map (λ f. f.now) result.now ≡ drop count (map (λ f. f.now) fields.now) }
+    ensures rest { map (λ f. f.now) result.now ≡ drop count (map (λ f. f.now) fields.now) }
+    ensures size { count + length result.now ≡ length fields.now }
 {
     let (_, rest) = fields.split_at(count);
     rest
 }
 
-/// The weights of all of the fields.
+// The weights of rows, columns and derived rows at the front of the fields, and how many fields they are.
+#[tactic(auto, unfolding(crate::specs::Fields::row_weights_of))]
+fn row_weights(alloc: Global, fields: &[&[u8]]) -> Result<(Weights, usize), LineError>
+    ensures value { LineGives (λ x. (x.0, drop x.1 (map (λ f. f.now) fields.now))) result (row_weights_of (map (λ f. f.now) fields.now)) }
+    ensures count { IfOk result (λ x. x.1 ≤ length fields.now) }
+{
+    let (rows, row_count) = items(alloc, b'r', fields)?;
+    let rest = after(fields, row_count);
+    let (columns, column_count) = items(alloc, b'c', rest)?;
+    let rest = after(rest, column_count);
+    let (derived, derived_count) = items(alloc, b'd', rest)?;
+    let weights = Weights::new(rows, columns, derived);
+    Ok((weights, row_count + column_count + derived_count))
+}
+
+/// The weights of all of the fields, none of them of a split.
 #[tactic(auto, unfolding(crate::specs::Fields::weights_of))]
 pub fn weights(alloc: Global, fields: &[&[u8]]) -> Result<Weights, LineError>
     ensures { LineGives (λ x. x) result (weights_of (map (λ f. f.now) fields.now)) }
 {
-    let (rows, count) = items(alloc, b'r', fields)?;
+    let (weights, count) = row_weights(alloc, fields)?;
+    end(after(fields, count))?;
+    Ok(weights)
+}
+
+// The weights of splits at the front of the fields, which version 2 alone has, and how many fields they are.
+#[tactic(auto, unfolding(crate::specs::Fields::splits_of))]
+fn splits(alloc: Global, version: Version, fields: &[&[u8]]) -> Result<(Items, usize), LineError>
+    ensures value { LineGives (λ x. (x.0, drop x.1 (map (λ f. f.now) fields.now))) result (splits_of (version_of version) (map (λ f. f.now) fields.now)) }
+    ensures count { IfOk result (λ x. x.1 ≤ length fields.now) }
+{
+    match version {
+        Version::One => Ok((Items::new(alloc), 0)),
+        Version::Two => items(alloc, b's', fields),
+    }
+}
+
+/// The weights of a leaf, of all of the fields.
+#[tactic(auto, unfolding(crate::specs::Fields::leaf_weights_of))]
+pub fn leaf_weights(
+    alloc: Global,
+    version: Version,
+    fields: &[&[u8]],
+) -> Result<LeafWeights, LineError>
+    ensures { LineGives (λ x. x) result (leaf_weights_of (version_of version) (map (λ f. f.now) fields.now)) }
+{
+    let (weights, count) = row_weights(alloc, fields)?;
     let rest = after(fields, count);
-    let (columns, count) = items(alloc, b'c', rest)?;
-    let rest = after(rest, count);
-    let (derived, count) = items(alloc, b'd', rest)?;
+    let (splits, count) = splits(alloc, version, rest)?;
     end(after(rest, count))?;
-    Ok(Weights::new(rows, columns, derived))
+    Ok(LeafWeights::new(weights, splits))
 }

@@ -8,6 +8,7 @@ mod lines;
 
 pub use fault::{CertError, CertFault, FaultKind, LineError};
 pub use fields::{
-    after_word, count, end, fields_in, first, form, index, number, numbers, weights, whole,
+    after_word, count, end, fields_in, first, form, index, leaf_weights, number, numbers, weights,
+    whole,
 };
 pub use lines::{Line, Lines, closed, fault_at};

@@ -1,27 +1,31 @@
 -- The text of a certificate is read as the certificate again.
-use Rattle.std.proofs.Common.{◌≡◌, ◌∙◌, ℕ, ℤ, zero, suc, ◌+◌, ◌≤◌, ◌<◌, List, [], ◌∷◌, ◌++◌, length, true, false, not, Option, Some, None, Result, Ok, Err, refl, sym, ap, subst, arith, append_assoc}
+use Rattle.std.proofs.Common.{◌≡◌, ◌∙◌, ℕ, ℤ, zero, suc, ◌+◌, ◌≤◌, ◌<◌, List, [], ◌∷◌, ◌++◌, length, true, false, nat_le, nat_lt, ◌&&◌, not, Option, Some, None, Result, Ok, Err, refl, sym, ap, subst, arith, append_assoc}
 use Rattle.std.specs.Prelude.{codes}
 use Rattle.std.specs.Fmt.{decimal}
+use Rattle.std.specs.Str.{bytes_eq}
 use Rattle.std.specs.List.{AllByRecursion, list_all, slice_split}
 use Rattle.std.proofs.lemmas.Bool.{ne_eqb, ltb-true}
+use Rattle.std.proofs.lemmas.Fmt.{decimal_digit}
 use Rattle.std.proofs.lemmas.List.{append-nil}
 use Rattle.rational.specs.Rational.{Rational, whole}
 use Rattle.fraction.specs.Text.{text_of}
 use Rattle.fraction.specs.Fits.{fits, num_fits}
 use Rattle.milp.specs.Form.{Entry}
-use Rattle.verdicts.specs.Certificate.{Version, One, Verdict, Optimal, Infeasible, Unbounded, Weights, Proof, Plain, BySplit, Derived, TreeNode, Branch, Empty, Bound, Certificate}
+use Rattle.instance.specs.WellFormed.{are_entries}
+use Rattle.verdicts.specs.Certificate.{Version, One, Two, Verdict, Optimal, Infeasible, Unbounded, Weights, Split, Proof, Plain, BySplit, Derived, TreeNode, Branch, Empty, Bound, Certificate}
 use Rattle.certificate_lines.specs.declared.fault.FaultKind.{FaultKind}
 use Rattle.certificate_lines.specs.declared.fault.CertFault.{CertFault}
-use Rattle.certificate.specs.Written.{count_max, split_column, open_after, fills, AreWeights, IsForm, IsProof, IsDerived, IsNode, IsPoint, HasTree, HasParts, HasText}
+use Rattle.certificate.specs.Written.{count_max, column_form, split_column, open_after, fills, AreWeights, IsForm, IsSplit, AreOf, IsProof, IsDerived, IsNode, IsPoint, HasTree, HasParts, HasText}
 use Rattle.certificate.specs.Text.{weights_text, form_text, numbers_text, proof_text, derived_text, derived_rows_text, node_text, tree_text, head_text, shown_text, certificate_text}
 use Rattle.certificate_lines.specs.Fields.{◌>>=◌, fields_of}
 use Rattle.certificate_lines.specs.Lines.{Rest, is_feed, line_by}
-use Rattle.certificate_reader.specs.Reading.{version_in, size_in, verdict_in, value_in, point_in, count_in, word_in, derive_in, side_in, PlainLine, SplitLine, proof_in, proof_from, derived_at, derived_rows_at, node_in, nodes_at, shown_at, optimal_at, infeasible_at, unbounded_at, body_at, certificate_at, read_of}
+use Rattle.certificate_reader.specs.Reading.{version_in, size_in, verdict_in, value_in, point_in, count_in, word_in, derive_in, side_in, PlainLine, SplitLine, proof_in, proof_from, derived_at, derived_rows_at, word_of_split, node_in, nodes_at, shown_at, optimal_at, infeasible_at, unbounded_at, body_at, certificate_at, read_of}
 use Rattle.certificate_lines.proofs.Pieces.{line_some, pieces_some}
 use Rattle.certificate_reader.proofs.FieldsFound.{Texts, blanked}
-use Rattle.certificate_reader.proofs.LinesFound.{name_of}
+use Rattle.certificate_reader.proofs.LinesFound.{name_of, digit_of}
+use Rattle.certificate_reader.proofs.LinesTaken.{IsOf, first_of_all}
 use Rattle.certificate_reader.proofs.CertificateFound.{plain_glue, split_glue, derived_glue, shown_glue, optimal_glue, unbounded_glue, whole_glue, parts_text, body-parts}
-use Rattle.certificate_reader.proofs.FieldsAgain.{is_solid, is_inked, both, first_of, second_of, split_word, are_solid, fields_again, line_inked, decimal_solid, text_solid, whole_solid, number_again, count_again, index_again, whole_again, numbers_fields, numbers_blanked, numbers_solid, numbers_again, form_fields, form_blanked, form_solid, form_again, weights_fields, weights_again, weights_solid, weights_blanked}
+use Rattle.certificate_reader.proofs.FieldsAgain.{is_solid, is_inked, both, first_of, second_of, split_word, are_solid, fields_again, line_inked, decimal_solid, text_solid, whole_solid, number_again, count_again, index_again, whole_again, numbers_fields, numbers_blanked, numbers_solid, numbers_again, form_fields, form_blanked, form_solid, form_again, weights_fields, weights_again, weights_solid, weights_blanked, HasSplits, leaf_fields, leaf_weights_again, leaf_solid, leaf_blanked}
 
 -- what is left where a text stands, from a line on
 abbrev pub left : ℕ → List ℕ → Rest
@@ -54,8 +58,9 @@ bind_assoc (Err e) f g = refl
 
 -- ---- lines of a word and numbers
 
-version_again : (n : ℕ) (rest : List ℕ) → line_by version_in (left n (codes "cert 1" ++ (10 ∷ rest))) ≡ Ok (tt, left (n + 1) rest)
-version_again n rest = line_again version_in (codes "cert 1") tt refl refl n rest
+version_again : (v : Version) (n : ℕ) (rest : List ℕ) → line_by version_in (left n ((codes "cert " ++ digit_of v) ++ (10 ∷ rest))) ≡ Ok (v, left (n + 1) rest)
+version_again One n rest = ap (λ (d : List ℕ). line_by version_in (left n ((codes "cert " ++ d) ++ (10 ∷ rest)))) (decimal_digit 1 (omega arith)) ∙ line_again version_in (codes "cert 1") One refl refl n rest
+version_again Two n rest = ap (λ (d : List ℕ). line_by version_in (left n ((codes "cert " ++ d) ++ (10 ∷ rest)))) (decimal_digit 2 (omega arith)) ∙ line_again version_in (codes "cert 2") Two refl refl n rest
 
 word_again : (word : List ℕ) → word_in word (fields_of word) ≡ Ok tt → is_inked word ≡ true → (n : ℕ) (rest : List ℕ) → line_by (word_in word) (left n (word ++ (10 ∷ rest))) ≡ Ok (tt, left (n + 1) rest)
 word_again word read inked n rest = line_again (word_in word) word tt read inked n rest
@@ -154,106 +159,126 @@ rows_again law (d ∷ ds) h n rest =
 
 -- ---- the tree
 
-record NodeAgain (node : TreeNode) : Type 0 where
+-- the form of one column is in order only where the column's index is small
+column_small : (form : List Entry) (j : ℕ) → form ≡ column_form j → IsForm form → j < count_max
+column_small form j is h =
+    let ordered : are_entries count_max (column_form j) ≡ true = subst (λ (es : List Entry). are_entries count_max es ≡ true) is h.entries in
+    ltb-true _ _ (first_of (nat_lt j count_max) true (second_of (nat_le 0 j) (nat_lt j count_max && true) ordered))
+
+-- no version has these words before a split
+empty_apart : (v : Version) → bytes_eq (codes "empty") (word_of_split v) ≡ false
+empty_apart One = refl
+empty_apart Two = refl
+
+bound_apart : (v : Version) → bytes_eq (codes "bound") (word_of_split v) ≡ false
+bound_apart One = refl
+bound_apart Two = refl
+
+empty_splits : (v : Version) (w : Weights) → IsOf v (Empty w) → HasSplits v w.splits
+empty_splits One w h = h
+empty_splits Two w h = tt
+
+bound_splits : (v : Version) (w : Weights) → IsOf v (Bound w) → HasSplits v w.splits
+bound_splits One w h = h
+bound_splits Two w h = tt
+
+record NodeAgain (v : Version) (node : TreeNode) : Type 0 where
   line : List ℕ
-  text : node_text node ≡ line ++ (10 ∷ [])
+  text : node_text v node ≡ line ++ (10 ∷ [])
   inked : is_inked line ≡ true
-  read : node_in (fields_of line) ≡ Ok node
+  read : node_in v (fields_of line) ≡ Ok node
 
-node_of_fields : (word : List ℕ) (fs : List (List ℕ)) (node : TreeNode) → is_solid word ≡ true → are_solid fs ≡ true → node_in (word ∷ fs) ≡ Ok node → node_text node ≡ (word ++ blanked fs) ++ (10 ∷ []) → NodeAgain node
-node_of_fields word fs node solid all read text = record { line = word ++ blanked fs; text = text; inked = line_inked word fs solid all; read = ap node_in (fields_again word fs solid all) ∙ read }
+node_of_fields : (v : Version) (word : List ℕ) (fs : List (List ℕ)) (node : TreeNode) → is_solid word ≡ true → are_solid fs ≡ true → node_in v (word ∷ fs) ≡ Ok node → node_text v node ≡ (word ++ blanked fs) ++ (10 ∷ []) → NodeAgain v node
+node_of_fields v word fs node solid all read text = record { line = word ++ blanked fs; text = text; inked = line_inked word fs solid all; read = ap (node_in v) (fields_again word fs solid all) ∙ read }
 
-node_again : Texts → (node : TreeNode) → IsNode node → NodeAgain node
-node_again law (Branch s) h =
+branch_again : Texts → (v : Version) (s : Split) → IsSplit s → IsOf v (Branch s) → NodeAgain v (Branch s)
+branch_again law One s h k =
     let j : ℕ = split_column s in
     let a : List ℕ = decimal (j + 1) in
     let b : List ℕ = text_of (whole s.at) in
-    node_of_fields (codes "branch") (a ∷ b ∷ []) (Branch s) refl (both _ _ (decimal_solid (j + 1) (omega (arith, h.column))) (both _ _ (whole_solid s.at h.at) refl)) (rw (index_again law j h.column, whole_again law s.at h.at) (ap (λ (form : List Entry). Ok (Branch (record { form = form; at = s.at }))) (sym h.form)))
+    let small : j < count_max = column_small s.form j k h.form in
+    node_of_fields One (codes "branch") (a ∷ b ∷ []) (Branch s) refl (both _ _ (decimal_solid (j + 1) (omega (arith, small))) (both _ _ (whole_solid s.at h.at) refl)) (rw (index_again law j small, whole_again law s.at h.at) (ap (λ (form : List Entry). Ok (Branch (record { form = form; at = s.at }))) (sym k)))
     (sym (ap (λ (r : List ℕ). (codes "branch " ++ (a ++ (32 ∷ r))) ++ (10 ∷ [])) (append-nil b) ∙ ap (λ (r : List ℕ). codes "branch " ++ r) (append_assoc a (32 ∷ b) (10 ∷ []))))
-node_again law (Empty w) h =
-    node_of_fields (codes "empty") (weights_fields w) (Empty w) refl (weights_solid w h) (rw (weights_again law w h) refl) (ap (λ (r : List ℕ). (codes "empty" ++ r) ++ (10 ∷ [])) (sym (weights_blanked w)))
-node_again law (Bound w) h =
-    node_of_fields (codes "bound") (weights_fields w) (Bound w) refl (weights_solid w h) (rw (weights_again law w h) refl) (ap (λ (r : List ℕ). (codes "bound" ++ r) ++ (10 ∷ [])) (sym (weights_blanked w)))
+branch_again law Two s h k =
+    let a : List ℕ = text_of (whole s.at) in
+    node_of_fields Two (codes "split") (a ∷ form_fields s.form) (Branch s) refl (both _ _ (whole_solid s.at h.at) (form_solid s.form h.form)) (rw (whole_again law s.at h.at, form_again law s.form h.form) refl)
+    (sym (ap (λ (r : List ℕ). (codes "split " ++ (a ++ r)) ++ (10 ∷ [])) (form_blanked s.form) ∙ ap (λ (r : List ℕ). codes "split " ++ r) (append_assoc a (form_text s.form) (10 ∷ []))))
 
-nodes_again : Texts → (places : ℕ) (ns : List TreeNode) → fills places ns ≡ true → AllByRecursion IsNode ns → (n : ℕ) (rest : List ℕ) → (m : ℕ) × (nodes_at places n (slice_split is_feed (tree_text ns ++ rest)) ≡ Ok (ns, left m rest))
+node_again : Texts → (v : Version) (node : TreeNode) → IsNode node → IsOf v node → NodeAgain v node
+node_again law v (Branch s) h k = branch_again law v s h k
+node_again law v (Empty w) h k =
+    node_of_fields v (codes "empty") (leaf_fields w) (Empty w) refl (leaf_solid w h) (rw (empty_apart v, leaf_weights_again law v w h (empty_splits v w k)) refl) (ap (λ (r : List ℕ). (codes "empty" ++ r) ++ (10 ∷ [])) (sym (leaf_blanked w)))
+node_again law v (Bound w) h k =
+    node_of_fields v (codes "bound") (leaf_fields w) (Bound w) refl (leaf_solid w h) (rw (bound_apart v, leaf_weights_again law v w h (bound_splits v w k)) refl) (ap (λ (r : List ℕ). (codes "bound" ++ r) ++ (10 ∷ [])) (sym (leaf_blanked w)))
+
+nodes_again : Texts → (v : Version) (places : ℕ) (ns : List TreeNode) → fills places ns ≡ true → AllByRecursion IsNode ns → AreOf v ns → (n : ℕ) (rest : List ℕ) → (m : ℕ) × (nodes_at v places n (slice_split is_feed (tree_text v ns ++ rest)) ≡ Ok (ns, left m rest))
 unfolding nodes_at
-nodes_again law zero [] whole h n rest = (n, refl)
-nodes_again law zero (node ∷ nodes) whole h n rest = absurd cc
-nodes_again law (suc more) [] whole h n rest = absurd cc
-nodes_again law (suc more) (node ∷ nodes) whole h n rest =
-    let first = node_again law node h.0 in
-    let others = nodes_again law (open_after node more) nodes whole h.1 (n + 1) rest in
-    let after : List ℕ = tree_text nodes ++ rest in
-    let text : (node_text node ++ tree_text nodes) ++ rest ≡ first.line ++ (10 ∷ after) = append_assoc (node_text node) (tree_text nodes) rest ∙ ap (λ (t : List ℕ). t ++ after) first.text ∙ append_assoc first.line (10 ∷ []) after in
-    let pieces : slice_split is_feed ((node_text node ++ tree_text nodes) ++ rest) ≡ first.line ∷ slice_split is_feed after = ap (slice_split is_feed) text ∙ line_pieces first.line after first.inked in
+nodes_again law v zero [] whole h k n rest = (n, refl)
+nodes_again law v zero (node ∷ nodes) whole h k n rest = absurd cc
+nodes_again law v (suc more) [] whole h k n rest = absurd cc
+nodes_again law v (suc more) (node ∷ nodes) whole h k n rest =
+    let lines = first_of_all v node nodes k in
+    let first = node_again law v node h.0 lines.0 in
+    let others = nodes_again law v (open_after node more) nodes whole h.1 lines.1 (n + 1) rest in
+    let after : List ℕ = tree_text v nodes ++ rest in
+    let text : (node_text v node ++ tree_text v nodes) ++ rest ≡ first.line ++ (10 ∷ after) = append_assoc (node_text v node) (tree_text v nodes) rest ∙ ap (λ (t : List ℕ). t ++ after) first.text ∙ append_assoc first.line (10 ∷ []) after in
+    let pieces : slice_split is_feed ((node_text v node ++ tree_text v nodes) ++ rest) ≡ first.line ∷ slice_split is_feed after = ap (slice_split is_feed) text ∙ line_pieces first.line after first.inked in
     (others.0, rw pieces (rw (line_some n first.line (slice_split is_feed after) (pieces_some after)) (rw first.read (rw others.1 refl))))
 
 -- ---- what a verdict has
 
-shown_again : Texts → (derived : List Derived) (tree : List TreeNode) → HasTree derived tree → (n : ℕ) (rest : List ℕ) → (m : ℕ) × (shown_at (left n (shown_text derived tree ++ rest)) ≡ Ok (record { derived = derived; tree = tree }, left m rest))
+shown_again : Texts → (v : Version) (derived : List Derived) (tree : List TreeNode) → HasTree v derived tree → (n : ℕ) (rest : List ℕ) → (m : ℕ) × (shown_at v (left n (shown_text v derived tree ++ rest)) ≡ Ok (record { derived = derived; tree = tree }, left m rest))
 unfolding shown_at
-shown_again law derived tree h n rest =
-    let glue = sym (shown_glue (decimal (length derived)) (derived_rows_text derived) (tree_text tree) rest) in
-    let third : List ℕ = tree_text tree ++ rest in
+shown_again law v derived tree h n rest =
+    let glue = sym (shown_glue (decimal (length derived)) (derived_rows_text derived) (tree_text v tree) rest) in
+    let third : List ℕ = tree_text v tree ++ rest in
     let second : List ℕ = codes "tree" ++ (10 ∷ third) in
     let rows = rows_again law derived h.rows (n + 1) second in
     let mark = word_again (codes "tree") refl refl rows.0 third in
-    let nodes = nodes_again law 1 tree h.whole h.nodes (rows.0 + 1) rest in
-    (nodes.0, ap (λ (t : List ℕ). shown_at (left n t)) glue ∙ rw (count_line_again law (length derived) h.count n (derived_rows_text derived ++ second)) (rw rows.1 (rw mark (rw nodes.1 refl))))
+    let nodes = nodes_again law v 1 tree h.whole h.nodes h.lines (rows.0 + 1) rest in
+    (nodes.0, ap (λ (t : List ℕ). shown_at v (left n t)) glue ∙ rw (count_line_again law (length derived) h.count n (derived_rows_text derived ++ second)) (rw rows.1 (rw mark (rw nodes.1 refl))))
 
-abbrev with_parts : ℕ → ℕ → Verdict → Option Rational → Option (List Rational) → Option (List Rational) → List Derived → List TreeNode → Certificate
-with_parts rows columns v value point ray derived tree = record { version = One; rows = rows; columns = columns; verdict = v; value = value; point = point; ray = ray; derived = derived; tree = tree }
+abbrev with_parts : Version → ℕ → ℕ → Verdict → Option Rational → Option (List Rational) → Option (List Rational) → List Derived → List TreeNode → Certificate
+with_parts v rows columns verdict value point ray derived tree = record { version = v; rows = rows; columns = columns; verdict = verdict; value = value; point = point; ray = ray; derived = derived; tree = tree }
 
-body_again : Texts → (rows columns : ℕ) (v : Verdict) (value : Option Rational) (point ray : Option (List Rational)) (derived : List Derived) (tree : List TreeNode) → HasParts (with_parts rows columns v value point ray derived tree) v → (n : ℕ) (rest : List ℕ)
-    → (m : ℕ) × (body_at rows columns v (left n (parts_text (with_parts rows columns v value point ray derived tree) v ++ rest)) ≡ Ok (with_parts rows columns v value point ray derived tree, left m rest))
+body_again : Texts → (v : Version) (rows columns : ℕ) (verdict : Verdict) (value : Option Rational) (point ray : Option (List Rational)) (derived : List Derived) (tree : List TreeNode) → HasParts (with_parts v rows columns verdict value point ray derived tree) verdict → (n : ℕ) (rest : List ℕ)
+    → (m : ℕ) × (body_at v rows columns verdict (left n (parts_text (with_parts v rows columns verdict value point ray derived tree) verdict ++ rest)) ≡ Ok (with_parts v rows columns verdict value point ray derived tree, left m rest))
 unfolding optimal_at infeasible_at unbounded_at
-body_again law rows columns Optimal None point ray derived tree h n rest = absurd h.0
-body_again law rows columns Optimal (Some v) None ray derived tree h n rest = absurd h.1
-body_again law rows columns Optimal (Some v) (Some x) (Some r) derived tree h n rest = absurd (let no : Some r ≡ None = h.2 in cc)
-body_again law rows columns Optimal (Some v) (Some x) None derived tree h n rest =
-    let glue = sym (optimal_glue (text_of v) (numbers_text x) (shown_text derived tree) rest) in
-    let third : List ℕ = shown_text derived tree ++ rest in
+body_again law v rows columns Optimal None point ray derived tree h n rest = absurd h.0
+body_again law v rows columns Optimal (Some value) None ray derived tree h n rest = absurd h.1
+body_again law v rows columns Optimal (Some value) (Some x) (Some r) derived tree h n rest = absurd (let no : Some r ≡ None = h.2 in cc)
+body_again law v rows columns Optimal (Some value) (Some x) None derived tree h n rest =
+    let glue = sym (optimal_glue (text_of value) (numbers_text x) (shown_text v derived tree) rest) in
+    let third : List ℕ = shown_text v derived tree ++ rest in
     let second : List ℕ = (codes "point" ++ numbers_text x) ++ (10 ∷ third) in
-    let shown = shown_again law derived tree h.3 (n + 1 + 1) rest in
-    (shown.0, ap (λ (t : List ℕ). optimal_at rows columns (left n t)) glue ∙ rw (value_again law v h.0 n second) (rw (point_again law columns x h.1 (n + 1) third) (rw shown.1 refl)))
-body_again law rows columns Infeasible (Some v) point ray derived tree h n rest = absurd (let no : Some v ≡ None = h.0 in cc)
-body_again law rows columns Infeasible None (Some x) ray derived tree h n rest = absurd (let no : Some x ≡ None = h.1 in cc)
-body_again law rows columns Infeasible None None (Some r) derived tree h n rest = absurd (let no : Some r ≡ None = h.2 in cc)
-body_again law rows columns Infeasible None None None derived tree h n rest =
-    let shown = shown_again law derived tree h.3 n rest in
+    let shown = shown_again law v derived tree h.3 (n + 1 + 1) rest in
+    (shown.0, ap (λ (t : List ℕ). optimal_at v rows columns (left n t)) glue ∙ rw (value_again law value h.0 n second) (rw (point_again law columns x h.1 (n + 1) third) (rw shown.1 refl)))
+body_again law v rows columns Infeasible (Some value) point ray derived tree h n rest = absurd (let no : Some value ≡ None = h.0 in cc)
+body_again law v rows columns Infeasible None (Some x) ray derived tree h n rest = absurd (let no : Some x ≡ None = h.1 in cc)
+body_again law v rows columns Infeasible None None (Some r) derived tree h n rest = absurd (let no : Some r ≡ None = h.2 in cc)
+body_again law v rows columns Infeasible None None None derived tree h n rest =
+    let shown = shown_again law v derived tree h.3 n rest in
     (shown.0, rw shown.1 refl)
-body_again law rows columns Unbounded (Some v) point ray derived tree h n rest = absurd (let no : Some v ≡ None = h.0 in cc)
-body_again law rows columns Unbounded None None ray derived tree h n rest = absurd h.1
-body_again law rows columns Unbounded None (Some x) None derived tree h n rest = absurd h.2
-body_again law rows columns Unbounded None (Some x) (Some r) (d ∷ ds) tree h n rest = absurd (let no : d ∷ ds ≡ [] = h.3 in cc)
-body_again law rows columns Unbounded None (Some x) (Some r) [] (t ∷ ts) h n rest = absurd (let no : t ∷ ts ≡ [] = h.4 in cc)
-body_again law rows columns Unbounded None (Some x) (Some r) [] [] h n rest =
+body_again law v rows columns Unbounded (Some value) point ray derived tree h n rest = absurd (let no : Some value ≡ None = h.0 in cc)
+body_again law v rows columns Unbounded None None ray derived tree h n rest = absurd h.1
+body_again law v rows columns Unbounded None (Some x) None derived tree h n rest = absurd h.2
+body_again law v rows columns Unbounded None (Some x) (Some r) (d ∷ ds) tree h n rest = absurd (let no : d ∷ ds ≡ [] = h.3 in cc)
+body_again law v rows columns Unbounded None (Some x) (Some r) [] (t ∷ ts) h n rest = absurd (let no : t ∷ ts ≡ [] = h.4 in cc)
+body_again law v rows columns Unbounded None (Some x) (Some r) [] [] h n rest =
     let glue = sym (unbounded_glue (numbers_text x) (numbers_text r) rest) in
     let second : List ℕ = (codes "ray" ++ numbers_text r) ++ (10 ∷ rest) in
-    (n + 1 + 1, ap (λ (t : List ℕ). unbounded_at rows columns (left n t)) glue ∙ rw (point_again law columns x h.1 n second) (rw (ray_again law columns r h.2 (n + 1) rest) refl))
+    (n + 1 + 1, ap (λ (t : List ℕ). unbounded_at v rows columns (left n t)) glue ∙ rw (point_again law columns x h.1 n second) (rw (ray_again law columns r h.2 (n + 1) rest) refl))
 
--- the certificate, of version 1
-abbrev at_one : Certificate → Certificate
-at_one c = with_parts c.rows c.columns c.verdict c.value c.point c.ray c.derived c.tree
-
-at_one_is : (c : Certificate) → c.version ≡ One → at_one c ≡ c
-at_one_is c e = ap (λ (v : Version). record { version = v; rows = c.rows; columns = c.columns; verdict = c.verdict; value = c.value; point = c.point; ray = c.ray; derived = c.derived; tree = c.tree }) (sym e)
-
-at_one_again : Texts → (c : Certificate) → HasText (at_one c) → read_of (certificate_text (at_one c)) ≡ Ok (at_one c)
+pub certificate_again : Texts → (c : Certificate) → HasText c → read_of (certificate_text c) ≡ Ok c
 unfolding certificate_at
-at_one_again law c h =
-    let parts : List ℕ = parts_text (at_one c) c.verdict in
+certificate_again law c h =
+    let parts : List ℕ = parts_text c c.verdict in
     let last : List ℕ = codes "end" ++ (10 ∷ []) in
     let fourth : List ℕ = parts ++ last in
     let third : List ℕ = (codes "verdict " ++ name_of c.verdict) ++ (10 ∷ fourth) in
     let second : List ℕ = (codes "size " ++ (decimal c.rows ++ (codes " " ++ decimal c.columns))) ++ (10 ∷ third) in
-    let whole : certificate_text (at_one c) ≡ codes "cert 1" ++ (10 ∷ second) =
-    ap (λ (t : List ℕ). head_text c.rows c.columns ++ (t ++ codes "end\n")) (body-parts (at_one c) c.verdict) ∙ sym (whole_glue (decimal c.rows) (decimal c.columns) (name_of c.verdict) parts) in
-    let body = body_again law c.rows c.columns c.verdict c.value c.point c.ray c.derived c.tree h.parts 4 last in
+    let whole : certificate_text c ≡ (codes "cert " ++ digit_of c.version) ++ (10 ∷ second) =
+    ap (λ (t : List ℕ). head_text c.version c.rows c.columns ++ (t ++ codes "end\n")) (body-parts c c.verdict) ∙ sym (whole_glue (digit_of c.version) (decimal c.rows) (decimal c.columns) (name_of c.verdict) parts) in
+    let body = body_again law c.version c.rows c.columns c.verdict c.value c.point c.ray c.derived c.tree h.parts 4 last in
     ap (λ (t : List ℕ). certificate_at (left 1 t)) whole
-    ∙ rw (version_again 1 second) (rw (size_again law c.rows c.columns h.rows h.columns 2 third) (rw (verdict_again c.verdict 3 fourth) (rw body.1 refl)))
-
-pub certificate_again : Texts → (c : Certificate) → HasText c → read_of (certificate_text c) ≡ Ok c
-certificate_again law c h =
-    let same = at_one_is c h.version in
-    subst (λ (d : Certificate). read_of (certificate_text d) ≡ Ok d) same (at_one_again law c (subst HasText (sym same) h))
+    ∙ rw (version_again c.version 1 second) (rw (size_again law c.rows c.columns h.rows h.columns 2 third) (rw (verdict_again c.verdict 3 fourth) (rw body.1 refl)))

@@ -6,7 +6,7 @@ use Rattle.std.specs.List.{AllByRecursion, slice_split, join_with_byte}
 use Rattle.std.proofs.lemmas.List.Splits.{join_with_byte-slice_split}
 use Rattle.rational.specs.Rational.{whole}
 use Rattle.fraction.specs.Text.{text_of}
-use Rattle.verdicts.specs.Certificate.{One, Verdict, Optimal, Infeasible, Unbounded, FormSplit, Proof, Plain, BySplit, Derived, TreeNode, Certificate}
+use Rattle.verdicts.specs.Certificate.{Version, Verdict, Optimal, Infeasible, Unbounded, FormSplit, Proof, Plain, BySplit, Derived, TreeNode, Certificate}
 use Rattle.certificate_lines.specs.declared.fault.FaultKind.{FaultKind}
 use Rattle.certificate_lines.specs.declared.fault.FaultKind.TheVariants.{Unended, Extra}
 use Rattle.certificate.specs.Written.{count_max, open_after, IsProof, IsDerived, IsNode, HasTree, HasParts, HasText}
@@ -15,9 +15,9 @@ use Rattle.certificate_lines.specs.Fields.{◌>>=◌, fields_of}
 use Rattle.certificate_lines.specs.Lines.{Rest, Line, is_nil, is_feed, fault_at, line_of, closed, line_by, is_over}
 use Rattle.certificate_reader.specs.Reading.{version_in, size_in, verdict_in, value_in, point_in, count_in, word_in, derive_in, side_in, ProofLine, PlainLine, SplitLine, proof_in, proof_from, derived_at, derived_rows_at, node_in, nodes_at, Shown, shown_at, optimal_at, infeasible_at, unbounded_at, body_at, over, certificate_at, read_of}
 use Rattle.certificate_lines.proofs.Taken.{bind_ok}
-use Rattle.certificate_reader.proofs.LinesTaken.{made_is, line_takes, closed_ok, nodes_fill}
+use Rattle.certificate_reader.proofs.LinesTaken.{made_is, line_takes, closed_ok, nodes_fill, nodes_have_lines}
 use Rattle.certificate_reader.proofs.FieldsFound.{Texts}
-use Rattle.certificate_reader.proofs.LinesFound.{version_text, word_text, size_text, name_of, verdict_text, value_line, point_line, count_line, derive_line, side_line, Shows, proof_line, node_line}
+use Rattle.certificate_reader.proofs.LinesFound.{digit_of, version_text, word_text, size_text, name_of, verdict_text, value_line, point_line, count_line, derive_line, side_line, Shows, proof_line, node_line}
 
 -- the text of pieces
 abbrev pub feeds : List (List ℕ) → List ℕ
@@ -122,67 +122,67 @@ not_true_is : (b : Bool) → not b ≡ true → b ≡ false
 not_true_is true h = absurd cc
 not_true_is false h = refl
 
-pub record NodesFound (pieces : List (List ℕ)) (ns : List TreeNode) (rest : Rest) : Type 0 where
-  pub text : feeds pieces ≡ tree_text ns ++ feeds rest.pieces
+pub record NodesFound (v : Version) (pieces : List (List ℕ)) (ns : List TreeNode) (rest : Rest) : Type 0 where
+  pub text : feeds pieces ≡ tree_text v ns ++ feeds rest.pieces
   pub written : AllByRecursion IsNode ns
 
-nodes_found : Texts → (places n : ℕ) (pieces : List (List ℕ)) (x : List TreeNode × Rest) → nodes_at places n pieces ≡ Ok x → NodesFound pieces x.0 x.1
+nodes_found : Texts → (v : Version) (places n : ℕ) (pieces : List (List ℕ)) (x : List TreeNode × Rest) → nodes_at v places n pieces ≡ Ok x → NodesFound v pieces x.0 x.1
 unfolding nodes_at
-nodes_found law zero n pieces x h = subst (λ (y : List TreeNode × Rest). NodesFound pieces y.0 y.1) (made_is ([], record { line = n; pieces = pieces }) x h) (record { text = refl; written = tt })
-nodes_found law (suc more) n [] x h = absurd cc
-nodes_found law (suc more) n (piece ∷ pieces) x h =
-    let a = bind_ok (line_of n piece pieces) (λ line. closed line (node_in (fields_of line.text)) >>= λ node. nodes_at (open_after node more) (n + 1) pieces >>= λ nodes. Ok (node ∷ nodes.0, nodes.1)) x h in
-    let b = bind_ok (closed a.0 (node_in (fields_of a.0.text))) (λ node. nodes_at (open_after node more) (n + 1) pieces >>= λ nodes. Ok (node ∷ nodes.0, nodes.1)) x a.2 in
-    let c = bind_ok (nodes_at (open_after b.0 more) (n + 1) pieces) (λ nodes. Ok (b.0 ∷ nodes.0, nodes.1)) x b.2 in
+nodes_found law v zero n pieces x h = subst (λ (y : List TreeNode × Rest). NodesFound v pieces y.0 y.1) (made_is ([], record { line = n; pieces = pieces }) x h) (record { text = refl; written = tt })
+nodes_found law v (suc more) n [] x h = absurd cc
+nodes_found law v (suc more) n (piece ∷ pieces) x h =
+    let a = bind_ok (line_of n piece pieces) (λ line. closed line (node_in v (fields_of line.text)) >>= λ node. nodes_at v (open_after node more) (n + 1) pieces >>= λ nodes. Ok (node ∷ nodes.0, nodes.1)) x h in
+    let b = bind_ok (closed a.0 (node_in v (fields_of a.0.text))) (λ node. nodes_at v (open_after node more) (n + 1) pieces >>= λ nodes. Ok (node ∷ nodes.0, nodes.1)) x a.2 in
+    let c = bind_ok (nodes_at v (open_after b.0 more) (n + 1) pieces) (λ nodes. Ok (b.0 ∷ nodes.0, nodes.1)) x b.2 in
     let line = line_of_found n piece pieces a.0 a.1 in
-    let k = closed_ok a.0 (node_in (fields_of a.0.text)) b.0 b.1 in
+    let k = closed_ok a.0 (node_in v (fields_of a.0.text)) b.0 b.1 in
     let some : is_nil pieces ≡ false = not_true_is (is_nil pieces) (sym line.1 ∙ k.1) in
-    let node = node_line law piece b.0 (ap (λ (t : List ℕ). node_in (fields_of t)) (sym line.0) ∙ k.0) in
-    let rest = nodes_found law (open_after b.0 more) (n + 1) pieces c.0 c.1 in
+    let node = node_line law v piece b.0 (ap (λ (t : List ℕ). node_in v (fields_of t)) (sym line.0) ∙ k.0) in
+    let rest = nodes_found law v (open_after b.0 more) (n + 1) pieces c.0 c.1 in
     let f : List ℕ = feeds c.0.1.pieces in
-    let text : feeds (piece ∷ pieces) ≡ tree_text (b.0 ∷ c.0.0) ++ f =
+    let text : feeds (piece ∷ pieces) ≡ tree_text v (b.0 ∷ c.0.0) ++ f =
     feeds-cons piece pieces some ∙ sym (append_assoc piece (10 ∷ []) (feeds pieces))
-    ∙ ap (λ (t : List ℕ). t ++ feeds pieces) node.0 ∙ ap (λ (t : List ℕ). node_text b.0 ++ t) rest.text
-    ∙ sym (append_assoc (node_text b.0) (tree_text c.0.0) f) in
-    subst (λ (y : List TreeNode × Rest). NodesFound (piece ∷ pieces) y.0 y.1) (made_is (b.0 ∷ c.0.0, c.0.1) x c.2) (record { text = text; written = (node.1, rest.written) })
+    ∙ ap (λ (t : List ℕ). t ++ feeds pieces) node.0 ∙ ap (λ (t : List ℕ). node_text v b.0 ++ t) rest.text
+    ∙ sym (append_assoc (node_text v b.0) (tree_text v c.0.0) f) in
+    subst (λ (y : List TreeNode × Rest). NodesFound v (piece ∷ pieces) y.0 y.1) (made_is (b.0 ∷ c.0.0, c.0.1) x c.2) (record { text = text; written = (node.1, rest.written) })
 
 -- ---- what a verdict has
 
 pub shown_glue : (n d t f : List ℕ) → (codes "derived " ++ n) ++ (10 ∷ (d ++ (codes "tree" ++ (10 ∷ (t ++ f))))) ≡ (codes "derived " ++ (n ++ (codes "\n" ++ (d ++ (codes "tree\n" ++ t))))) ++ f
 shown_glue n d t f = simp append_assoc
 
-pub record ShownFound (start : Rest) (s : Shown) (rest : Rest) : Type 0 where
-  pub text : feeds start.pieces ≡ shown_text s.derived s.tree ++ feeds rest.pieces
-  pub written : HasTree s.derived s.tree
+pub record ShownFound (v : Version) (start : Rest) (s : Shown) (rest : Rest) : Type 0 where
+  pub text : feeds start.pieces ≡ shown_text v s.derived s.tree ++ feeds rest.pieces
+  pub written : HasTree v s.derived s.tree
 
-shown_found : Texts → (start : Rest) (x : Shown × Rest) → shown_at start ≡ Ok x → ShownFound start x.0 x.1
+shown_found : Texts → (v : Version) (start : Rest) (x : Shown × Rest) → shown_at v start ≡ Ok x → ShownFound v start x.0 x.1
 unfolding shown_at
-shown_found law start x h =
-    let a = bind_ok (line_by count_in start) (λ count. derived_rows_at count.0 count.1 >>= λ rows. line_by (word_in (codes "tree")) rows.1 >>= λ mark. nodes_at 1 mark.1.line mark.1.pieces >>= λ nodes. Ok (record { derived = rows.0; tree = nodes.0 }, nodes.1)) x h in
-    let b = bind_ok (derived_rows_at a.0.0 a.0.1) (λ rows. line_by (word_in (codes "tree")) rows.1 >>= λ mark. nodes_at 1 mark.1.line mark.1.pieces >>= λ nodes. Ok (record { derived = rows.0; tree = nodes.0 }, nodes.1)) x a.2 in
-    let c = bind_ok (line_by (word_in (codes "tree")) b.0.1) (λ mark. nodes_at 1 mark.1.line mark.1.pieces >>= λ nodes. Ok (record { derived = b.0.0; tree = nodes.0 }, nodes.1)) x b.2 in
-    let d = bind_ok (nodes_at 1 c.0.1.line c.0.1.pieces) (λ nodes. Ok (record { derived = b.0.0; tree = nodes.0 }, nodes.1)) x c.2 in
+shown_found law v start x h =
+    let a = bind_ok (line_by count_in start) (λ count. derived_rows_at count.0 count.1 >>= λ rows. line_by (word_in (codes "tree")) rows.1 >>= λ mark. nodes_at v 1 mark.1.line mark.1.pieces >>= λ nodes. Ok (record { derived = rows.0; tree = nodes.0 }, nodes.1)) x h in
+    let b = bind_ok (derived_rows_at a.0.0 a.0.1) (λ rows. line_by (word_in (codes "tree")) rows.1 >>= λ mark. nodes_at v 1 mark.1.line mark.1.pieces >>= λ nodes. Ok (record { derived = rows.0; tree = nodes.0 }, nodes.1)) x a.2 in
+    let c = bind_ok (line_by (word_in (codes "tree")) b.0.1) (λ mark. nodes_at v 1 mark.1.line mark.1.pieces >>= λ nodes. Ok (record { derived = b.0.0; tree = nodes.0 }, nodes.1)) x b.2 in
+    let d = bind_ok (nodes_at v 1 c.0.1.line c.0.1.pieces) (λ nodes. Ok (record { derived = b.0.0; tree = nodes.0 }, nodes.1)) x c.2 in
     let count = line_found count_in start a.0.0 a.0.1 a.1 in
     let n = count_line law count.0 a.0.0 count.1 in
     let rows = rows_found law a.0.0 a.0.1 b.0 b.1 in
     let mark = line_found (word_in (codes "tree")) b.0.1 c.0.0 c.0.1 c.1 in
     let word = word_text (codes "tree") mark.0 c.0.0 mark.1 in
-    let nodes = nodes_found law 1 c.0.1.line c.0.1.pieces d.0 d.1 in
+    let nodes = nodes_found law v 1 c.0.1.line c.0.1.pieces d.0 d.1 in
     let f : List ℕ = feeds d.0.1.pieces in
     let shown : Shown = record { derived = b.0.0; tree = d.0.0 } in
-    let text : feeds start.pieces ≡ shown_text b.0.0 d.0.0 ++ f =
+    let text : feeds start.pieces ≡ shown_text v b.0.0 d.0.0 ++ f =
     count.2 ∙ ap (λ (l : List ℕ). l ++ (10 ∷ feeds a.0.1.pieces)) (n.0 ∙ ap (λ (k : ℕ). codes "derived " ++ decimal k) (sym rows.count))
     ∙ ap (λ (t : List ℕ). (codes "derived " ++ decimal (length b.0.0)) ++ (10 ∷ t)) (rows.text ∙ ap (λ (t : List ℕ). derived_rows_text b.0.0 ++ t) (mark.2 ∙ ap (λ (l : List ℕ). l ++ (10 ∷ feeds c.0.1.pieces)) word ∙ ap (λ (t : List ℕ). codes "tree" ++ (10 ∷ t)) nodes.text))
-    ∙ shown_glue (decimal (length b.0.0)) (derived_rows_text b.0.0) (tree_text d.0.0) f in
-    subst (λ (y : Shown × Rest). ShownFound start y.0 y.1) (made_is (shown, d.0.1) x d.2) (record {
+    ∙ shown_glue (decimal (length b.0.0)) (derived_rows_text b.0.0) (tree_text v d.0.0) f in
+    subst (λ (y : Shown × Rest). ShownFound v start y.0 y.1) (made_is (shown, d.0.1) x d.2) (record {
       text = text;
-      written = record { count = subst (λ (k : ℕ). k ≤ count_max) (sym rows.count) n.1; rows = rows.written; nodes = nodes.written; whole = nodes_fill 1 c.0.1.line c.0.1.pieces d.0 d.1 };
+      written = record { count = subst (λ (k : ℕ). k ≤ count_max) (sym rows.count) n.1; rows = rows.written; nodes = nodes.written; lines = nodes_have_lines v 1 c.0.1.line c.0.1.pieces d.0 d.1; whole = nodes_fill v 1 c.0.1.line c.0.1.pieces d.0 d.1 };
     })
 
 -- the lines of a verdict's parts
 abbrev pub parts_text : Certificate → Verdict → List ℕ
-parts_text c Optimal = value_text c.value ++ (point_text (codes "point") c.point ++ shown_text c.derived c.tree)
-parts_text c Infeasible = shown_text c.derived c.tree
+parts_text c Optimal = value_text c.value ++ (point_text (codes "point") c.point ++ shown_text c.version c.derived c.tree)
+parts_text c Infeasible = shown_text c.version c.derived c.tree
 parts_text c Unbounded = point_text (codes "point") c.point ++ point_text (codes "ray") c.ray
 
 pub body-parts : (c : Certificate) (v : Verdict) → body_text c v ≡ codes "verdict " ++ (name_of v ++ (10 ∷ parts_text c v))
@@ -190,9 +190,9 @@ body-parts c Optimal = refl
 body-parts c Infeasible = refl
 body-parts c Unbounded = refl
 
-pub record BodyFound (rows columns : ℕ) (v : Verdict) (start : Rest) (c : Certificate) (rest : Rest) : Type 0 where
+pub record BodyFound (version : Version) (rows columns : ℕ) (v : Verdict) (start : Rest) (c : Certificate) (rest : Rest) : Type 0 where
   pub text : feeds start.pieces ≡ parts_text c v ++ feeds rest.pieces
-  pub has_version : c.version ≡ One
+  pub has_version : c.version ≡ version
   pub has_rows : c.rows ≡ rows
   pub has_columns : c.columns ≡ columns
   pub has_verdict : c.verdict ≡ v
@@ -201,57 +201,57 @@ pub record BodyFound (rows columns : ℕ) (v : Verdict) (start : Rest) (c : Cert
 pub optimal_glue : (v x s f : List ℕ) → (codes "value " ++ v) ++ (10 ∷ ((codes "point" ++ x) ++ (10 ∷ (s ++ f)))) ≡ ((codes "value " ++ (v ++ codes "\n")) ++ ((codes "point" ++ (x ++ codes "\n")) ++ s)) ++ f
 optimal_glue v x s f = simp append_assoc
 
-optimal_found : Texts → (rows columns : ℕ) (start : Rest) (x : Certificate × Rest) → optimal_at rows columns start ≡ Ok x → BodyFound rows columns Optimal start x.0 x.1
+optimal_found : Texts → (v : Version) (rows columns : ℕ) (start : Rest) (x : Certificate × Rest) → optimal_at v rows columns start ≡ Ok x → BodyFound v rows columns Optimal start x.0 x.1
 unfolding optimal_at
-optimal_found law rows columns start x h =
-    let a = bind_ok (line_by value_in start) (λ value. line_by (point_in (codes "point") columns) value.1 >>= λ point. shown_at point.1 >>= λ shown. Ok (record { version = One; rows = rows; columns = columns; verdict = Optimal; value = Some value.0; point = Some point.0; ray = None; derived = shown.0.derived; tree = shown.0.tree }, shown.1)) x h in
-    let b = bind_ok (line_by (point_in (codes "point") columns) a.0.1) (λ point. shown_at point.1 >>= λ shown. Ok (record { version = One; rows = rows; columns = columns; verdict = Optimal; value = Some a.0.0; point = Some point.0; ray = None; derived = shown.0.derived; tree = shown.0.tree }, shown.1)) x a.2 in
-    let c = bind_ok (shown_at b.0.1) (λ shown. Ok (record { version = One; rows = rows; columns = columns; verdict = Optimal; value = Some a.0.0; point = Some b.0.0; ray = None; derived = shown.0.derived; tree = shown.0.tree }, shown.1)) x b.2 in
+optimal_found law v rows columns start x h =
+    let a = bind_ok (line_by value_in start) (λ value. line_by (point_in (codes "point") columns) value.1 >>= λ point. shown_at v point.1 >>= λ shown. Ok (record { version = v; rows = rows; columns = columns; verdict = Optimal; value = Some value.0; point = Some point.0; ray = None; derived = shown.0.derived; tree = shown.0.tree }, shown.1)) x h in
+    let b = bind_ok (line_by (point_in (codes "point") columns) a.0.1) (λ point. shown_at v point.1 >>= λ shown. Ok (record { version = v; rows = rows; columns = columns; verdict = Optimal; value = Some a.0.0; point = Some point.0; ray = None; derived = shown.0.derived; tree = shown.0.tree }, shown.1)) x a.2 in
+    let c = bind_ok (shown_at v b.0.1) (λ shown. Ok (record { version = v; rows = rows; columns = columns; verdict = Optimal; value = Some a.0.0; point = Some b.0.0; ray = None; derived = shown.0.derived; tree = shown.0.tree }, shown.1)) x b.2 in
     let value = line_found value_in start a.0.0 a.0.1 a.1 in
-    let v = value_line law value.0 a.0.0 value.1 in
+    let k = value_line law value.0 a.0.0 value.1 in
     let point = line_found (point_in (codes "point") columns) a.0.1 b.0.0 b.0.1 b.1 in
     let p = point_line law (codes "point") point.0 columns b.0.0 point.1 in
-    let s = shown_found law b.0.1 c.0 c.1 in
+    let s = shown_found law v b.0.1 c.0 c.1 in
     let f : List ℕ = feeds c.0.1.pieces in
-    let made : Certificate = record { version = One; rows = rows; columns = columns; verdict = Optimal; value = Some a.0.0; point = Some b.0.0; ray = None; derived = c.0.0.derived; tree = c.0.0.tree } in
+    let made : Certificate = record { version = v; rows = rows; columns = columns; verdict = Optimal; value = Some a.0.0; point = Some b.0.0; ray = None; derived = c.0.0.derived; tree = c.0.0.tree } in
     let text : feeds start.pieces ≡ parts_text made Optimal ++ f =
-    value.2 ∙ ap (λ (l : List ℕ). l ++ (10 ∷ feeds a.0.1.pieces)) v.0
+    value.2 ∙ ap (λ (l : List ℕ). l ++ (10 ∷ feeds a.0.1.pieces)) k.0
     ∙ ap (λ (t : List ℕ). (codes "value " ++ text_of a.0.0) ++ (10 ∷ t)) (point.2 ∙ ap (λ (l : List ℕ). l ++ (10 ∷ feeds b.0.1.pieces)) p.0 ∙ ap (λ (t : List ℕ). (codes "point" ++ numbers_text b.0.0) ++ (10 ∷ t)) s.text)
-    ∙ optimal_glue (text_of a.0.0) (numbers_text b.0.0) (shown_text c.0.0.derived c.0.0.tree) f in
-    subst (λ (y : Certificate × Rest). BodyFound rows columns Optimal start y.0 y.1) (made_is (made, c.0.1) x c.2) (record { text = text; has_version = refl; has_rows = refl; has_columns = refl; has_verdict = refl; parts = (v.1, p.1, refl, s.written) })
+    ∙ optimal_glue (text_of a.0.0) (numbers_text b.0.0) (shown_text v c.0.0.derived c.0.0.tree) f in
+    subst (λ (y : Certificate × Rest). BodyFound v rows columns Optimal start y.0 y.1) (made_is (made, c.0.1) x c.2) (record { text = text; has_version = refl; has_rows = refl; has_columns = refl; has_verdict = refl; parts = (k.1, p.1, refl, s.written) })
 
-infeasible_found : Texts → (rows columns : ℕ) (start : Rest) (x : Certificate × Rest) → infeasible_at rows columns start ≡ Ok x → BodyFound rows columns Infeasible start x.0 x.1
+infeasible_found : Texts → (v : Version) (rows columns : ℕ) (start : Rest) (x : Certificate × Rest) → infeasible_at v rows columns start ≡ Ok x → BodyFound v rows columns Infeasible start x.0 x.1
 unfolding infeasible_at
-infeasible_found law rows columns start x h =
-    let a = bind_ok (shown_at start) (λ shown. Ok (record { version = One; rows = rows; columns = columns; verdict = Infeasible; value = None; point = None; ray = None; derived = shown.0.derived; tree = shown.0.tree }, shown.1)) x h in
-    let s = shown_found law start a.0 a.1 in
-    let made : Certificate = record { version = One; rows = rows; columns = columns; verdict = Infeasible; value = None; point = None; ray = None; derived = a.0.0.derived; tree = a.0.0.tree } in
-    subst (λ (y : Certificate × Rest). BodyFound rows columns Infeasible start y.0 y.1) (made_is (made, a.0.1) x a.2) (record { text = s.text; has_version = refl; has_rows = refl; has_columns = refl; has_verdict = refl; parts = (refl, refl, refl, s.written) })
+infeasible_found law v rows columns start x h =
+    let a = bind_ok (shown_at v start) (λ shown. Ok (record { version = v; rows = rows; columns = columns; verdict = Infeasible; value = None; point = None; ray = None; derived = shown.0.derived; tree = shown.0.tree }, shown.1)) x h in
+    let s = shown_found law v start a.0 a.1 in
+    let made : Certificate = record { version = v; rows = rows; columns = columns; verdict = Infeasible; value = None; point = None; ray = None; derived = a.0.0.derived; tree = a.0.0.tree } in
+    subst (λ (y : Certificate × Rest). BodyFound v rows columns Infeasible start y.0 y.1) (made_is (made, a.0.1) x a.2) (record { text = s.text; has_version = refl; has_rows = refl; has_columns = refl; has_verdict = refl; parts = (refl, refl, refl, s.written) })
 
 pub unbounded_glue : (x r f : List ℕ) → (codes "point" ++ x) ++ (10 ∷ ((codes "ray" ++ r) ++ (10 ∷ f))) ≡ ((codes "point" ++ (x ++ codes "\n")) ++ (codes "ray" ++ (r ++ codes "\n"))) ++ f
 unbounded_glue x r f = simp append_assoc
 
-unbounded_found : Texts → (rows columns : ℕ) (start : Rest) (x : Certificate × Rest) → unbounded_at rows columns start ≡ Ok x → BodyFound rows columns Unbounded start x.0 x.1
+unbounded_found : Texts → (v : Version) (rows columns : ℕ) (start : Rest) (x : Certificate × Rest) → unbounded_at v rows columns start ≡ Ok x → BodyFound v rows columns Unbounded start x.0 x.1
 unfolding unbounded_at
-unbounded_found law rows columns start x h =
-    let a = bind_ok (line_by (point_in (codes "point") columns) start) (λ point. line_by (point_in (codes "ray") columns) point.1 >>= λ ray. Ok (record { version = One; rows = rows; columns = columns; verdict = Unbounded; value = None; point = Some point.0; ray = Some ray.0; derived = []; tree = [] }, ray.1)) x h in
-    let b = bind_ok (line_by (point_in (codes "ray") columns) a.0.1) (λ ray. Ok (record { version = One; rows = rows; columns = columns; verdict = Unbounded; value = None; point = Some a.0.0; ray = Some ray.0; derived = []; tree = [] }, ray.1)) x a.2 in
+unbounded_found law v rows columns start x h =
+    let a = bind_ok (line_by (point_in (codes "point") columns) start) (λ point. line_by (point_in (codes "ray") columns) point.1 >>= λ ray. Ok (record { version = v; rows = rows; columns = columns; verdict = Unbounded; value = None; point = Some point.0; ray = Some ray.0; derived = []; tree = [] }, ray.1)) x h in
+    let b = bind_ok (line_by (point_in (codes "ray") columns) a.0.1) (λ ray. Ok (record { version = v; rows = rows; columns = columns; verdict = Unbounded; value = None; point = Some a.0.0; ray = Some ray.0; derived = []; tree = [] }, ray.1)) x a.2 in
     let point = line_found (point_in (codes "point") columns) start a.0.0 a.0.1 a.1 in
     let p = point_line law (codes "point") point.0 columns a.0.0 point.1 in
     let ray = line_found (point_in (codes "ray") columns) a.0.1 b.0.0 b.0.1 b.1 in
     let r = point_line law (codes "ray") ray.0 columns b.0.0 ray.1 in
     let f : List ℕ = feeds b.0.1.pieces in
-    let made : Certificate = record { version = One; rows = rows; columns = columns; verdict = Unbounded; value = None; point = Some a.0.0; ray = Some b.0.0; derived = []; tree = [] } in
+    let made : Certificate = record { version = v; rows = rows; columns = columns; verdict = Unbounded; value = None; point = Some a.0.0; ray = Some b.0.0; derived = []; tree = [] } in
     let text : feeds start.pieces ≡ parts_text made Unbounded ++ f =
     point.2 ∙ ap (λ (l : List ℕ). l ++ (10 ∷ feeds a.0.1.pieces)) p.0
     ∙ ap (λ (t : List ℕ). (codes "point" ++ numbers_text a.0.0) ++ (10 ∷ t)) (ray.2 ∙ ap (λ (l : List ℕ). l ++ (10 ∷ f)) r.0)
     ∙ unbounded_glue (numbers_text a.0.0) (numbers_text b.0.0) f in
-    subst (λ (y : Certificate × Rest). BodyFound rows columns Unbounded start y.0 y.1) (made_is (made, b.0.1) x b.2) (record { text = text; has_version = refl; has_rows = refl; has_columns = refl; has_verdict = refl; parts = (refl, p.1, r.1, refl, refl) })
+    subst (λ (y : Certificate × Rest). BodyFound v rows columns Unbounded start y.0 y.1) (made_is (made, b.0.1) x b.2) (record { text = text; has_version = refl; has_rows = refl; has_columns = refl; has_verdict = refl; parts = (refl, p.1, r.1, refl, refl) })
 
-body_found : Texts → (rows columns : ℕ) (v : Verdict) (start : Rest) (x : Certificate × Rest) → body_at rows columns v start ≡ Ok x → BodyFound rows columns v start x.0 x.1
-body_found law rows columns Optimal start x h = optimal_found law rows columns start x h
-body_found law rows columns Infeasible start x h = infeasible_found law rows columns start x h
-body_found law rows columns Unbounded start x h = unbounded_found law rows columns start x h
+body_found : Texts → (version : Version) (rows columns : ℕ) (v : Verdict) (start : Rest) (x : Certificate × Rest) → body_at version rows columns v start ≡ Ok x → BodyFound version rows columns v start x.0 x.1
+body_found law version rows columns Optimal start x h = optimal_found law version rows columns start x h
+body_found law version rows columns Infeasible start x h = infeasible_found law version rows columns start x h
+body_found law version rows columns Unbounded start x h = unbounded_found law version rows columns start x h
 
 over_found : (c d : Certificate) (rest : Rest) → over c rest ≡ Ok d → (is_over rest.pieces ≡ true) × (c ≡ d)
 over_found c d rest h = by_test (is_over rest.pieces) h
@@ -266,9 +266,9 @@ over_feeds ([] ∷ []) h = refl
 over_feeds ([] ∷ p ∷ ps) h = absurd cc
 over_feeds ((c ∷ cs) ∷ ps) h = absurd cc
 
-pub whole_glue : (m n v p : List ℕ) → (codes "cert 1") ++ (10 ∷ ((codes "size " ++ (m ++ (codes " " ++ n))) ++ (10 ∷ ((codes "verdict " ++ v) ++ (10 ∷ (p ++ (codes "end" ++ (10 ∷ []))))))))
-    ≡ (codes "cert 1\nsize " ++ (m ++ (codes " " ++ (n ++ codes "\n")))) ++ ((codes "verdict " ++ (v ++ (10 ∷ p))) ++ codes "end\n")
-whole_glue m n v p = simp append_assoc
+pub whole_glue : (d m n v p : List ℕ) → (codes "cert " ++ d) ++ (10 ∷ ((codes "size " ++ (m ++ (codes " " ++ n))) ++ (10 ∷ ((codes "verdict " ++ v) ++ (10 ∷ (p ++ (codes "end" ++ (10 ∷ []))))))))
+    ≡ (codes "cert " ++ (d ++ (codes "\nsize " ++ (m ++ (codes " " ++ (n ++ codes "\n")))))) ++ ((codes "verdict " ++ (v ++ (10 ∷ p))) ++ codes "end\n")
+whole_glue d m n v p = simp append_assoc
 
 pub record CertificateFound (text : List ℕ) (c : Certificate) : Type 0 where
   pub text_is : text ≡ certificate_text c
@@ -277,10 +277,10 @@ pub record CertificateFound (text : List ℕ) (c : Certificate) : Type 0 where
 found_from : Texts → (start : Rest) (c : Certificate) → certificate_at start ≡ Ok c → CertificateFound (feeds start.pieces) c
 unfolding certificate_at
 found_from law start d h =
-    let a = bind_ok (line_by version_in start) (λ version. line_by size_in version.1 >>= λ size. line_by verdict_in size.1 >>= λ verdict. body_at size.0.0 size.0.1 verdict.0 verdict.1 >>= λ body. line_by (word_in (codes "end")) body.1 >>= λ end. over body.0 end.1) d h in
-    let b = bind_ok (line_by size_in a.0.1) (λ size. line_by verdict_in size.1 >>= λ verdict. body_at size.0.0 size.0.1 verdict.0 verdict.1 >>= λ body. line_by (word_in (codes "end")) body.1 >>= λ end. over body.0 end.1) d a.2 in
-    let e = bind_ok (line_by verdict_in b.0.1) (λ verdict. body_at b.0.0.0 b.0.0.1 verdict.0 verdict.1 >>= λ body. line_by (word_in (codes "end")) body.1 >>= λ end. over body.0 end.1) d b.2 in
-    let g = bind_ok (body_at b.0.0.0 b.0.0.1 e.0.0 e.0.1) (λ body. line_by (word_in (codes "end")) body.1 >>= λ end. over body.0 end.1) d e.2 in
+    let a = bind_ok (line_by version_in start) (λ version. line_by size_in version.1 >>= λ size. line_by verdict_in size.1 >>= λ verdict. body_at version.0 size.0.0 size.0.1 verdict.0 verdict.1 >>= λ body. line_by (word_in (codes "end")) body.1 >>= λ end. over body.0 end.1) d h in
+    let b = bind_ok (line_by size_in a.0.1) (λ size. line_by verdict_in size.1 >>= λ verdict. body_at a.0.0 size.0.0 size.0.1 verdict.0 verdict.1 >>= λ body. line_by (word_in (codes "end")) body.1 >>= λ end. over body.0 end.1) d a.2 in
+    let e = bind_ok (line_by verdict_in b.0.1) (λ verdict. body_at a.0.0 b.0.0.0 b.0.0.1 verdict.0 verdict.1 >>= λ body. line_by (word_in (codes "end")) body.1 >>= λ end. over body.0 end.1) d b.2 in
+    let g = bind_ok (body_at a.0.0 b.0.0.0 b.0.0.1 e.0.0 e.0.1) (λ body. line_by (word_in (codes "end")) body.1 >>= λ end. over body.0 end.1) d e.2 in
     let k = bind_ok (line_by (word_in (codes "end")) g.0.1) (λ end. over g.0.0 end.1) d g.2 in
     let o = over_found g.0.0 d k.0.1 k.2 in
     let version = line_found version_in start a.0.0 a.0.1 a.1 in
@@ -288,7 +288,7 @@ found_from law start d h =
     let verdict = line_found verdict_in b.0.1 e.0.0 e.0.1 e.1 in
     let end = line_found (word_in (codes "end")) g.0.1 k.0.0 k.0.1 k.1 in
     let s = size_text law size.0 b.0.0 size.1 in
-    let body = body_found law b.0.0.0 b.0.0.1 e.0.0 e.0.1 g.0 g.1 in
+    let body = body_found law a.0.0 b.0.0.0 b.0.0.1 e.0.0 e.0.1 g.0 g.1 in
     let c : Certificate = g.0.0 in
     let m : List ℕ = decimal b.0.0.0 in
     let n : List ℕ = decimal b.0.0.1 in
@@ -297,11 +297,15 @@ found_from law start d h =
     let fourth : feeds e.0.1.pieces ≡ parts_text c e.0.0 ++ (codes "end" ++ (10 ∷ [])) = body.text ∙ ap (λ (t : List ℕ). parts_text c e.0.0 ++ t) last in
     let third : feeds b.0.1.pieces ≡ (codes "verdict " ++ v) ++ (10 ∷ (parts_text c e.0.0 ++ (codes "end" ++ (10 ∷ [])))) = verdict.2 ∙ ap (λ (l : List ℕ). l ++ (10 ∷ feeds e.0.1.pieces)) (verdict_text verdict.0 e.0.0 verdict.1) ∙ ap (λ (t : List ℕ). (codes "verdict " ++ v) ++ (10 ∷ t)) fourth in
     let second : feeds a.0.1.pieces ≡ (codes "size " ++ (m ++ (codes " " ++ n))) ++ (10 ∷ ((codes "verdict " ++ v) ++ (10 ∷ (parts_text c e.0.0 ++ (codes "end" ++ (10 ∷ [])))))) = size.2 ∙ ap (λ (l : List ℕ). l ++ (10 ∷ feeds b.0.1.pieces)) s.0 ∙ ap (λ (t : List ℕ). (codes "size " ++ (m ++ (codes " " ++ n))) ++ (10 ∷ t)) third in
-    let first : feeds start.pieces ≡ codes "cert 1" ++ (10 ∷ ((codes "size " ++ (m ++ (codes " " ++ n))) ++ (10 ∷ ((codes "verdict " ++ v) ++ (10 ∷ (parts_text c e.0.0 ++ (codes "end" ++ (10 ∷ [])))))))) = version.2 ∙ ap (λ (l : List ℕ). l ++ (10 ∷ feeds a.0.1.pieces)) (version_text version.0 a.0.0 version.1) ∙ ap (λ (t : List ℕ). codes "cert 1" ++ (10 ∷ t)) second in
-    let glued : feeds start.pieces ≡ head_text b.0.0.0 b.0.0.1 ++ (body_text c e.0.0 ++ codes "end\n") = first ∙ whole_glue m n v (parts_text c e.0.0) ∙ ap (λ (t : List ℕ). head_text b.0.0.0 b.0.0.1 ++ (t ++ codes "end\n")) (sym (body-parts c e.0.0)) in
-    let text : feeds start.pieces ≡ certificate_text c = glued ∙ ap (λ (r : ℕ). head_text r b.0.0.1 ++ (body_text c e.0.0 ++ codes "end\n")) (sym body.has_rows) ∙ ap (λ (r : ℕ). head_text c.rows r ++ (body_text c e.0.0 ++ codes "end\n")) (sym body.has_columns) ∙ ap (λ (w : Verdict). head_text c.rows c.columns ++ (body_text c w ++ codes "end\n")) (sym body.has_verdict) in
+    let first : feeds start.pieces ≡ (codes "cert " ++ digit_of a.0.0) ++ (10 ∷ ((codes "size " ++ (m ++ (codes " " ++ n))) ++ (10 ∷ ((codes "verdict " ++ v) ++ (10 ∷ (parts_text c e.0.0 ++ (codes "end" ++ (10 ∷ [])))))))) = version.2 ∙ ap (λ (l : List ℕ). l ++ (10 ∷ feeds a.0.1.pieces)) (version_text version.0 a.0.0 version.1) ∙ ap (λ (t : List ℕ). (codes "cert " ++ digit_of a.0.0) ++ (10 ∷ t)) second in
+    let glued : feeds start.pieces ≡ head_text a.0.0 b.0.0.0 b.0.0.1 ++ (body_text c e.0.0 ++ codes "end\n") = first ∙ whole_glue (digit_of a.0.0) m n v (parts_text c e.0.0) ∙ ap (λ (t : List ℕ). head_text a.0.0 b.0.0.0 b.0.0.1 ++ (t ++ codes "end\n")) (sym (body-parts c e.0.0)) in
+    let text : feeds start.pieces ≡ certificate_text c =
+    glued
+    ∙ ap (λ (r : Version). head_text r b.0.0.0 b.0.0.1 ++ (body_text c e.0.0 ++ codes "end\n")) (sym body.has_version)
+    ∙ ap (λ (r : ℕ). head_text c.version r b.0.0.1 ++ (body_text c e.0.0 ++ codes "end\n")) (sym body.has_rows)
+    ∙ ap (λ (r : ℕ). head_text c.version c.rows r ++ (body_text c e.0.0 ++ codes "end\n")) (sym body.has_columns)
+    ∙ ap (λ (w : Verdict). head_text c.version c.rows c.columns ++ (body_text c w ++ codes "end\n")) (sym body.has_verdict) in
     let written : HasText c = record {
-      version = body.has_version;
       rows = subst (λ (r : ℕ). r ≤ count_max) (sym body.has_rows) s.1;
       columns = subst (λ (r : ℕ). r ≤ count_max) (sym body.has_columns) s.2;
       parts = subst (λ (w : Verdict). HasParts c w) (sym body.has_verdict) body.parts;

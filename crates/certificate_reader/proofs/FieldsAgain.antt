@@ -16,12 +16,12 @@ use Rattle.fraction.specs.declared.read.ReadFault.{ReadFault}
 use Rattle.milp.specs.Form.{Entry}
 use Rattle.rational.specs.Compare.{is_zero}
 use Rattle.instance.specs.WellFormed.{are_entries_from}
-use Rattle.verdicts.specs.Certificate.{Item, Weights}
+use Rattle.verdicts.specs.Certificate.{Version, One, Two, Item, Weights}
 use Rattle.certificate_lines.specs.declared.fault.FaultKind.{FaultKind}
 use Rattle.certificate_lines.specs.declared.fault.FaultKind.TheVariants.{BadLine}
-use Rattle.certificate.specs.Written.{count_max, is_negative, rank_of, IsItem, AreItemsFrom, AreWeights, IsForm}
-use Rattle.certificate.specs.Text.{items_text, weights_text, form_text, numbers_text}
-use Rattle.certificate_lines.specs.Fields.{◌>>=◌, expect, counted, count_of, index_of, numbered, number_of, is_some, some_number_of, whole_of, is_blank, is_colon, fields_of, numbers_of, entry_of, form_of, item_of, is_of, items_of, weights_of}
+use Rattle.certificate.specs.Written.{count_max, is_negative, rank_of, IsItem, AreItemsFrom, AreWeights, AreLeafWeights, IsForm}
+use Rattle.certificate.specs.Text.{items_text, weights_text, leaf_text, form_text, numbers_text}
+use Rattle.certificate_lines.specs.Fields.{◌>>=◌, expect, counted, count_of, index_of, numbered, number_of, is_some, some_number_of, whole_of, is_blank, is_colon, fields_of, numbers_of, entry_of, form_of, item_of, is_of, items_of, row_weights_of, weights_of, splits_of, with_splits, leaf_weights_of}
 use Rattle.certificate_reader.proofs.FieldsFound.{Texts, blanked}
 
 -- ---- bytes
@@ -344,28 +344,70 @@ items_again law kind least (i ∷ is) rest h k =
 abbrev pub weights_fields : Weights → List (List ℕ)
 weights_fields w = items_fields 114 w.rows ++ (items_fields 99 w.columns ++ items_fields 100 w.derived)
 
-not_rows : (cs ds : List Item) → NotOf 114 (items_fields 99 cs ++ items_fields 100 ds)
-not_rows [] [] = tt
-not_rows [] (d ∷ ds) = refl
-not_rows (c ∷ cs) ds = refl
+-- the fields don't begin with the weight of a row, a column or a derived row
+record NotRowWeights (fields : List (List ℕ)) : Type 0 where
+  rows : NotOf 114 fields
+  columns : NotOf 99 fields
+  derived : NotOf 100 fields
 
-not_columns : (ds : List Item) → NotOf 99 (items_fields 100 ds)
-not_columns [] = tt
-not_columns (d ∷ ds) = refl
+no_fields : NotRowWeights []
+no_fields = record { rows = tt; columns = tt; derived = tt }
 
-abbrev with_splits : Weights → List Item → Weights
-with_splits w splits = record { rows = w.rows; columns = w.columns; derived = w.derived; splits = splits }
+not_columns : (ds : List Item) (rest : List (List ℕ)) → NotOf 99 rest → NotOf 99 (items_fields 100 ds ++ rest)
+not_columns [] rest h = h
+not_columns (d ∷ ds) rest h = refl
+
+not_rows : (cs ds : List Item) (rest : List (List ℕ)) → NotOf 114 rest → NotOf 114 (items_fields 99 cs ++ (items_fields 100 ds ++ rest))
+not_rows [] [] rest h = h
+not_rows [] (d ∷ ds) rest h = refl
+not_rows (c ∷ cs) ds rest h = refl
+
+row_weights_again : Texts → (w : Weights) (rest : List (List ℕ)) → AreItemsFrom 0 w.rows → AreItemsFrom 0 w.columns → AreItemsFrom 0 w.derived → NotRowWeights rest → row_weights_of (weights_fields w ++ rest) ≡ Ok (with_splits w [], rest)
+unfolding row_weights_of
+row_weights_again law w rest r c d h =
+    let last : List (List ℕ) = items_fields 100 w.derived ++ rest in
+    let apart : weights_fields w ++ rest ≡ items_fields 114 w.rows ++ (items_fields 99 w.columns ++ last) = append_assoc (items_fields 114 w.rows) (items_fields 99 w.columns ++ items_fields 100 w.derived) rest ∙ ap (λ (fs : List (List ℕ)). items_fields 114 w.rows ++ fs) (append_assoc (items_fields 99 w.columns) (items_fields 100 w.derived) rest) in
+    let rows = items_again law 114 0 w.rows (items_fields 99 w.columns ++ last) r (not_rows w.columns w.derived rest h.rows) in
+    let columns = items_again law 99 0 w.columns last c (not_columns w.derived rest h.columns) in
+    let derived = items_again law 100 0 w.derived rest d h.derived in
+    rw (apart, rows, columns, derived) refl
 
 pub weights_again : Texts → (w : Weights) → AreWeights w → weights_of (weights_fields w) ≡ Ok w
 unfolding weights_of
 weights_again law w h =
-    let rows = items_again law 114 0 w.rows (items_fields 99 w.columns ++ items_fields 100 w.derived) h.rows (not_rows w.columns w.derived) in
-    let columns = items_again law 99 0 w.columns (items_fields 100 w.derived) h.columns (not_columns w.derived) in
-    let derived : items_of 100 0 (items_fields 100 w.derived) ≡ Ok (w.derived, []) = ap (items_of 100 0) (sym (append-nil (items_fields 100 w.derived))) ∙ items_again law 100 0 w.derived [] h.derived tt in
-    rw (rows, columns, derived) (ap (λ (splits : List Item). Ok (with_splits w splits)) (sym h.splits))
+    let read : row_weights_of (weights_fields w) ≡ Ok (with_splits w [], []) = ap row_weights_of (sym (append-nil (weights_fields w))) ∙ row_weights_again law w [] h.rows h.columns h.derived no_fields in
+    rw read (ap (λ (splits : List Item). Ok (with_splits w splits)) (sym h.splits))
+
+abbrev pub leaf_fields : Weights → List (List ℕ)
+leaf_fields w = weights_fields w ++ items_fields 115 w.splits
+
+splits_alone : (is : List Item) → NotRowWeights (items_fields 115 is)
+splits_alone [] = no_fields
+splits_alone (i ∷ is) = record { rows = refl; columns = refl; derived = refl }
+
+-- version 1 has no weights of splits
+abbrev pub HasSplits : Version → List Item → Type 0
+HasSplits One splits = splits ≡ []
+HasSplits Two splits = Unit {0}
+
+splits_again : Texts → (v : Version) (is : List Item) → AreItemsFrom 0 is → HasSplits v is → splits_of v (items_fields 115 is) ≡ Ok (is, [])
+unfolding splits_of
+splits_again law One [] h k = refl
+splits_again law One (i ∷ is) h k = absurd cc
+splits_again law Two is h k = ap (items_of 115 0) (sym (append-nil (items_fields 115 is))) ∙ items_again law 115 0 is [] h tt
+
+pub leaf_weights_again : Texts → (v : Version) (w : Weights) → AreLeafWeights w → HasSplits v w.splits → leaf_weights_of v (leaf_fields w) ≡ Ok w
+unfolding leaf_weights_of
+leaf_weights_again law v w h k = rw (row_weights_again law w (items_fields 115 w.splits) h.rows h.columns h.derived (splits_alone w.splits), splits_again law v w.splits h.splits k) refl
+
+weights_are_solid : (w : Weights) → AreItemsFrom 0 w.rows → AreItemsFrom 0 w.columns → AreItemsFrom 0 w.derived → are_solid (weights_fields w) ≡ true
+weights_are_solid w r c d = are_solid-append (items_fields 114 w.rows) (items_fields 99 w.columns ++ items_fields 100 w.derived) (items_solid 114 0 w.rows refl r) (are_solid-append (items_fields 99 w.columns) (items_fields 100 w.derived) (items_solid 99 0 w.columns refl c) (items_solid 100 0 w.derived refl d))
 
 pub weights_solid : (w : Weights) → AreWeights w → are_solid (weights_fields w) ≡ true
-weights_solid w h = are_solid-append (items_fields 114 w.rows) (items_fields 99 w.columns ++ items_fields 100 w.derived) (items_solid 114 0 w.rows refl h.rows) (are_solid-append (items_fields 99 w.columns) (items_fields 100 w.derived) (items_solid 99 0 w.columns refl h.columns) (items_solid 100 0 w.derived refl h.derived))
+weights_solid w h = weights_are_solid w h.rows h.columns h.derived
+
+pub leaf_solid : (w : Weights) → AreLeafWeights w → are_solid (leaf_fields w) ≡ true
+leaf_solid w h = are_solid-append (weights_fields w) (items_fields 115 w.splits) (weights_are_solid w h.rows h.columns h.derived) (items_solid 115 0 w.splits refl h.splits)
 
 pub weights_blanked : (w : Weights) → blanked (weights_fields w) ≡ weights_text w
 weights_blanked w =
@@ -374,3 +416,9 @@ weights_blanked w =
     ∙ ap (λ (r : List ℕ). items_text (114 ∷ []) w.rows ++ r) (blanked-append (items_fields 99 w.columns) (items_fields 100 w.derived)
     ∙ ap (λ (r : List ℕ). r ++ blanked (items_fields 100 w.derived)) (items_blanked 99 w.columns)
     ∙ ap (λ (r : List ℕ). items_text (99 ∷ []) w.columns ++ r) (items_blanked 100 w.derived))
+
+pub leaf_blanked : (w : Weights) → blanked (leaf_fields w) ≡ leaf_text w
+leaf_blanked w =
+    blanked-append (weights_fields w) (items_fields 115 w.splits)
+    ∙ ap (λ (r : List ℕ). r ++ blanked (items_fields 115 w.splits)) (weights_blanked w)
+    ∙ ap (λ (r : List ℕ). weights_text w ++ r) (items_blanked 115 w.splits)

@@ -17,12 +17,12 @@ use Rattle.fraction.specs.declared.read.ReadFault.{ReadFault}
 use Rattle.fraction.specs.declared.read.ReadFault.TheVariants as fault
 use Rattle.milp.specs.Form.{Entry}
 use Rattle.rational.specs.Compare.{is_zero}
-use Rattle.verdicts.specs.Certificate.{Item, Weights}
+use Rattle.verdicts.specs.Certificate.{Version, One, Two, Item, Weights}
 use Rattle.certificate_lines.specs.declared.fault.FaultKind.{FaultKind}
 use Rattle.certificate_lines.specs.declared.fault.FaultKind.TheVariants.{BadLine}
-use Rattle.certificate.specs.Written.{count_max, rank_of, AreItemsFrom, AreWeights, IsForm}
-use Rattle.certificate.specs.Text.{item_text, items_text, weights_text, entry_text, form_text, numbers_text}
-use Rattle.certificate_lines.specs.Fields.{◌>>=◌, expect, count_of, index_of, numbered, number_of, some_number_of, whole_of, is_colon, fields_of, next_field, first_by, after_word, ended, numbers_of, entry_of, form_of, item_of, is_of, items_of, weights_of}
+use Rattle.certificate.specs.Written.{count_max, rank_of, AreItemsFrom, AreWeights, AreLeafWeights, IsForm}
+use Rattle.certificate.specs.Text.{item_text, items_text, weights_text, leaf_text, entry_text, form_text, numbers_text}
+use Rattle.certificate_lines.specs.Fields.{◌>>=◌, expect, count_of, index_of, numbered, number_of, some_number_of, whole_of, is_colon, fields_of, next_field, first_by, after_word, ended, numbers_of, entry_of, form_of, item_of, is_of, items_of, row_weights_of, weights_of, splits_of, with_splits, leaf_weights_of}
 use Rattle.certificate_lines.proofs.Taken.{bind_ok, expect_ok, counted_ok, index_takes, nonzero_takes, entry_takes, form_entries}
 use Rattle.certificate_reader.proofs.LinesTaken.{chosen, made_of_is}
 
@@ -225,20 +225,56 @@ items_found law kind least (field ∷ fields) x h =
           subst (λ (y : List Item × List (List ℕ)). ItemsFound kind least (field ∷ fields) y.0 y.1) made (record { text = refl; written = tt })
     ]
 
-pub weights_found : Texts → (fields : List (List ℕ)) (w : Weights) → weights_of fields ≡ Ok w → (blanked fields ≡ weights_text w) × AreWeights w
-unfolding weights_of
-weights_found law fields w h =
-    let a = bind_ok (items_of 114 0 fields) (λ rows. items_of 99 0 rows.1 >>= λ columns. items_of 100 0 columns.1 >>= λ derived. ended derived.1 >>= λ _. Ok (record { rows = rows.0; columns = columns.0; derived = derived.0; splits = [] })) w h in
-    let b = bind_ok (items_of 99 0 a.0.1) (λ columns. items_of 100 0 columns.1 >>= λ derived. ended derived.1 >>= λ _. Ok (record { rows = a.0.0; columns = columns.0; derived = derived.0; splits = [] })) w a.2 in
-    let c = bind_ok (items_of 100 0 b.0.1) (λ derived. ended derived.1 >>= λ _. Ok (record { rows = a.0.0; columns = b.0.0; derived = derived.0; splits = [] })) w b.2 in
-    let d = bind_ok (ended c.0.1) (λ _. Ok (record { rows = a.0.0; columns = b.0.0; derived = c.0.0; splits = [] })) w c.2 in
+-- weights of rows, columns and derived rows, and the fields after them
+pub record RowWeightsFound (fields : List (List ℕ)) (w : Weights) (rest : List (List ℕ)) : Type 0 where
+  pub text : blanked fields ≡ weights_text w ++ blanked rest
+  pub written : AreWeights w
+
+weights_glue : (r l e k : List ℕ) → r ++ (l ++ (e ++ k)) ≡ (r ++ (l ++ e)) ++ k
+weights_glue r l e k = simp append_assoc
+
+pub row_weights_found : Texts → (fields : List (List ℕ)) (x : Weights × List (List ℕ)) → row_weights_of fields ≡ Ok x → RowWeightsFound fields x.0 x.1
+unfolding row_weights_of
+row_weights_found law fields x h =
+    let a = bind_ok (items_of 114 0 fields) (λ rows. items_of 99 0 rows.1 >>= λ columns. items_of 100 0 columns.1 >>= λ derived. Ok (record { rows = rows.0; columns = columns.0; derived = derived.0; splits = [] }, derived.1)) x h in
+    let b = bind_ok (items_of 99 0 a.0.1) (λ columns. items_of 100 0 columns.1 >>= λ derived. Ok (record { rows = a.0.0; columns = columns.0; derived = derived.0; splits = [] }, derived.1)) x a.2 in
+    let c = bind_ok (items_of 100 0 b.0.1) (λ derived. Ok (record { rows = a.0.0; columns = b.0.0; derived = derived.0; splits = [] }, derived.1)) x b.2 in
     let rows = items_found law 114 0 fields a.0 a.1 in
     let columns = items_found law 99 0 a.0.1 b.0 b.1 in
     let derived = items_found law 100 0 b.0.1 c.0 c.1 in
-    let none : blanked c.0.1 ≡ [] = ap blanked (ended_found c.0.1 d.0 d.1) in
     let made : Weights = record { rows = a.0.0; columns = b.0.0; derived = c.0.0; splits = [] } in
     let r : List ℕ = items_text (114 ∷ []) a.0.0 in
     let l : List ℕ = items_text (99 ∷ []) b.0.0 in
     let e : List ℕ = items_text (100 ∷ []) c.0.0 in
-    subst (λ (x : Weights). (blanked fields ≡ weights_text x) × AreWeights x) (made_of_is made w d.2)
-    (rows.text ∙ ap (λ (u : List ℕ). r ++ u) (columns.text ∙ ap (λ (u : List ℕ). l ++ u) (derived.text ∙ ap (λ (u : List ℕ). e ++ u) none ∙ append-nil e)), record { rows = rows.written; columns = columns.written; derived = derived.written; splits = refl })
+    subst (λ (y : Weights × List (List ℕ)). RowWeightsFound fields y.0 y.1) (made_of_is {A = Weights × List (List ℕ)} (made, c.0.1) x c.2) (record {
+      text = rows.text ∙ ap (λ (u : List ℕ). r ++ u) (columns.text ∙ ap (λ (u : List ℕ). l ++ u) derived.text) ∙ weights_glue r l e (blanked c.0.1);
+      written = record { rows = rows.written; columns = columns.written; derived = derived.written; splits = refl };
+    })
+
+pub weights_found : Texts → (fields : List (List ℕ)) (w : Weights) → weights_of fields ≡ Ok w → (blanked fields ≡ weights_text w) × AreWeights w
+unfolding weights_of
+weights_found law fields w h =
+    let a = bind_ok (row_weights_of fields) (λ weights. ended weights.1 >>= λ _. Ok weights.0) w h in
+    let b = bind_ok (ended a.0.1) (λ _. Ok a.0.0) w a.2 in
+    let found = row_weights_found law fields a.0 a.1 in
+    let none : blanked a.0.1 ≡ [] = ap blanked (ended_found a.0.1 b.0 b.1) in
+    subst (λ (x : Weights). (blanked fields ≡ weights_text x) × AreWeights x) (made_of_is a.0.0 w b.2)
+    (found.text ∙ ap (λ (u : List ℕ). weights_text a.0.0 ++ u) none ∙ append-nil (weights_text a.0.0), found.written)
+
+splits_found : Texts → (v : Version) (fields : List (List ℕ)) (x : List Item × List (List ℕ)) → splits_of v fields ≡ Ok x → ItemsFound 115 0 fields x.0 x.1
+unfolding splits_of
+splits_found law One fields x h = subst (λ (y : List Item × List (List ℕ)). ItemsFound 115 0 fields y.0 y.1) (made_of_is ([], fields) x h) (record { text = refl; written = tt })
+splits_found law Two fields x h = items_found law 115 0 fields x h
+
+pub leaf_weights_found : Texts → (v : Version) (fields : List (List ℕ)) (w : Weights) → leaf_weights_of v fields ≡ Ok w → (blanked fields ≡ leaf_text w) × AreLeafWeights w
+unfolding leaf_weights_of
+leaf_weights_found law v fields w h =
+    let a = bind_ok (row_weights_of fields) (λ weights. splits_of v weights.1 >>= λ splits. ended splits.1 >>= λ _. Ok (with_splits weights.0 splits.0)) w h in
+    let b = bind_ok (splits_of v a.0.1) (λ splits. ended splits.1 >>= λ _. Ok (with_splits a.0.0 splits.0)) w a.2 in
+    let c = bind_ok (ended b.0.1) (λ _. Ok (with_splits a.0.0 b.0.0)) w b.2 in
+    let rows = row_weights_found law fields a.0 a.1 in
+    let splits = splits_found law v a.0.1 b.0 b.1 in
+    let none : blanked b.0.1 ≡ [] = ap blanked (ended_found b.0.1 c.0 c.1) in
+    let s : List ℕ = items_text (115 ∷ []) b.0.0 in
+    subst (λ (x : Weights). (blanked fields ≡ leaf_text x) × AreLeafWeights x) (made_of_is (with_splits a.0.0 b.0.0) w c.2)
+    (rows.text ∙ ap (λ (u : List ℕ). weights_text a.0.0 ++ u) (splits.text ∙ ap (λ (u : List ℕ). s ++ u) none ∙ append-nil s), record { rows = rows.written.rows; columns = rows.written.columns; derived = rows.written.derived; splits = splits.written })

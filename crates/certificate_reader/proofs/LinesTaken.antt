@@ -6,18 +6,18 @@ use Rattle.std.proofs.lemmas.List.{append-nil}
 use Rattle.rational.specs.Rational.{Rational}
 use Rattle.milp.specs.Form.{Entry}
 use Rattle.instance.specs.WellFormed.{are_entries}
-use Rattle.verdicts.specs.Certificate.{Derived, TreeNode, Branch, Empty, Bound}
-use Rattle.certificate.specs.Written.{count_max, open_after, fills, is_tree}
+use Rattle.verdicts.specs.Certificate.{Version, One, Two, Derived, Split, TreeNode, Branch, Empty, Bound}
+use Rattle.certificate.specs.Written.{count_max, column_form, column_split, split_column, open_after, fills, is_tree, IsOfOne, AreOf}
 use Rattle.certificate_lines.specs.declared.fault.FaultKind.{FaultKind}
 use Rattle.certificate_lines.specs.declared.fault.FaultKind.TheVariants.{BadLine, Unended}
 use Rattle.certificate_lines.specs.declared.fault.CertFault.{CertFault}
 use Rattle.certificate_lines.specs.declared.fault.CertError.{CertError}
 use Rattle.certificate_lines.specs.declared.fault.CertError.TheVariants as cert_error
-use Rattle.certificate_lines.specs.Fields.{◌>>=◌, number_of, whole_of, fields_of, next_field, first_by, after_word, ended, numbers_of, form_of, weights_of}
+use Rattle.certificate_lines.specs.Fields.{◌>>=◌, index_of, number_of, whole_of, fields_of, next_field, first_by, after_word, ended, numbers_of, form_of, weights_of, leaf_weights_of}
 use Rattle.certificate_lines.specs.Lines.{Rest, Line, is_nil, fault_at, line_of, next_from, closed, line_by}
-use Rattle.certificate_reader.specs.Reading.{derive_in, point_in, ProofLine, PlainLine, SplitLine, IsHead, plain_in, split_in, proof_after, proof_in, node_in, nodes_at, count_in, word_in, Shown, shown_at, derived_at, derived_rows_at}
+use Rattle.certificate_reader.specs.Reading.{derive_in, point_in, ProofLine, PlainLine, SplitLine, IsHead, plain_in, form_split_in, cases_in, proof_after, proof_in, column_split_in, branch_in, empty_in, bound_in, node_after, node_in, nodes_at, count_in, word_in, Shown, shown_at, derived_at, derived_rows_at}
 use Rattle.certificate_lines.specs.Gives.{Fails}
-use Rattle.certificate_lines.proofs.Taken.{bind_ok, form_entries}
+use Rattle.certificate_lines.proofs.Taken.{bind_ok, form_entries, no_splits}
 use Rattle.certificate_lines.proofs.Pieces.{line_some}
 use Rattle.certificate_lines.proofs.Fronts.{with_front_of, with_front_of-cons}
 
@@ -93,11 +93,17 @@ derive_takes fields x h =
 pub derive_form : (start : Rest) (x : Rational × List Entry) (rest : Rest) → line_by derive_in start ≡ Ok (x, rest) → are_entries count_max x.1 ≡ true
 derive_form start x rest h = let t = line_takes derive_in start x rest h in derive_takes (fields_of t.text) x t.read
 
-split_takes : (fields : List (List ℕ)) (x : ProofLine) → split_in fields ≡ Ok x → IsHead x
-split_takes fields x h =
-    let a = bind_ok (first_by whole_of fields) (λ at. form_of 0 at.1 >>= λ form. Ok (SplitLine at.0 form)) x h in
-    let b = bind_ok (form_of 0 a.0.1) (λ form. Ok (SplitLine a.0.0 form)) x a.2 in
-    subst IsHead (made_of_is (SplitLine a.0.0 b.0) x b.2) (form_entries 0 a.0.1 b.0 b.1)
+split_form : (fields : List (List ℕ)) (s : Split) → form_split_in fields ≡ Ok s → are_entries count_max s.form ≡ true
+split_form fields s h =
+    let a = bind_ok (first_by whole_of fields) (λ at. form_of 0 at.1 >>= λ form. Ok (record { form = form; at = at.0 })) s h in
+    let b = bind_ok (form_of 0 a.0.1) (λ form. Ok (record { form = form; at = a.0.0 })) s a.2 in
+    let made : Split = record { form = b.0; at = a.0.0 } in
+    subst (λ (x : Split). are_entries count_max x.form ≡ true) (made_of_is made s b.2) (form_entries 0 a.0.1 b.0 b.1)
+
+cases_takes : (fields : List (List ℕ)) (x : ProofLine) → cases_in fields ≡ Ok x → IsHead x
+cases_takes fields x h =
+    let a = bind_ok (form_split_in fields) (λ s. Ok (SplitLine s.at s.form)) x h in
+    subst IsHead (made_of_is (SplitLine a.0.at a.0.form) x a.2) (split_form fields a.0 a.1)
 
 plain_takes : (fields : List (List ℕ)) (x : ProofLine) → plain_in fields ≡ Ok x → IsHead x
 plain_takes fields x h =
@@ -111,10 +117,10 @@ chosen false x y z h = inr (refl, h)
 
 proof_takes : (word : List ℕ) (fields : List (List ℕ)) (x : ProofLine) → proof_after word fields ≡ Ok x → IsHead x
 proof_takes word fields x h =
-    elim (chosen (bytes_eq word (codes "plain")) (plain_in fields) (if bytes_eq word (codes "split") then split_in fields else Err BadLine) (Ok x) h) [
+    elim (chosen (bytes_eq word (codes "plain")) (plain_in fields) (if bytes_eq word (codes "split") then cases_in fields else Err BadLine) (Ok x) h) [
       | inl a ↦ plain_takes fields x a.1
-      | inr a ↦ elim (chosen (bytes_eq word (codes "split")) (split_in fields) (Err BadLine) (Ok x) a.1) [
-        | inl b ↦ split_takes fields x b.1
+      | inr a ↦ elim (chosen (bytes_eq word (codes "split")) (cases_in fields) (Err BadLine) (Ok x) a.1) [
+        | inl b ↦ cases_takes fields x b.1
         | inr b ↦ absurd (no_fault x b.1)
       ]
     ]
@@ -147,26 +153,90 @@ point_size word n start x rest h =
 
 -- ---- trees
 
-pub nodes_fill : (places n : ℕ) (pieces : List (List ℕ)) (x : List TreeNode × Rest) → nodes_at places n pieces ≡ Ok x → fills places x.0 ≡ true
+pub nodes_fill : (v : Version) (places n : ℕ) (pieces : List (List ℕ)) (x : List TreeNode × Rest) → nodes_at v places n pieces ≡ Ok x → fills places x.0 ≡ true
 unfolding nodes_at
-nodes_fill zero n pieces x h = subst (λ (y : List TreeNode × Rest). fills 0 y.0 ≡ true) (made_is ([], record { line = n; pieces = pieces }) x h) refl
-nodes_fill (suc more) n [] x h = absurd cc
-nodes_fill (suc more) n (piece ∷ pieces) x h =
-    let a = bind_ok (line_of n piece pieces) (λ line. closed line (node_in (fields_of line.text)) >>= λ node. nodes_at (open_after node more) (n + 1) pieces >>= λ nodes. Ok (node ∷ nodes.0, nodes.1)) x h in
-    let b = bind_ok (closed a.0 (node_in (fields_of a.0.text))) (λ node. nodes_at (open_after node more) (n + 1) pieces >>= λ nodes. Ok (node ∷ nodes.0, nodes.1)) x a.2 in
-    let c = bind_ok (nodes_at (open_after b.0 more) (n + 1) pieces) (λ nodes. Ok (b.0 ∷ nodes.0, nodes.1)) x b.2 in
-    let rest = nodes_fill (open_after b.0 more) (n + 1) pieces c.0 c.1 in
+nodes_fill v zero n pieces x h = subst (λ (y : List TreeNode × Rest). fills 0 y.0 ≡ true) (made_is ([], record { line = n; pieces = pieces }) x h) refl
+nodes_fill v (suc more) n [] x h = absurd cc
+nodes_fill v (suc more) n (piece ∷ pieces) x h =
+    let a = bind_ok (line_of n piece pieces) (λ line. closed line (node_in v (fields_of line.text)) >>= λ node. nodes_at v (open_after node more) (n + 1) pieces >>= λ nodes. Ok (node ∷ nodes.0, nodes.1)) x h in
+    let b = bind_ok (closed a.0 (node_in v (fields_of a.0.text))) (λ node. nodes_at v (open_after node more) (n + 1) pieces >>= λ nodes. Ok (node ∷ nodes.0, nodes.1)) x a.2 in
+    let c = bind_ok (nodes_at v (open_after b.0 more) (n + 1) pieces) (λ nodes. Ok (b.0 ∷ nodes.0, nodes.1)) x b.2 in
+    let rest = nodes_fill v (open_after b.0 more) (n + 1) pieces c.0 c.1 in
     subst (λ (y : List TreeNode × Rest). fills (suc more) y.0 ≡ true) (made_is (b.0 ∷ c.0.0, c.0.1) x c.2) rest
 
-pub shown_tree : (start : Rest) (x : Shown × Rest) → shown_at start ≡ Ok x → is_tree x.0.tree ≡ true
+-- a node has a line in the version
+abbrev pub IsOf : Version → TreeNode → Type 0
+IsOf One node = IsOfOne node
+IsOf Two node = Unit {0}
+
+pub first_of_all : (v : Version) (node : TreeNode) (nodes : List TreeNode) → AreOf v (node ∷ nodes) → IsOf v node × AreOf v nodes
+first_of_all One node nodes h = h
+first_of_all Two node nodes h = (tt, tt)
+
+pub all_with_first : (v : Version) (node : TreeNode) (nodes : List TreeNode) → IsOf v node → AreOf v nodes → AreOf v (node ∷ nodes)
+all_with_first One node nodes h k = (h, k)
+all_with_first Two node nodes h k = tt
+
+column_takes : (fields : List (List ℕ)) (s : Split) → column_split_in fields ≡ Ok s → s.form ≡ column_form (split_column s)
+column_takes fields s h =
+    let a = bind_ok (first_by index_of fields) (λ column. first_by whole_of column.1 >>= λ at. ended at.1 >>= λ _. Ok (column_split column.0 at.0)) s h in
+    let b = bind_ok (first_by whole_of a.0.1) (λ at. ended at.1 >>= λ _. Ok (column_split a.0.0 at.0)) s a.2 in
+    let c = bind_ok (ended b.0.1) (λ _. Ok (column_split a.0.0 b.0.0)) s b.2 in
+    subst (λ (x : Split). x.form ≡ column_form (split_column x)) (made_of_is (column_split a.0.0 b.0.0) s c.2) refl
+
+node_takes : (word : List ℕ) (fields : List (List ℕ)) (x : TreeNode) → node_after One word fields ≡ Ok x → IsOfOne x
+node_takes word fields x h =
+    elim (chosen (bytes_eq word (codes "branch")) (branch_in One fields) (if bytes_eq word (codes "empty") then empty_in One fields else if bytes_eq word (codes "bound") then bound_in One fields else Err BadLine) (Ok x) h) [
+      | inl a ↦
+          let s = bind_ok (column_split_in fields) (λ s. Ok (Branch s)) x a.1 in
+          subst IsOfOne (made_of_is (Branch s.0) x s.2) (column_takes fields s.0 s.1)
+      | inr a ↦ elim (chosen (bytes_eq word (codes "empty")) (empty_in One fields) (if bytes_eq word (codes "bound") then bound_in One fields else Err BadLine) (Ok x) a.1) [
+        | inl b ↦
+            let w = bind_ok (leaf_weights_of One fields) (λ w. Ok (Empty w)) x b.1 in
+            subst IsOfOne (made_of_is (Empty w.0) x w.2) (no_splits fields w.0 w.1)
+        | inr b ↦ elim (chosen (bytes_eq word (codes "bound")) (bound_in One fields) (Err BadLine) (Ok x) b.1) [
+          | inl c ↦
+              let w = bind_ok (leaf_weights_of One fields) (λ w. Ok (Bound w)) x c.1 in
+              subst IsOfOne (made_of_is (Bound w.0) x w.2) (no_splits fields w.0 w.1)
+          | inr c ↦ absurd (no_node x c.1)
+        ]
+      ]
+    ]
+  where
+    no_node : (x : TreeNode) → Err BadLine ≡ made_of x → ⊥
+    no_node x h = cc
+
+node_has_line : (v : Version) (fields : List (List ℕ)) (x : TreeNode) → node_in v fields ≡ Ok x → IsOf v x
+node_has_line One fields x h =
+    let a = bind_ok (next_field fields) (λ word. node_after One word.0 word.1) x h in
+    node_takes a.0.0 a.0.1 x a.2
+node_has_line Two fields x h = tt
+
+pub nodes_have_lines : (v : Version) (places n : ℕ) (pieces : List (List ℕ)) (x : List TreeNode × Rest) → nodes_at v places n pieces ≡ Ok x → AreOf v x.0
+unfolding nodes_at
+nodes_have_lines v zero n pieces x h = subst (λ (y : List TreeNode × Rest). AreOf v y.0) (made_is ([], record { line = n; pieces = pieces }) x h) (none_of v)
+  where
+    none_of : (v : Version) → AreOf v []
+    none_of One = tt
+    none_of Two = tt
+nodes_have_lines v (suc more) n [] x h = absurd cc
+nodes_have_lines v (suc more) n (piece ∷ pieces) x h =
+    let a = bind_ok (line_of n piece pieces) (λ line. closed line (node_in v (fields_of line.text)) >>= λ node. nodes_at v (open_after node more) (n + 1) pieces >>= λ nodes. Ok (node ∷ nodes.0, nodes.1)) x h in
+    let b = bind_ok (closed a.0 (node_in v (fields_of a.0.text))) (λ node. nodes_at v (open_after node more) (n + 1) pieces >>= λ nodes. Ok (node ∷ nodes.0, nodes.1)) x a.2 in
+    let c = bind_ok (nodes_at v (open_after b.0 more) (n + 1) pieces) (λ nodes. Ok (b.0 ∷ nodes.0, nodes.1)) x b.2 in
+    let k = closed_ok a.0 (node_in v (fields_of a.0.text)) b.0 b.1 in
+    let rest = nodes_have_lines v (open_after b.0 more) (n + 1) pieces c.0 c.1 in
+    subst (λ (y : List TreeNode × Rest). AreOf v y.0) (made_is (b.0 ∷ c.0.0, c.0.1) x c.2) (all_with_first v b.0 c.0.0 (node_has_line v (fields_of a.0.text) b.0 k.0) rest)
+
+pub shown_tree : (v : Version) (start : Rest) (x : Shown × Rest) → shown_at v start ≡ Ok x → (is_tree x.0.tree ≡ true) × AreOf v x.0.tree
 unfolding shown_at
-shown_tree start x h =
-    let a = bind_ok (line_by count_in start) (λ count. derived_rows_at count.0 count.1 >>= λ rows. line_by (word_in (codes "tree")) rows.1 >>= λ mark. nodes_at 1 mark.1.line mark.1.pieces >>= λ nodes. Ok (record { derived = rows.0; tree = nodes.0 }, nodes.1)) x h in
-    let b = bind_ok (derived_rows_at a.0.0 a.0.1) (λ rows. line_by (word_in (codes "tree")) rows.1 >>= λ mark. nodes_at 1 mark.1.line mark.1.pieces >>= λ nodes. Ok (record { derived = rows.0; tree = nodes.0 }, nodes.1)) x a.2 in
-    let c = bind_ok (line_by (word_in (codes "tree")) b.0.1) (λ mark. nodes_at 1 mark.1.line mark.1.pieces >>= λ nodes. Ok (record { derived = b.0.0; tree = nodes.0 }, nodes.1)) x b.2 in
-    let d = bind_ok (nodes_at 1 c.0.1.line c.0.1.pieces) (λ nodes. Ok (record { derived = b.0.0; tree = nodes.0 }, nodes.1)) x c.2 in
+shown_tree v start x h =
+    let a = bind_ok (line_by count_in start) (λ count. derived_rows_at count.0 count.1 >>= λ rows. line_by (word_in (codes "tree")) rows.1 >>= λ mark. nodes_at v 1 mark.1.line mark.1.pieces >>= λ nodes. Ok (record { derived = rows.0; tree = nodes.0 }, nodes.1)) x h in
+    let b = bind_ok (derived_rows_at a.0.0 a.0.1) (λ rows. line_by (word_in (codes "tree")) rows.1 >>= λ mark. nodes_at v 1 mark.1.line mark.1.pieces >>= λ nodes. Ok (record { derived = rows.0; tree = nodes.0 }, nodes.1)) x a.2 in
+    let c = bind_ok (line_by (word_in (codes "tree")) b.0.1) (λ mark. nodes_at v 1 mark.1.line mark.1.pieces >>= λ nodes. Ok (record { derived = b.0.0; tree = nodes.0 }, nodes.1)) x b.2 in
+    let d = bind_ok (nodes_at v 1 c.0.1.line c.0.1.pieces) (λ nodes. Ok (record { derived = b.0.0; tree = nodes.0 }, nodes.1)) x c.2 in
     let shown : Shown = record { derived = b.0.0; tree = d.0.0 } in
-    subst (λ (y : Shown × Rest). is_tree y.0.tree ≡ true) (made_is (shown, d.0.1) x d.2) (nodes_fill 1 c.0.1.line c.0.1.pieces d.0 d.1)
+    subst (λ (y : Shown × Rest). (is_tree y.0.tree ≡ true) × AreOf v y.0.tree) (made_is (shown, d.0.1) x d.2) (nodes_fill v 1 c.0.1.line c.0.1.pieces d.0 d.1, nodes_have_lines v 1 c.0.1.line c.0.1.pieces d.0 d.1)
 
 -- ---- the loops over lines
 
@@ -195,17 +265,17 @@ rows_all count i front start total le so_far =
     let one : with_front_of front (derived_rows_at (count - i) start) ≡ Ok (front, start) = rw n (ap (λ (ds : List Derived). Ok (ds, start)) (append-nil front)) in
     sym so_far ∙ one
 
-pub nodes_more : (places : ℕ) (front : List TreeNode) (start : Rest) (node : TreeNode) (rest : Rest) (total : Result (List TreeNode × Rest) CertFault) → 0 < places → line_by node_in start ≡ Ok (node, rest)
-    → with_front_of front (nodes_at places start.line start.pieces) ≡ total → with_front_of (front ++ node ∷ []) (nodes_at (open_after node (places - 1)) rest.line rest.pieces) ≡ total
+pub nodes_more : (v : Version) (places : ℕ) (front : List TreeNode) (start : Rest) (node : TreeNode) (rest : Rest) (total : Result (List TreeNode × Rest) CertFault) → 0 < places → line_by (node_in v) start ≡ Ok (node, rest)
+    → with_front_of front (nodes_at v places start.line start.pieces) ≡ total → with_front_of (front ++ node ∷ []) (nodes_at v (open_after node (places - 1)) rest.line rest.pieces) ≡ total
 unfolding nodes_at
-nodes_more places front start node rest total some read so_far =
+nodes_more v places front start node rest total some read so_far =
     let n : places ≡ suc (places - 1) = omega arith in
-    let t = line_takes node_in start node rest read in
+    let t = line_takes (node_in v) start node rest read in
     let line : line_of start.line t.text rest.pieces ≡ Ok (record { number = start.line; text = t.text; feed = true }) = line_some start.line t.text rest.pieces t.more in
-    let step : nodes_at (suc (places - 1)) start.line (t.text ∷ rest.pieces) ≡ (nodes_at (open_after node (places - 1)) (start.line + 1) rest.pieces >>= λ nodes. Ok (node ∷ nodes.0, nodes.1)) = rw (line, t.read) refl in
-    let first : nodes_at places start.line start.pieces ≡ nodes_at (suc (places - 1)) start.line (t.text ∷ rest.pieces) = ap (λ (k : ℕ). nodes_at k start.line start.pieces) n ∙ ap (nodes_at (suc (places - 1)) start.line) t.parts in
-    let next : nodes_at (open_after node (places - 1)) (start.line + 1) rest.pieces ≡ nodes_at (open_after node (places - 1)) rest.line rest.pieces = ap (λ (k : ℕ). nodes_at (open_after node (places - 1)) k rest.pieces) (sym t.line) in
-    let cons = with_front_of-cons front node (nodes_at (open_after node (places - 1)) (start.line + 1) rest.pieces) in
+    let step : nodes_at v (suc (places - 1)) start.line (t.text ∷ rest.pieces) ≡ (nodes_at v (open_after node (places - 1)) (start.line + 1) rest.pieces >>= λ nodes. Ok (node ∷ nodes.0, nodes.1)) = rw (line, t.read) refl in
+    let first : nodes_at v places start.line start.pieces ≡ nodes_at v (suc (places - 1)) start.line (t.text ∷ rest.pieces) = ap (λ (k : ℕ). nodes_at v k start.line start.pieces) n ∙ ap (nodes_at v (suc (places - 1)) start.line) t.parts in
+    let next : nodes_at v (open_after node (places - 1)) (start.line + 1) rest.pieces ≡ nodes_at v (open_after node (places - 1)) rest.line rest.pieces = ap (λ (k : ℕ). nodes_at v (open_after node (places - 1)) k rest.pieces) (sym t.line) in
+    let cons = with_front_of-cons front node (nodes_at v (open_after node (places - 1)) (start.line + 1) rest.pieces) in
     ap (with_front_of (front ++ node ∷ [])) (sym next) ∙ sym cons ∙ ap (with_front_of front) (sym (first ∙ step)) ∙ so_far
 
 abbrev after_line : (Line → Result TreeNode CertFault) → Result (Line × Rest) CertFault → Result (TreeNode × Rest) CertFault
@@ -220,24 +290,24 @@ step_fault (Ok line) k rest go f h = second (k line) h
     second (Err g) h = let same : g ≡ f = cc in ap (λ (x : CertFault). Err x) same
     second (Ok node) h = absurd cc
 
-node_fault : (n more : ℕ) (pieces : List (List ℕ)) (f : CertFault) → read_from node_in (next_from n pieces) ≡ Err f → nodes_at (suc more) n pieces ≡ Err f
+node_fault : (v : Version) (n more : ℕ) (pieces : List (List ℕ)) (f : CertFault) → read_from (node_in v) (next_from n pieces) ≡ Err f → nodes_at v (suc more) n pieces ≡ Err f
 unfolding nodes_at
-node_fault n more [] f h = let same : record { line = n; kind = Unended } ≡ f = cc in ap (λ (x : CertFault). Err x) same
-node_fault n more (piece ∷ pieces) f h = step_fault (line_of n piece pieces) (λ line. closed line (node_in (fields_of line.text))) (record { line = n + 1; pieces = pieces }) (λ node. nodes_at (open_after node more) (n + 1) pieces >>= λ nodes. Ok (node ∷ nodes.0, nodes.1)) f h
+node_fault v n more [] f h = let same : record { line = n; kind = Unended } ≡ f = cc in ap (λ (x : CertFault). Err x) same
+node_fault v n more (piece ∷ pieces) f h = step_fault (line_of n piece pieces) (λ line. closed line (node_in v (fields_of line.text))) (record { line = n + 1; pieces = pieces }) (λ node. nodes_at v (open_after node more) (n + 1) pieces >>= λ nodes. Ok (node ∷ nodes.0, nodes.1)) f h
 
-pub nodes_fault : (e : CertError) (places : ℕ) (front : List TreeNode) (start : Rest) (total : Result (List TreeNode × Rest) CertFault) → 0 < places → Fails e (line_by node_in start)
-    → with_front_of front (nodes_at places start.line start.pieces) ≡ total → Fails e total
-nodes_fault cert_error.NoMemory places front start total some read so_far = tt
-nodes_fault (cert_error.Fault fault) places front start total some read so_far =
+pub nodes_fault : (v : Version) (e : CertError) (places : ℕ) (front : List TreeNode) (start : Rest) (total : Result (List TreeNode × Rest) CertFault) → 0 < places → Fails e (line_by (node_in v) start)
+    → with_front_of front (nodes_at v places start.line start.pieces) ≡ total → Fails e total
+nodes_fault v cert_error.NoMemory places front start total some read so_far = tt
+nodes_fault v (cert_error.Fault fault) places front start total some read so_far =
     let n : places ≡ suc (places - 1) = omega arith in
-    let one : nodes_at places start.line start.pieces ≡ Err fault = ap (λ (k : ℕ). nodes_at k start.line start.pieces) n ∙ node_fault start.line (places - 1) start.pieces fault read in
+    let one : nodes_at v places start.line start.pieces ≡ Err fault = ap (λ (k : ℕ). nodes_at v k start.line start.pieces) n ∙ node_fault v start.line (places - 1) start.pieces fault read in
     sym so_far ∙ ap (with_front_of front) one
 
-pub nodes_all : (places : ℕ) (front : List TreeNode) (start : Rest) (total : Result (List TreeNode × Rest) CertFault) → places ≡ 0
-    → with_front_of front (nodes_at places start.line start.pieces) ≡ total → total ≡ Ok (front, start)
+pub nodes_all : (v : Version) (places : ℕ) (front : List TreeNode) (start : Rest) (total : Result (List TreeNode × Rest) CertFault) → places ≡ 0
+    → with_front_of front (nodes_at v places start.line start.pieces) ≡ total → total ≡ Ok (front, start)
 unfolding nodes_at
-nodes_all places front start total none so_far =
-    let one : with_front_of front (nodes_at places start.line start.pieces) ≡ Ok (front, start) = rw none (ap (λ (ns : List TreeNode). Ok (ns, start)) (append-nil front)) in
+nodes_all v places front start total none so_far =
+    let one : with_front_of front (nodes_at v places start.line start.pieces) ≡ Ok (front, start) = rw none (ap (λ (ns : List TreeNode). Ok (ns, start)) (append-nil front)) in
     sym so_far ∙ one
 
 pub open_after-le : (node : TreeNode) (more : ℕ) → open_after node more ≤ more + 2

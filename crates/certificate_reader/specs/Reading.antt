@@ -4,10 +4,10 @@ use Rattle.std.specs.Str.{bytes_eq}
 use Rattle.std.specs.List.{slice_split}
 use Rattle.rational.specs.Rational.{Rational}
 use Rattle.milp.specs.Form.{Entry}
-use Rattle.verdicts.specs.Certificate.{One, Verdict, Optimal, Infeasible, Unbounded, Weights, Proof, Plain, BySplit, Derived, TreeNode, Branch, Empty, Bound, Certificate}
+use Rattle.verdicts.specs.Certificate.{Version, One, Two, Verdict, Optimal, Infeasible, Unbounded, Weights, Split, Proof, Plain, BySplit, Derived, TreeNode, Branch, Empty, Bound, Certificate}
 use Rattle.instance.specs.WellFormed.{are_entries}
 use Rattle.certificate.specs.Written.{count_max, column_split, open_after}
-use Rattle.certificate_lines.specs.Fields.{◌>>=◌, count_of, index_of, number_of, whole_of, fields_of, next_field, first_by, after_word, ended, numbers_of, form_of, weights_of}
+use Rattle.certificate_lines.specs.Fields.{◌>>=◌, count_of, index_of, number_of, whole_of, fields_of, next_field, first_by, after_word, ended, numbers_of, form_of, weights_of, leaf_weights_of}
 use Rattle.certificate_lines.specs.Lines.{Rest, is_feed, fault_at, line_of, closed, line_by, is_over}
 use Rattle.certificate_lines.specs.declared.fault.FaultKind.{FaultKind}
 use Rattle.certificate_lines.specs.declared.fault.FaultKind.TheVariants.{BadLine, Unended, Extra}
@@ -15,8 +15,14 @@ use Rattle.certificate_lines.specs.declared.fault.CertFault.{CertFault}
 
 -- ---- the lines of a certificate
 
-abbrev pub version_in : List (List ℕ) → Result (Unit {0}) FaultKind
-version_in fields = after_word (codes "cert") fields >>= λ rest. after_word (codes "1") rest >>= λ rest. ended rest
+abbrev pub version_named : List ℕ → Result Version FaultKind
+version_named word =
+    if bytes_eq word (codes "1") then Ok One
+    else if bytes_eq word (codes "2") then Ok Two
+    else Err BadLine
+
+abbrev pub version_in : List (List ℕ) → Result Version FaultKind
+version_in fields = after_word (codes "cert") fields >>= λ rest. first_by version_named rest >>= λ version. ended version.1 >>= λ _. Ok version.0
 
 abbrev pub size_in : List (List ℕ) → Result (ℕ × ℕ) FaultKind
 size_in fields = after_word (codes "size") fields >>= λ rest. first_by count_of rest >>= λ rows. first_by count_of rows.1 >>= λ columns. ended columns.1 >>= λ _. Ok (rows.0, columns.0)
@@ -45,6 +51,10 @@ count_in fields = after_word (codes "derived") fields >>= λ rest. first_by coun
 abbrev pub word_in : List ℕ → List (List ℕ) → Result (Unit {0}) FaultKind
 word_in word fields = after_word word fields >>= λ rest. ended rest
 
+-- where the cases of a split part, and its form
+abbrev pub form_split_in : List (List ℕ) → Result Split FaultKind
+form_split_in fields = first_by whole_of fields >>= λ at. form_of 0 at.1 >>= λ form. Ok (record { form = form; at = at.0 })
+
 -- ---- derived rows
 
 -- a bound and a form
@@ -65,8 +75,8 @@ abbrev pub IsHead : ProofLine → Type 0
 IsHead (PlainLine w) = Unit {0}
 IsHead (SplitLine at form) = IsTrue (are_entries count_max form)
 
-abbrev pub split_in : List (List ℕ) → Result ProofLine FaultKind
-split_in fields = first_by whole_of fields >>= λ at. form_of 0 at.1 >>= λ form. Ok (SplitLine at.0 form)
+abbrev pub cases_in : List (List ℕ) → Result ProofLine FaultKind
+cases_in fields = form_split_in fields >>= λ s. Ok (SplitLine s.at s.form)
 
 abbrev pub plain_in : List (List ℕ) → Result ProofLine FaultKind
 plain_in fields = weights_of fields >>= λ w. Ok (PlainLine w)
@@ -74,7 +84,7 @@ plain_in fields = weights_of fields >>= λ w. Ok (PlainLine w)
 abbrev pub proof_after : List ℕ → List (List ℕ) → Result ProofLine FaultKind
 proof_after word fields =
     if bytes_eq word (codes "plain") then plain_in fields
-    else if bytes_eq word (codes "split") then split_in fields
+    else if bytes_eq word (codes "split") then cases_in fields
     else Err BadLine
 
 abbrev pub proof_in : List (List ℕ) → Result ProofLine FaultKind
@@ -103,33 +113,47 @@ derived_rows_at (suc n) rest = do
 
 -- ---- the tree
 
-abbrev pub branch_in : List (List ℕ) → Result TreeNode FaultKind
-branch_in fields = first_by index_of fields >>= λ column. first_by whole_of column.1 >>= λ at. ended at.1 >>= λ _. Ok (Branch (column_split column.0 at.0))
+-- a column, and where the cases of its split part
+abbrev pub column_split_in : List (List ℕ) → Result Split FaultKind
+column_split_in fields = first_by index_of fields >>= λ column. first_by whole_of column.1 >>= λ at. ended at.1 >>= λ _. Ok (column_split column.0 at.0)
 
-abbrev pub empty_in : List (List ℕ) → Result TreeNode FaultKind
-empty_in fields = weights_of fields >>= λ w. Ok (Empty w)
+-- a split: of one column in version 1, of any form in version 2
+abbrev pub split_in : Version → List (List ℕ) → Result Split FaultKind
+split_in One fields = column_split_in fields
+split_in Two fields = form_split_in fields
 
-abbrev pub bound_in : List (List ℕ) → Result TreeNode FaultKind
-bound_in fields = weights_of fields >>= λ w. Ok (Bound w)
+-- the word before it
+abbrev pub word_of_split : Version → List ℕ
+word_of_split One = codes "branch"
+word_of_split Two = codes "split"
 
-abbrev pub node_after : List ℕ → List (List ℕ) → Result TreeNode FaultKind
-node_after word fields =
-    if bytes_eq word (codes "branch") then branch_in fields
-    else if bytes_eq word (codes "empty") then empty_in fields
-    else if bytes_eq word (codes "bound") then bound_in fields
+abbrev pub branch_in : Version → List (List ℕ) → Result TreeNode FaultKind
+branch_in v fields = split_in v fields >>= λ s. Ok (Branch s)
+
+abbrev pub empty_in : Version → List (List ℕ) → Result TreeNode FaultKind
+empty_in v fields = leaf_weights_of v fields >>= λ w. Ok (Empty w)
+
+abbrev pub bound_in : Version → List (List ℕ) → Result TreeNode FaultKind
+bound_in v fields = leaf_weights_of v fields >>= λ w. Ok (Bound w)
+
+abbrev pub node_after : Version → List ℕ → List (List ℕ) → Result TreeNode FaultKind
+node_after v word fields =
+    if bytes_eq word (word_of_split v) then branch_in v fields
+    else if bytes_eq word (codes "empty") then empty_in v fields
+    else if bytes_eq word (codes "bound") then bound_in v fields
     else Err BadLine
 
-abbrev pub node_in : List (List ℕ) → Result TreeNode FaultKind
-node_in fields = next_field fields >>= λ word. node_after word.0 word.1
+abbrev pub node_in : Version → List (List ℕ) → Result TreeNode FaultKind
+node_in v fields = next_field fields >>= λ word. node_after v word.0 word.1
 
 -- the nodes that fill the open places
-unfoldable pub nodes_at : ℕ → ℕ → List (List ℕ) → Result (List TreeNode × Rest) CertFault
-nodes_at zero n pieces = Ok ([], record { line = n; pieces = pieces })
-nodes_at (suc more) n [] = fault_at n Unended
-nodes_at (suc more) n (piece ∷ pieces) = do
+unfoldable pub nodes_at : Version → ℕ → ℕ → List (List ℕ) → Result (List TreeNode × Rest) CertFault
+nodes_at v zero n pieces = Ok ([], record { line = n; pieces = pieces })
+nodes_at v (suc more) n [] = fault_at n Unended
+nodes_at v (suc more) n (piece ∷ pieces) = do
   line ← line_of n piece pieces
-  node ← closed line (node_in (fields_of line.text))
-  nodes ← nodes_at (open_after node more) (n + 1) pieces
+  node ← closed line (node_in v (fields_of line.text))
+  nodes ← nodes_at v (open_after node more) (n + 1) pieces
   Ok (node ∷ nodes.0, nodes.1)
 
 -- ---- the certificate
@@ -138,36 +162,36 @@ pub record Shown : Type 0 where
   pub derived : List Derived
   pub tree : List TreeNode
 
-unfoldable pub shown_at : Rest → Result (Shown × Rest) CertFault
-shown_at rest = do
+unfoldable pub shown_at : Version → Rest → Result (Shown × Rest) CertFault
+shown_at v rest = do
   count ← line_by count_in rest
   rows ← derived_rows_at count.0 count.1
   mark ← line_by (word_in (codes "tree")) rows.1
-  nodes ← nodes_at 1 mark.1.line mark.1.pieces
+  nodes ← nodes_at v 1 mark.1.line mark.1.pieces
   Ok (record { derived = rows.0; tree = nodes.0 }, nodes.1)
 
-unfoldable pub optimal_at : ℕ → ℕ → Rest → Result (Certificate × Rest) CertFault
-optimal_at rows columns rest = do
+unfoldable pub optimal_at : Version → ℕ → ℕ → Rest → Result (Certificate × Rest) CertFault
+optimal_at v rows columns rest = do
   value ← line_by value_in rest
   point ← line_by (point_in (codes "point") columns) value.1
-  shown ← shown_at point.1
-  Ok (record { version = One; rows = rows; columns = columns; verdict = Optimal; value = Some value.0; point = Some point.0; ray = None; derived = shown.0.derived; tree = shown.0.tree }, shown.1)
+  shown ← shown_at v point.1
+  Ok (record { version = v; rows = rows; columns = columns; verdict = Optimal; value = Some value.0; point = Some point.0; ray = None; derived = shown.0.derived; tree = shown.0.tree }, shown.1)
 
-unfoldable pub infeasible_at : ℕ → ℕ → Rest → Result (Certificate × Rest) CertFault
-infeasible_at rows columns rest = do
-  shown ← shown_at rest
-  Ok (record { version = One; rows = rows; columns = columns; verdict = Infeasible; value = None; point = None; ray = None; derived = shown.0.derived; tree = shown.0.tree }, shown.1)
+unfoldable pub infeasible_at : Version → ℕ → ℕ → Rest → Result (Certificate × Rest) CertFault
+infeasible_at v rows columns rest = do
+  shown ← shown_at v rest
+  Ok (record { version = v; rows = rows; columns = columns; verdict = Infeasible; value = None; point = None; ray = None; derived = shown.0.derived; tree = shown.0.tree }, shown.1)
 
-unfoldable pub unbounded_at : ℕ → ℕ → Rest → Result (Certificate × Rest) CertFault
-unbounded_at rows columns rest = do
+unfoldable pub unbounded_at : Version → ℕ → ℕ → Rest → Result (Certificate × Rest) CertFault
+unbounded_at v rows columns rest = do
   point ← line_by (point_in (codes "point") columns) rest
   ray ← line_by (point_in (codes "ray") columns) point.1
-  Ok (record { version = One; rows = rows; columns = columns; verdict = Unbounded; value = None; point = Some point.0; ray = Some ray.0; derived = []; tree = [] }, ray.1)
+  Ok (record { version = v; rows = rows; columns = columns; verdict = Unbounded; value = None; point = Some point.0; ray = Some ray.0; derived = []; tree = [] }, ray.1)
 
-abbrev pub body_at : ℕ → ℕ → Verdict → Rest → Result (Certificate × Rest) CertFault
-body_at rows columns Optimal rest = optimal_at rows columns rest
-body_at rows columns Infeasible rest = infeasible_at rows columns rest
-body_at rows columns Unbounded rest = unbounded_at rows columns rest
+abbrev pub body_at : Version → ℕ → ℕ → Verdict → Rest → Result (Certificate × Rest) CertFault
+body_at v rows columns Optimal rest = optimal_at v rows columns rest
+body_at v rows columns Infeasible rest = infeasible_at v rows columns rest
+body_at v rows columns Unbounded rest = unbounded_at v rows columns rest
 
 abbrev pub over : Certificate → Rest → Result Certificate CertFault
 over c rest = if is_over rest.pieces then Ok c else fault_at rest.line Extra
@@ -177,7 +201,7 @@ certificate_at start = do
   version ← line_by version_in start
   size ← line_by size_in version.1
   verdict ← line_by verdict_in size.1
-  body ← body_at size.0.0 size.0.1 verdict.0 verdict.1
+  body ← body_at version.0 size.0.0 size.0.1 verdict.0 verdict.1
   end ← line_by (word_in (codes "end")) body.1
   over body.0 end.1
 

@@ -3,22 +3,22 @@ ghost use Rattle.std.specs.Prelude.{◌≡◌, ◌+◌, ◌<◌, ◌^◌, map, I
 ghost use Rattle.std.specs.Option.{option_map};
 ghost use Rattle.instance.specs.WellFormed.{are_entries};
 ghost use Rattle.certificate.specs.Written.{count_max, is_tree, open_after, HasText};
-ghost use Rattle.verdicts.specs.Certificate.{Branch as is_branch, BySplit as by_split, Certificate as CertificateOf};
-ghost use Rattle.certificate.specs.Values.{verdict_of, proof_of, node_of};
+ghost use Rattle.verdicts.specs.Certificate.{BySplit as by_split, Certificate as CertificateOf};
+ghost use Rattle.certificate.specs.Values.{version_of, verdict_of, proof_of, node_of};
 ghost use Rattle.certificate_reader.specs.Heads.{proof_line_of};
 ghost use Rattle.certificate.specs.Text.{certificate_text};
 ghost use Rattle.certificate_lines.specs.Fields.{fields_of};
 ghost use Rattle.certificate_lines.specs.Lines.{line_by};
-ghost use Rattle.certificate_reader.specs.Reading.{version_in, size_in, verdict_named, verdict_in, value_in, point_in, count_in, word_in, derive_in, side_in, split_in, plain_in, proof_in, proof_from, derived_at, derived_rows_at, branch_in, node_in, nodes_at, SplitLine, IsHead, shown_at, optimal_at, infeasible_at, unbounded_at, body_at, read_of};
+ghost use Rattle.certificate_reader.specs.Reading.{version_named, version_in, size_in, verdict_named, verdict_in, value_in, point_in, count_in, word_in, derive_in, side_in, form_split_in, cases_in, plain_in, proof_in, proof_from, derived_at, derived_rows_at, column_split_in, split_in, word_of_split, branch_in, node_in, nodes_at, SplitLine, IsHead, shown_at, optimal_at, infeasible_at, unbounded_at, body_at, read_of};
 ghost use Rattle.certificate_lines.specs.Gives.{Takes, LineGives, Gives, Reads};
 
 use certificate::{
-    Certificate, Derived, DerivedRows, FormSplit, Proof, Split, Tree, TreeNode, Verdict, Weights,
-    WholeNumber,
+    Certificate, ColumnSplit, Derived, DerivedRows, FormSplit, Proof, Split, Tree, TreeNode,
+    Verdict, Version, Weights, WholeNumber,
 };
 use certificate_lines::{
     CertError, FaultKind, LineError, Lines, after_word, closed, count, end, fault_at, fields_in,
-    first, form, index, number, numbers, weights, whole,
+    first, form, index, leaf_weights, number, numbers, weights, whole,
 };
 use fraction::{Frac, texts};
 use instance::{Entries, Point};
@@ -39,21 +39,34 @@ pub fn read(alloc: Global, text: &[u8]) -> Result<Certificate, CertError>
 
 // ---- the lines before what a verdict has
 
-fn version_line(alloc: Global, lines: &mut Lines<'_>) -> Result<(), CertError>
-    ensures { Reads (λ x. x) result lines.new (line_by version_in lines.old) }
+fn version_line(alloc: Global, lines: &mut Lines<'_>) -> Result<Version, CertError>
+    ensures { Reads version_of result lines.new (line_by version_in lines.old) }
 {
     let line = lines.next()?;
     let fields = fields_in(alloc, line.text)?;
     closed(line.number, line.feed, version(&fields))
 }
 
-fn version(fields: &[&[u8]]) -> Result<(), LineError>
-    ensures { LineGives (λ x. x) result (version_in (map (λ f. f.now) fields.now)) }
+fn version(fields: &[&[u8]]) -> Result<Version, LineError>
+    ensures { LineGives version_of result (version_in (map (λ f. f.now) fields.now)) }
 {
     let rest = after_word("cert", fields)?;
-    let rest = after_word("1", rest)?;
+    let (name, rest) = first(rest)?;
+    let version = named_version(name)?;
     end(rest)?;
-    Ok(())
+    Ok(version)
+}
+
+fn named_version(word: &[u8]) -> Result<Version, FaultKind>
+    ensures { Takes version_of result (version_named word.now) }
+{
+    if word == b"1".as_slice() {
+        Ok(Version::One)
+    } else if word == b"2".as_slice() {
+        Ok(Version::Two)
+    } else {
+        Err(FaultKind::BadLine)
+    }
 }
 
 fn size_line(alloc: Global, lines: &mut Lines<'_>) -> Result<(u32, u32), CertError>
@@ -185,6 +198,17 @@ fn derived_count(fields: &[&[u8]]) -> Result<u32, LineError>
     Ok(rows)
 }
 
+// Where the cases of a split part, and its form.
+fn form_split(alloc: Global, fields: &[&[u8]]) -> Result<(WholeNumber, Entries), LineError>
+    ensures value { LineGives (λ x. record { form = x.1; at = x.0 }) result (form_split_in (map (λ f. f.now) fields.now)) }
+    ensures written { IfOk result (λ x. IsTrue (are_entries count_max x.1)) }
+{
+    let (at, rest) = first(fields)?;
+    let at = whole(at)?;
+    let form = form(alloc, rest)?;
+    Ok((at, form))
+}
+
 // ---- derived rows
 
 fn derive_line(alloc: Global, lines: &mut Lines<'_>) -> Result<(Frac, Entries), CertError>
@@ -254,11 +278,9 @@ fn proof_head(alloc: Global, fields: &[&[u8]]) -> Result<ProofHead, LineError>
 }
 
 fn split_head(alloc: Global, fields: &[&[u8]]) -> Result<ProofHead, LineError>
-    ensures { LineGives proof_line_of result (split_in (map (λ f. f.now) fields.now)) }
+    ensures { LineGives proof_line_of result (cases_in (map (λ f. f.now) fields.now)) }
 {
-    let (at, rest) = first(fields)?;
-    let at = whole(at)?;
-    let form = form(alloc, rest)?;
+    let (at, form) = form_split(alloc, fields)?;
     Ok(ProofHead::Split(at, form))
 }
 
@@ -313,41 +335,68 @@ fn derived_rows(alloc: Global, count: u32, lines: &mut Lines<'_>) -> Result<Deri
 
 // ---- the tree
 
-fn node_line(alloc: Global, lines: &mut Lines<'_>) -> Result<TreeNode, CertError>
-    ensures { Reads node_of result lines.new (line_by node_in lines.old) }
+fn node_line(alloc: Global, version: Version, lines: &mut Lines<'_>) -> Result<TreeNode, CertError>
+    ensures { Reads node_of result lines.new (line_by (node_in (version_of version)) lines.old) }
 {
     let line = lines.next()?;
     let fields = fields_in(alloc, line.text)?;
-    closed(line.number, line.feed, node(alloc, &fields))
+    closed(line.number, line.feed, node(alloc, version, &fields))
 }
 
-fn node(alloc: Global, fields: &[&[u8]]) -> Result<TreeNode, LineError>
-    ensures { LineGives node_of result (node_in (map (λ f. f.now) fields.now)) }
+fn node(alloc: Global, version: Version, fields: &[&[u8]]) -> Result<TreeNode, LineError>
+    ensures { LineGives node_of result (node_in (version_of version) (map (λ f. f.now) fields.now)) }
 {
     let (word, rest) = first(fields)?;
-    if word == b"branch".as_slice() {
-        let split = split(rest)?;
+    if word == split_word(version) {
+        let split = split(alloc, version, rest)?;
         Ok(TreeNode::Branch(split))
     } else if word == b"empty".as_slice() {
-        let weights = weights(alloc, rest)?;
+        let weights = leaf_weights(alloc, version, rest)?;
         Ok(TreeNode::Empty(weights))
     } else if word == b"bound".as_slice() {
-        let weights = weights(alloc, rest)?;
+        let weights = leaf_weights(alloc, version, rest)?;
         Ok(TreeNode::Bound(weights))
     } else {
         Err(LineError::Fault(FaultKind::BadLine))
     }
 }
 
-fn split(fields: &[&[u8]]) -> Result<Split, FaultKind>
-    ensures { Takes (λ s. is_branch s) result (branch_in (map (λ f. f.now) fields.now)) }
+// The word of a split's line.
+fn split_word(version: Version) -> &'static [u8]
+    ensures { result.now ≡ word_of_split (version_of version) }
+{
+    match version {
+        Version::One => b"branch",
+        Version::Two => b"split",
+    }
+}
+
+// A split: of one column in version 1, of any form in version 2.
+fn split(alloc: Global, version: Version, fields: &[&[u8]]) -> Result<Split, LineError>
+    ensures { LineGives (λ s. s) result (split_in (version_of version) (map (λ f. f.now) fields.now)) }
+{
+    match version {
+        Version::One => {
+            let split = column_split(fields)?;
+            Ok(split.to_split(alloc)?)
+        }
+        Version::Two => {
+            let (at, form) = form_split(alloc, fields)?;
+            Ok(Split::new(form, at))
+        }
+    }
+}
+
+// A column, and where the cases of its split part.
+fn column_split(fields: &[&[u8]]) -> Result<ColumnSplit, FaultKind>
+    ensures { Takes (λ s. s) result (column_split_in (map (λ f. f.now) fields.now)) }
 {
     let (column, rest) = first(fields)?;
     let column = index(column)?;
     let (at, rest) = first(rest)?;
     let at = whole(at)?;
     end(rest)?;
-    Ok(Split::new(column, at))
+    Ok(ColumnSplit::new(column, at))
 }
 
 // How many places are open once a node fills one of these and more.
@@ -361,14 +410,14 @@ fn open_places(node: &TreeNode, more: u64) -> u64
     }
 }
 
-fn tree(alloc: Global, lines: &mut Lines<'_>) -> Result<Tree, CertError>
-    ensures { Reads (λ x. x) result lines.new (nodes_at 1 lines.old.line lines.old.pieces) }
+fn tree(alloc: Global, version: Version, lines: &mut Lines<'_>) -> Result<Tree, CertError>
+    ensures { Reads (λ x. x) result lines.new (nodes_at (version_of version) 1 lines.old.line lines.old.pieces) }
 {
     let mut tree = Tree::new(alloc);
     let mut open: u64 = 1;
     while open > 0 {
         let _number = lines.number();
-        let node = node_line(alloc, lines)?;
+        let node = node_line(alloc, version, lines)?;
         open = open_places(&node, open - 1);
         tree.push(node)?;
     }
@@ -378,71 +427,79 @@ fn tree(alloc: Global, lines: &mut Lines<'_>) -> Result<Tree, CertError>
 // ---- the certificate
 
 #[tactic(auto, unfolding(crate::specs::Reading::shown_at))]
-fn shown(alloc: Global, lines: &mut Lines<'_>) -> Result<(DerivedRows, Tree), CertError>
-    ensures { Reads (λ x. record { derived = x.0; tree = x.1 }) result lines.new (shown_at lines.old) }
+fn shown(
+    alloc: Global,
+    version: Version,
+    lines: &mut Lines<'_>,
+) -> Result<(DerivedRows, Tree), CertError>
+    ensures { Reads (λ x. record { derived = x.0; tree = x.1 }) result lines.new (shown_at (version_of version) lines.old) }
 {
     let count = count_line(alloc, lines)?;
     let rows = derived_rows(alloc, count, lines)?;
     word_line(alloc, "tree", lines)?;
-    let tree = tree(alloc, lines)?;
+    let tree = tree(alloc, version, lines)?;
     Ok((rows, tree))
 }
 
 #[tactic(auto, unfolding(crate::specs::Reading::optimal_at))]
 fn optimal(
     alloc: Global,
+    version: Version,
     rows: u32,
     columns: u32,
     lines: &mut Lines<'_>,
 ) -> Result<Certificate, CertError>
-    ensures { Reads (λ x. x) result lines.new (optimal_at rows columns lines.old) }
+    ensures { Reads (λ x. x) result lines.new (optimal_at (version_of version) rows columns lines.old) }
 {
     let value = value_line(alloc, lines)?;
     let point = point_line(alloc, "point", columns, lines)?;
-    let (derived, tree) = shown(alloc, lines)?;
-    Ok(Certificate::optimal(rows, columns, value, point, derived, tree))
+    let (derived, tree) = shown(alloc, version, lines)?;
+    Ok(Certificate::optimal(version, rows, columns, value, point, derived, tree))
 }
 
 #[tactic(auto, unfolding(crate::specs::Reading::infeasible_at))]
 fn infeasible(
     alloc: Global,
+    version: Version,
     rows: u32,
     columns: u32,
     lines: &mut Lines<'_>,
 ) -> Result<Certificate, CertError>
-    ensures { Reads (λ x. x) result lines.new (infeasible_at rows columns lines.old) }
+    ensures { Reads (λ x. x) result lines.new (infeasible_at (version_of version) rows columns lines.old) }
 {
-    let (derived, tree) = shown(alloc, lines)?;
-    Ok(Certificate::infeasible(rows, columns, derived, tree))
+    let (derived, tree) = shown(alloc, version, lines)?;
+    Ok(Certificate::infeasible(version, rows, columns, derived, tree))
 }
 
 #[tactic(auto, unfolding(crate::specs::Reading::unbounded_at))]
 fn unbounded(
     alloc: Global,
+    version: Version,
     rows: u32,
     columns: u32,
     lines: &mut Lines<'_>,
 ) -> Result<Certificate, CertError>
-    ensures { Reads (λ x. x) result lines.new (unbounded_at rows columns lines.old) }
+    ensures { Reads (λ x. x) result lines.new (unbounded_at (version_of version) rows columns lines.old) }
 {
     let point = point_line(alloc, "point", columns, lines)?;
     let ray = point_line(alloc, "ray", columns, lines)?;
-    Ok(Certificate::unbounded(alloc, rows, columns, point, ray))
+    Ok(Certificate::unbounded(alloc, version, rows, columns, point, ray))
 }
 
 fn body(
     alloc: Global,
+    version: Version,
     rows: u32,
     columns: u32,
     verdict: Verdict,
     lines: &mut Lines<'_>,
 ) -> Result<Certificate, CertError>
-    ensures { Reads (λ x. x) result lines.new (body_at rows columns (verdict_of verdict) lines.old) }
+    ensures { Reads (λ x. x) result lines.new (body_at (version_of version) rows columns (verdict_of verdict) lines.old) }
 {
     match verdict {
-        Verdict::Optimal => optimal(alloc, rows, columns, lines),
-        Verdict::Infeasible => infeasible(alloc, rows, columns, lines),
-        Verdict::Unbounded => unbounded(alloc, rows, columns, lines),
+        Verdict::Optimal => optimal(alloc, version, rows, columns, lines),
+        Verdict::Infeasible => infeasible(alloc, version, rows, columns, lines),
+        Verdict::Unbounded => unbounded(alloc, version, rows, columns, lines),
     }
 }
 
@@ -451,10 +508,10 @@ fn whole_text(alloc: Global, text: &[u8]) -> Result<Certificate, CertError>
     ensures { Gives (λ c. c) result (read_of text.now) }
 {
     let mut lines = Lines::new(text);
-    version_line(alloc, &mut lines)?;
+    let version = version_line(alloc, &mut lines)?;
     let (rows, columns) = size_line(alloc, &mut lines)?;
     let verdict = verdict_line(alloc, &mut lines)?;
-    let certificate = body(alloc, rows, columns, verdict, &mut lines)?;
+    let certificate = body(alloc, version, rows, columns, verdict, &mut lines)?;
     word_line(alloc, "end", &mut lines)?;
     if lines.is_over() {
         Ok(certificate)

@@ -215,7 +215,7 @@ fn accept(alloc: Global, problem: &Instance, text: &[u8]) -> Result<(), CheckSto
         Err(CertError::Fault(fault)) => return Err(CheckStop::BadText(fault)),
         Err(CertError::NoMemory) => return Err(CheckStop::NoMemory),
     };
-    match check(problem, &certificate) {
+    match check(alloc, problem, &certificate) {
         Ok(Checked::Accepted) => Ok(()),
         Ok(Checked::Refused(part)) => Err(CheckStop::Refused(part)),
         Err(fault) => Err(CheckStop::NoFit(fault)),

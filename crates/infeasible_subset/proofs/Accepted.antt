@@ -20,11 +20,16 @@ use Rattle.cert_check.proofs.Laws.{check_accepted, node_ok}
 use Rattle.search_tree.specs.Work.{node_setting}
 use Rattle.infeasible_subset.specs.Members.{Side, Member, OfRow, OfColumn}
 use Rattle.infeasible_subset.specs.Subsets.{sub_columns, sub, row_used, column_used, AllUse, UsesOnly, Refutes, AreAccepted}
+use Rattle.infeasible_subset.proofs.NoSplits.{refuting_without_splits}
 use Rattle.infeasible_subset.proofs.Subsets.{row_or_none, get_row, column_or_none, get_column, used_bound, trial_refutes}
 
 -- weights that are accepted refute the problem
 pub refuted : (p : Problem) (w : Weights) → AreAccepted p w → Refutes p w
-refuted p w h = let P : Result Bool NoFit → Type 0 = λ r. IfOk r (λ b. b ≡ node_passes p One None [] [] (Empty w)) in record { passes = sym (subst P h.passes (node_ok p None [] [] (Empty w))) }
+refuted p w h = let P : Result Bool NoFit → Type 0 = λ r. IfOk r (λ b. b ≡ node_passes p One None [] [] (Empty w)) in record { passes = sym (subst P h.passes (node_ok p One None [] [] (Empty w))) }
+
+-- accepted weights of a leaf name no split, since there is none on the way to it
+pub without_splits : (p : Problem) (w : Weights) → AreAccepted p w → AreAccepted p (record { rows = w.rows; columns = w.columns; derived = w.derived; splits = [] })
+without_splits p w h = let P : List Item → Type 0 = λ is. AreAccepted p (record { rows = w.rows; columns = w.columns; derived = w.derived; splits = is }) in subst P (refuting_without_splits p w (refuted p w h).passes) h
 
 -- ---- the bounds that weights use, in the problem with fewer bounds
 
@@ -123,4 +128,4 @@ leaf_accepted p w c h is =
     subst P (sym is) (rw (size, h.passes) refl)
 
 pub leaf_proves : (p : Problem) (w : Weights) (c : Certificate) → AreAccepted p w → c ≡ leaf_certificate p Infeasible None None (Empty w) → Proves p c
-leaf_proves p w c h is = check_accepted p c (Ok Accepted) (ap (λ d. d.version) is) (sym (leaf_accepted p w c h is)) refl
+leaf_proves p w c h is = check_accepted p c (Ok Accepted) (sym (leaf_accepted p w c h is)) refl

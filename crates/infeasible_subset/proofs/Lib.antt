@@ -2,6 +2,7 @@ mod Building
 mod Lists
 mod Subsets
 mod There
+mod NoSplits
 mod Accepted
 mod OneByOne
 mod Treated

@@ -7,7 +7,7 @@ ghost use Rattle.search_tree.specs.Nodes.{NodePasses};
 ghost use Rattle.branch_search.specs.Plain.{NoneInteger, IsPlainCertificate};
 ghost use Rattle.infeasible_subset.specs.Subsets.{AreAccepted};
 
-use certificate::{Certificate, TreeNode, Weights};
+use certificate::{Certificate, LeafWeights, TreeNode, Weights};
 use instance::Instance;
 use std::alloc::{AllocError, Global};
 
@@ -33,8 +33,17 @@ fn weights_of(alloc: Global, problem: &Instance, node: &TreeNode) -> Result<Weig
     ensures { IfOk result (λ weights. AreAccepted problem.now weights) }
 {
     match node {
-        TreeNode::Empty(weights) => weights.copy(alloc),
+        TreeNode::Empty(weights) => at_root(alloc, problem, weights),
         TreeNode::Branch(_) => unreachable!(),
         TreeNode::Bound(_) => unreachable!(),
     }
+}
+
+// The weights of a leaf at the root, which name no split.
+#[tactic(auto, using(crate::proofs::Accepted::without_splits))]
+fn at_root(alloc: Global, problem: &Instance, weights: &LeafWeights) -> Result<Weights, AllocError>
+    requires { AreAccepted problem.now weights.now }
+    ensures { IfOk result (λ weights. AreAccepted problem.now weights) }
+{
+    weights.weights().copy(alloc)
 }

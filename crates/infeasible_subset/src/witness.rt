@@ -2,7 +2,7 @@
 ghost use Rattle.std.specs.Prelude.{◌≡◌, ◌++◌, [], ◌∷◌, OnOk, OnErr};
 
 use crate::Member;
-use certificate::{Certificate, DerivedRows, Tree, TreeNode, Weights};
+use certificate::{Certificate, DerivedRows, LeafWeights, Tree, TreeNode, Version, Weights};
 use instance::{Instance, Point};
 use std::alloc::{AllocError, Global};
 use std::marker::Model;
@@ -81,11 +81,13 @@ impl Subset {
         ensures accepted { IfOk result (λ c. outcome (trials problem.now c) ≡ Acceptance) }
     {
         let mut tree = Tree::new(alloc);
-        tree.push(TreeNode::Empty(self.weights.copy(alloc)?))?;
+        let _rows = self.weights.rows();
+        let weights = LeafWeights::without_splits(alloc, self.weights.copy(alloc)?);
+        tree.push(TreeNode::Empty(weights))?;
         problem.keeps_its_limits();
         let rows = problem.rows().len() as u32;
         let columns = problem.columns().len() as u32;
         let derived = DerivedRows::new(alloc);
-        Ok(Certificate::infeasible(rows, columns, derived, tree))
+        Ok(Certificate::infeasible(Version::One, rows, columns, derived, tree))
     }
 }

@@ -2,14 +2,14 @@
 ghost use Rattle.std.specs.Prelude.{◌≡◌, [], ◌∷◌, ◌++◌, IfOk, OnOk, OnErr, None};
 
 use crate::Basis;
-use certificate::{Side, Split};
+use certificate::{ColumnSplit, Side};
 use std::alloc::{AllocError, Global};
 use std::marker::Model;
 
 /// A split on the way to a node, and the side that was taken.
 #[derive(Clone, Copy)]
 pub struct SplitTaken {
-    pub split: Split,
+    pub split: ColumnSplit,
     pub side: Side,
 }
 

@@ -68,15 +68,15 @@ fn verdict_of(alloc: Global, board: Board, problem: &Instance) -> Result<&'stati
     match board.into_certificate(alloc).ok() {
         None => Err(AllocError),
         Some(certificate) => {
-            let word = accepted_verdict(problem, &certificate);
+            let word = accepted_verdict(alloc, problem, &certificate);
             std::mem::drop(certificate);
             Ok(word)
         }
     }
 }
 
-fn accepted_verdict(problem: &Instance, certificate: &Certificate) -> &'static str {
-    match check(problem, certificate) {
+fn accepted_verdict(alloc: Global, problem: &Instance, certificate: &Certificate) -> &'static str {
+    match check(alloc, problem, certificate) {
         Ok(Checked::Accepted) => verdict_word(certificate),
         _ => "not accepted",
     }

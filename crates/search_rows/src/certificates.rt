@@ -66,7 +66,7 @@ fn certificate_told(
     problem: Option<&Instance>,
 ) -> Result<String, AllocError> {
     match problem {
-        Some(problem) => check_words(alloc, check(problem, certificate)),
+        Some(problem) => check_words(alloc, check(alloc, problem, certificate)),
         None => again(alloc, certificate, bytes),
     }
 }

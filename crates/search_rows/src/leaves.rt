@@ -9,7 +9,7 @@ ghost use Rattle.search_rows.specs.Trees.{MayStand, LeadTo, IsLeafOf};
 
 use branch_search::{Fractional, Treatment, treat};
 use candidate::Proposer;
-use certificate::{DerivedRows, Split};
+use certificate::{ColumnSplit, DerivedRows};
 use fraction::Frac;
 use search_node::Node;
 use search_tree::{Hint, Leaf, Lease, Subtree, ways_of_boards};
@@ -211,7 +211,7 @@ fn divided(
 }
 
 // The split is of this column at this number.
-fn is_asked(split: &Split, words: &str) -> bool {
+fn is_asked(split: &ColumnSplit, words: &str) -> bool {
     let (column, at) = words.split_once(' ').unwrap_or((words, ""));
     let letter = if split.column() == 0 { "x" } else { "y" };
     column == letter && at.parse::<i128>().ok() == Some(split.at().get())

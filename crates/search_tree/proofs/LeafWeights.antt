@@ -349,12 +349,42 @@ module _ (p : Problem) (ds : List Derived) (sides : List Side) where
       next_told (node_numbers p ds sides) (with_products zero_ℚ (f j)) (λ v. cond (is_same v (wanted j)) (are_forms f wanted (j + 1) cs) (Ok false)) (h j)
       (λ v. cond_told (node_numbers p ds sides) (is_same v (wanted j)) (are_forms f wanted (j + 1) cs) (Ok false) (forms_told f wanted (j + 1) cs h) tt)
 
+  -- ---- no split has a bound or a form
+
+  abbrev split_bound_at : Item → Result (Option Rational) NoFit
+  split_bound_at i = Ok None
+
+  splits_there_told : (items : List Item) → Told (node_numbers p ds sides) (are_there split_bound_at items)
+  splits_there_told [] = tt
+  splits_there_told (i ∷ is) = tt
+
+  no_products : (items : List Item) (j : ℕ) → item_products (λ i. []) items j ≡ []
+  no_products [] j = refl
+  no_products (i ∷ is) j = no_products is j
+
+  no_bounds : (items : List Item) (total : Rational) → with_bounds split_bound_at total items ≡ Ok total
+  no_bounds [] total = refl
+  no_bounds (i ∷ is) total = no_bounds is total
+
+  then_no_bounds : (items : List Item) (r : Result Rational NoFit) → and_then r (λ d. with_bounds split_bound_at d items) ≡ r
+  then_no_bounds items (Ok d) = no_bounds items d
+  then_no_bounds items (Err e) = refl
+
+  three_products : Weights → ℕ → List Product
+  three_products w j = item_products row_form_at w.rows j ++ (item_products unit_form_at w.columns j ++ item_products derived_form_at w.derived j)
+
+  same_products : (w : Weights) (j : ℕ) → weight_products (node_setting p ds sides) w j ≡ three_products w j
+  same_products w j =
+      let derived = item_products derived_form_at w.derived j in
+      let last : derived ++ item_products (λ i. []) w.splits j ≡ derived = ap (λ (ps : List Product). derived ++ ps) (no_products w.splits j) ∙ append-nil derived in
+      ap (λ (ps : List Product). item_products row_form_at w.rows j ++ (item_products unit_form_at w.columns j ++ ps)) last
+
   module _ (forms : AreFormsAscending p ds) (w : Weights) (base : AreNodeWeights p ds sides w) where
     all_there_told : Told (node_numbers p ds sides) (all_there (node_setting p ds sides) w)
     all_there_told =
         also_told (node_numbers p ds sides) (are_there row_bound_at w.rows) _ (there_told (row_term p) row_form_at row_bound_at (rows_kind forms.rows) w.rows)
         (λ e. also_told (node_numbers p ds sides) (are_there column_bound_at w.columns) _ (there_told (column_term p sides) unit_form_at column_bound_at columns_kind w.columns)
-        (λ f. also_told (node_numbers p ds sides) (are_there derived_bound_at w.derived) _ (there_told (derived_term ds) derived_form_at derived_bound_at (deriveds_kind forms.derived) w.derived) (λ g. tt)))
+        (λ f. also_told (node_numbers p ds sides) (are_there derived_bound_at w.derived) _ (there_told (derived_term ds) derived_form_at derived_bound_at (deriveds_kind forms.derived) w.derived) (λ g. splits_there_told w.splits)))
 
     coefficients_thin : (all : List Weighted) (j : ℕ) → IsParted w all → Thinned (weight_products (node_setting p ds sides) w j) (map (at_column j) all)
     coefficients_thin all j parts =
@@ -362,36 +392,39 @@ module _ (p : Problem) (ds : List Derived) (sides : List Side) where
         let columns = item_products unit_form_at w.columns j in
         let derived = item_products derived_form_at w.derived j in
         let f : Weighted → Rational = at_column j in
-        let P : List Rational → Type 0 = λ ns. Thinned (weight_products (node_setting p ds sides) w j) ns in
-        subst P (sym (ap (map f) parts.whole ∙ map-append f parts.rows (parts.columns ++ parts.derived) ∙ ap (λ (ns : List Rational). map f parts.rows ++ ns) (map-append f parts.columns parts.derived)))
+        let P : List Rational → Type 0 = λ ns. Thinned (three_products w j) ns in
+        let R : List Product → Type 0 = λ ps. Thinned ps (map f all) in
+        subst R (sym (same_products w j)) (subst P (sym (ap (map f) parts.whole ∙ map-append f parts.rows (parts.columns ++ parts.derived) ∙ ap (λ (ns : List Rational). map f parts.rows ++ ns) (map-append f parts.columns parts.derived)))
         (thinned-append (map f parts.rows) (map f parts.columns ++ map f parts.derived) rows (columns ++ derived) (items_thin (row_term p) row_form_at row_bound_at (rows_kind forms.rows) w.rows parts.rows j parts.are_rows)
         (thinned-append (map f parts.columns) (map f parts.derived) columns derived (items_thin (column_term p sides) unit_form_at column_bound_at columns_kind w.columns parts.columns j parts.are_columns)
-        (items_thin (derived_term ds) derived_form_at derived_bound_at (deriveds_kind forms.derived) w.derived parts.derived j parts.are_derived)))
+        (items_thin (derived_term ds) derived_form_at derived_bound_at (deriveds_kind forms.derived) w.derived parts.derived j parts.are_derived))))
 
     coefficients_base : (j : ℕ) → AreBase (node_numbers p ds sides) (weight_products (node_setting p ds sides) w j)
     coefficients_base j =
         let rows = item_products row_form_at w.rows j in
         let columns = item_products unit_form_at w.columns j in
         let derived = item_products derived_form_at w.derived j in
-        base-append (node_numbers p ds sides) rows (columns ++ derived) (items_base (row_term p) row_form_at row_bound_at (rows_kind forms.rows) w.rows j base.rows)
+        let R : List Product → Type 0 = AreBase (node_numbers p ds sides) in
+        subst R (sym (same_products w j)) (base-append (node_numbers p ds sides) rows (columns ++ derived) (items_base (row_term p) row_form_at row_bound_at (rows_kind forms.rows) w.rows j base.rows)
         (base-append (node_numbers p ds sides) columns derived (items_base (column_term p sides) unit_form_at column_bound_at columns_kind w.columns j base.columns)
-        (items_base (derived_term ds) derived_form_at derived_bound_at (deriveds_kind forms.derived) w.derived j base.derived))
+        (items_base (derived_term ds) derived_form_at derived_bound_at (deriveds_kind forms.derived) w.derived j base.derived)))
 
     bound_sum_told : (all : List Weighted) → IsParted w all → IsNodeProducts p ds sides (map at_bound all) → Told (node_numbers p ds sides) (bound_sum (node_setting p ds sides) zero_ℚ w)
     bound_sum_told all parts h =
         let rows : List Rational = map at_bound parts.rows in
         let columns : List Rational = map at_bound parts.columns in
         let derived : List Rational = map at_bound parts.derived in
+        let S : Result Rational NoFit → Type 0 = Told (node_numbers p ds sides) in
         let whole : map at_bound all ≡ rows ++ (columns ++ derived) = ap (map at_bound) parts.whole ∙ map-append at_bound parts.rows (parts.columns ++ parts.derived) ∙ ap (λ (ns : List Rational). rows ++ ns) (map-append at_bound parts.columns parts.derived) in
-        then_told (node_numbers p ds sides) (with_bounds row_bound_at zero_ℚ w.rows) (λ r. and_then (with_bounds column_bound_at r w.columns) (λ c. with_bounds derived_bound_at c w.derived)) (λ r. r ≡ sum_onto zero_ℚ rows)
+        then_told (node_numbers p ds sides) (with_bounds row_bound_at zero_ℚ w.rows) (λ r. and_then (with_bounds column_bound_at r w.columns) (λ c. and_then (with_bounds derived_bound_at c w.derived) (λ d. with_bounds split_bound_at d w.splits))) (λ r. r ≡ sum_onto zero_ℚ rows)
         (bounds_told (row_term p) row_form_at row_bound_at (rows_kind forms.rows) (map at_bound all) h w.rows parts.rows parts.are_rows base.rows [] (columns ++ derived) whole zero_ℚ refl)
         (bounds_sum (row_term p) row_form_at row_bound_at (rows_kind forms.rows) w.rows parts.rows parts.are_rows zero_ℚ)
-        (λ r er. then_told (node_numbers p ds sides) (with_bounds column_bound_at r w.columns) (λ c. with_bounds derived_bound_at c w.derived) (λ c. c ≡ sum_onto r columns)
+        (λ r er. then_told (node_numbers p ds sides) (with_bounds column_bound_at r w.columns) (λ c. and_then (with_bounds derived_bound_at c w.derived) (λ d. with_bounds split_bound_at d w.splits)) (λ c. c ≡ sum_onto r columns)
         (bounds_told (column_term p sides) unit_form_at column_bound_at columns_kind (map at_bound all) h w.columns parts.columns parts.are_columns base.columns rows derived whole r er)
         (bounds_sum (column_term p sides) unit_form_at column_bound_at columns_kind w.columns parts.columns parts.are_columns r)
-        (λ c ec. bounds_told (derived_term ds) derived_form_at derived_bound_at (deriveds_kind forms.derived) (map at_bound all) h w.derived parts.derived parts.are_derived base.derived (rows ++ columns) []
+        (λ c ec. subst S (sym (then_no_bounds w.splits (with_bounds derived_bound_at c w.derived))) (bounds_told (derived_term ds) derived_form_at derived_bound_at (deriveds_kind forms.derived) (map at_bound all) h w.derived parts.derived parts.are_derived base.derived (rows ++ columns) []
         (whole ∙ sym (append-append rows columns derived) ∙ ap (λ (ns : List Rational). (rows ++ columns) ++ ns) (sym (append-nil derived))) c
-        (ec ∙ ap (λ (s : Rational). sum_onto s columns) er ∙ sym (sum-append zero_ℚ rows columns))))
+        (ec ∙ ap (λ (s : Rational). sum_onto s columns) er ∙ sym (sum-append zero_ℚ rows columns)))))
 
     are_all : all_there (node_setting p ds sides) w ≡ Ok true → true ≡ is_some (terms p ds sides [] w)
     are_all e = let P : Result Bool NoFit → Type 0 = λ r. IfOk r (λ b. b ≡ is_some (terms p ds sides [] w)) in subst P e (all_there_ok (node_setting p ds sides) w)

@@ -25,14 +25,14 @@ is_true : (r : Result Bool NoFit) (b : Bool) → r ≡ Ok true → IfOk r (λ x.
 is_true r b e h = let P : Result Bool NoFit → Type 0 = λ a. IfOk a (λ x. x ≡ b) in sym (subst P e h)
 
 pub node_test : (p : Problem) (goal : Option Rational) (ds : List Derived) (sides : List SideOf) (node : TreeNode) → NodePasses p goal ds sides node → node_passes p One goal ds sides node ≡ true
-node_test p goal ds sides node h = is_true _ (node_passes p One goal ds sides node) h (node_ok p goal ds sides node)
+node_test p goal ds sides node h = is_true _ (node_passes p One goal ds sides node) h (node_ok p One goal ds sides node)
 
 pub cut_tests : (p : Problem) (ds : List Derived) → AllPass p ds → (k : ℕ) → IfSome (slice_get ds k) (λ d. derived_passes p [] d ≡ true)
 cut_tests p ds h k = go (slice_get ds k) (h k)
   where
-    go : (o : Option Derived) → IfSome o (λ d. derived_answer p d ≡ Ok true) → IfSome o (λ d. derived_passes p [] d ≡ true)
+    go : (o : Option Derived) → IfSome o (λ d. derived_answer p One [] d ≡ Ok true) → IfSome o (λ d. derived_passes p [] d ≡ true)
     go None e = tt
-    go (Some d) e = is_true _ (derived_passes p [] d) e (derived_ok p d)
+    go (Some d) e = is_true _ (derived_passes p [] d) e (derived_ok p One [] d)
 
 -- ---- a leaf that passes against a value passes against a better one
 

@@ -5,7 +5,7 @@ use Rattle.rational.specs.Rational.{Rational, ◌≤ℚ◌, ◌*ℚ◌}
 use Rattle.milp.specs.Problem.{Problem}
 use Rattle.milp.specs.Points.{Feasible, objective_value, sign_of}
 use Rattle.instance.specs.Sums.{value_answer, meets_answer}
-use Rattle.verdicts.specs.Certificate.{Side, Derived, TreeNode, Empty, Bound}
+use Rattle.verdicts.specs.Certificate.{One, Side, Derived, TreeNode, Empty, Bound}
 use Rattle.verdicts.specs.Proves.{TakesAll}
 use Rattle.cert_check.specs.Parts.{derived_answer}
 use Rattle.search_tree.specs.declared.leaf.Leaf.{Leaf}
@@ -22,7 +22,7 @@ pub record HasSums (p : Problem) (x : List Rational) : Type 0 where
 
 -- the checker's test of each cut passes, and all its operations fit
 abbrev pub AllPass : Problem → List Derived → Type 0
-AllPass p cuts = (k : ℕ) → IfSome (slice_get cuts k) (λ d. derived_answer p d ≡ Ok true)
+AllPass p cuts = (k : ℕ) → IfSome (slice_get cuts k) (λ d. derived_answer p One [] d ≡ Ok true)
 
 -- v is no better than the best value, which there is
 abbrev pub IsNoBetter : Problem → Option Rational → Rational → Type 0

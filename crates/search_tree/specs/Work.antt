@@ -4,7 +4,7 @@ use Rattle.rational.specs.Rational.{Rational}
 use Rattle.milp.specs.Problem.{Problem}
 use Rattle.fraction.specs.declared.frac.NoFit.{NoFit}
 use Rattle.instance.specs.Sums.{value_answer}
-use Rattle.verdicts.specs.Certificate.{Side, Weights, Derived, Empty, Bound}
+use Rattle.verdicts.specs.Certificate.{One, Side, Weights, Derived, Empty, Bound}
 use Rattle.basis.specs.Dictionary.{Dictionary}
 use Rattle.basis.specs.Relaxation.{IsOptimalRelaxation, IsInfeasibleRelaxation, IsUnboundedRelaxation}
 use Rattle.basis.specs.declared.Place.{Place}
@@ -12,9 +12,9 @@ use Rattle.cert_check.specs.Setting.{Setting}
 use Rattle.cert_check.specs.Parts.{point_answer, ray_answer, node_answer}
 use Rattle.simplex.specs.Answer.{IsNodeFault}
 
--- what weights stand on at a node
+-- what weights stand on at a node, where its splits narrow the bounds of their columns
 abbrev pub node_setting : Problem → List Derived → List Side → Setting
-node_setting p ds sides = record { problem = p; derived = ds; sides = sides }
+node_setting p ds sides = record { version = One; problem = p; derived = ds; sides = sides }
 
 -- e is an operation of the work at a node, and does not fit: one of the simplex method there, or the first that does not
 -- fit in a test of what the method finds: of an optimal point, its value and its weights at a leaf, of the weights at an empty

@@ -1,7 +1,7 @@
 // Leaves of a tree of splits.
 ghost use Rattle.std.specs.Prelude.{◌≡◌};
 
-use certificate::{Split, Weights};
+use certificate::{ColumnSplit, Weights};
 use fraction::{Frac, NoFit};
 use search_node::{Bases, Basis};
 use std::alloc::{AllocError, Global};
@@ -98,7 +98,7 @@ pub enum Leaf {
 #[derive(Drop)]
 pub enum Slot {
     /// The low side comes next, then the high side.
-    Divided(Split),
+    Divided(ColumnSplit),
     /// A leaf.
     Leaf(Leaf),
 }

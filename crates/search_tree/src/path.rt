@@ -12,7 +12,7 @@ ghost use Rattle.search_tree.specs.Work.{node_setting};
 ghost use Rattle.search_tree.specs.Paths.{last_sides};
 
 use cert_check::{lower_at, makes_column, shows_no_point, shows_none_better, upper_at};
-use certificate::{DerivedRows, Side, Split, Tree, TreeNode, Weights};
+use certificate::{ColumnSplit, DerivedRows, LeafWeights, Side, Tree, TreeNode, Weights};
 use fraction::{Frac, NoFit};
 use instance::Instance;
 use search_node::SplitsTaken;
@@ -62,7 +62,7 @@ impl Path {
     }
 
     // The path below one more split, on this side of it.
-    fn longer(self, alloc: Global, split: Split, side: Side) -> Result<Self, AllocError>
+    fn longer(self, alloc: Global, split: ColumnSplit, side: Side) -> Result<Self, AllocError>
         ensures { IfOk result (λ path. path ≡ side_of split side ∷ self) }
     {
         let mut tree = self.tree;
@@ -135,14 +135,22 @@ impl Path {
 
 // One more split on the way to the last place, which is then on this side of it.
 #[tactic(auto, using(crate::proofs::Paths::low_turn, crate::proofs::Paths::high_turn))]
-fn turn(alloc: Global, tree: &mut Tree, split: Split, side: Side) -> Result<(), AllocError>
+fn turn(alloc: Global, tree: &mut Tree, split: ColumnSplit, side: Side) -> Result<(), AllocError>
     ensures { OnOk result (last_sides tree.new ≡ side_of split side ∷ last_sides tree.old) }
 {
+    let split = split.to_split(alloc)?;
     add(tree, TreeNode::Branch(split))?;
     match side {
         Side::Low => Ok(()),
-        Side::High => add(tree, TreeNode::Empty(Weights::none(alloc))),
+        Side::High => add(tree, TreeNode::Empty(no_weights(alloc))),
     }
+}
+
+// A leaf's weights, of which there are none.
+fn no_weights(alloc: Global) -> LeafWeights
+    ensures { result ≡ record { rows = []; columns = []; derived = []; splits = [] } }
+{
+    LeafWeights::without_splits(alloc, Weights::none(alloc))
 }
 
 // One more node. After an error nothing has changed.

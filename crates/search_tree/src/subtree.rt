@@ -5,7 +5,7 @@ ghost use Rattle.search_tree.specs.Slots.{slots_of};
 ghost use Rattle.search_tree.specs.declared.leaf.Leaf.TheVariants.{Todo};
 
 use crate::{Hint, Leaf, Slot};
-use certificate::Split;
+use certificate::ColumnSplit;
 use std::alloc::{AllocError, Global};
 use std::marker::Model;
 
@@ -39,7 +39,7 @@ impl Subtree {
     }
 
     /// The tree of one split, whose sides no one has worked on, with hints for them.
-    pub fn split(alloc: Global, split: Split, low: Hint, high: Hint) -> Result<Self, AllocError>
+    pub fn split(alloc: Global, split: ColumnSplit, low: Hint, high: Hint) -> Result<Self, AllocError>
         ensures { IfOk result (λ t. t ≡ Divided split (AtLeaf (Todo low)) (AtLeaf (Todo high))) }
     {
         let mut slots = Vec::with_capacity(alloc, 3)?;

@@ -13,7 +13,7 @@ use Rattle.verdicts.specs.Certificate.{Split, Side as SideOf, Low as LowOf, High
 use Rattle.verdicts.specs.WeightedSums.{AllBelow}
 use Rattle.verdicts.specs.Proves.{narrows, lower_under, upper_under, greater}
 use Rattle.certificate.specs.Ways.{side_of}
-use Rattle.certificate.specs.Written.{column_form, first_column, split_column, IsSplit}
+use Rattle.certificate.specs.Written.{column_form, first_column, split_column, IsColumnSplit}
 use Rattle.certificate.proofs.Laws.{column_narrows}
 use Rattle.search_node.specs.Sides.{sides_of}
 use Rattle.certificate.specs.declared.split.Side.{Side}
@@ -122,13 +122,13 @@ one_more_side p sides side n j e h =
     let at : j ≡ 0 + j = omega arith in
     ap (λ b. set (column_bounds p sides 0 n) j (narrowed_by side b)) (bounds_there p sides n 0 j h) ∙ narrowed_columns p sides side n 0 j (e ∙ ap column_form at) h
 
-pub split_on : (n : ℕ) (taken : List SplitTaken) (i : ℕ) (t : SplitTaken) → AreOnColumns n taken → slice_get taken i ≡ Some t → IsSplit t.split → split_column t.split < n
+pub split_on : (n : ℕ) (taken : List SplitTaken) (i : ℕ) (t : SplitTaken) → AreOnColumns n taken → slice_get taken i ≡ Some t → IsColumnSplit t.split → split_column t.split < n
 split_on n taken i t h e is =
     let P : Option SplitTaken → Type 0 = λ o. IfSome o (λ s. AllBelow n s.split.form) in
     let below : AllBelow n (column_form (split_column t.split)) = subst (AllBelow n) is.form (subst P e (h i)) in
     below.0
 
-pub one_more_split : (p : Problem) (taken : List SplitTaken) (i : ℕ) (t : SplitTaken) (old new : List Bounds) → AreOnColumns (length p.columns) taken → slice_get taken i ≡ Some t → IsSplit t.split → old ≡ column_bounds p (sides_of (take i taken)) 0 (length p.columns)
+pub one_more_split : (p : Problem) (taken : List SplitTaken) (i : ℕ) (t : SplitTaken) (old new : List Bounds) → AreOnColumns (length p.columns) taken → slice_get taken i ≡ Some t → IsColumnSplit t.split → old ≡ column_bounds p (sides_of (take i taken)) 0 (length p.columns)
     → new ≡ set old (split_column t.split) (narrowed_by (side_of t.split t.side) (bounds_at old (split_column t.split))) → new ≡ column_bounds p (sides_of (take (i + 1) taken)) 0 (length p.columns)
 one_more_split p taken i t old new on e is f g =
     let n = length p.columns in

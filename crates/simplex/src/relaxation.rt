@@ -14,7 +14,7 @@ ghost use Rattle.simplex.specs.Narrowed.{narrowed_by, bounds_at, IsNextFault, Is
 ghost use Rattle.simplex.specs.Rays.{IsFault};
 
 use crate::fault::Fault;
-use certificate::{Derived, DerivedRows, Side, Split};
+use certificate::{ColumnSplit, Derived, DerivedRows, Side};
 use dictionary::{Bounds, System};
 use fraction::{Frac, NoFit};
 use instance::{Column, Direction, Entries, Entry, Instance, Row, greater, lesser, signed};
@@ -95,7 +95,7 @@ fn narrow(mut bounds: Vec<Bounds>, column: usize, taken: &SplitTaken) -> Result<
     Ok(bounds)
 }
 
-fn narrowed(bounds: Bounds, split: Split, side: Side) -> Result<Bounds, NoFit>
+fn narrowed(bounds: Bounds, split: ColumnSplit, side: Side) -> Result<Bounds, NoFit>
     ensures ok { IfOk result (λ b. b ≡ narrowed_by (side_of split side) bounds) }
     ensures err { IfErr result (IsSplitFault (side_of split side)) }
 {

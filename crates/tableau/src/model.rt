@@ -1,6 +1,6 @@
 // The linear program as the search sees it: each row is a variable too, A x + s = 0, and all variables have bounds.
 use crate::scaling::units_of;
-use certificate::{Side, Split};
+use certificate::{ColumnSplit, Side};
 use fraction::Frac;
 use instance::{Column, Direction, Entry as FormEntry, Instance, Row};
 use search_node::SplitsTaken;
@@ -194,7 +194,7 @@ fn narrow(bounds: &mut [Bounds], splits: &SplitsTaken) -> Result<(), Stop> {
     Ok(())
 }
 
-fn narrow_by(bounds: &mut [Bounds], split: Split, side: Side) -> Result<(), Stop> {
+fn narrow_by(bounds: &mut [Bounds], split: ColumnSplit, side: Side) -> Result<(), Stop> {
     let column = split.column() as usize;
     let limit = whole(split.at().get())?;
     let old = at(bounds, column, FREE);

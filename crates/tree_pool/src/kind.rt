@@ -5,14 +5,14 @@ ghost use Rattle.tree_pool.specs.Kinds.{leaf_kind, kind_of};
 ghost use Rattle.tree_pool.specs.Standing.{ref_at};
 
 use crate::refs::NodeRef;
-use certificate::Split;
+use certificate::ColumnSplit;
 use search_tree::{Entry, Event, Leaf, Reply, Slot};
 
 // What a node is.
 #[derive(Clone, Copy)]
 pub enum Kind {
     // A split.
-    SplitBy(Split),
+    SplitBy(ColumnSplit),
     // A leaf that is to be worked on.
     ToDo,
     // A leaf that is leased under this number.

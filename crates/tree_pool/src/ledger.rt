@@ -1,6 +1,8 @@
 // The log of a board, and the tree and best point that it leads to.
 ghost use Rattle.std.specs.Prelude.{◌≡◌, ◌++◌, [], ◌∷◌, ◌<◌, ◌≤◌, ◌+◌, length, set, cond, Some, None, option_map, true, false, OnOk, OnErr, IfOk, IfErr, IfSome, List, slice_get};
 ghost use Rattle.std.specs.Vec.{vec_len, vec_capacity};
+ghost use Rattle.std.specs.List.{AllByRecursion};
+ghost use Rattle.certificate.specs.Written.{IsOfOne};
 ghost use Rattle.certificate.specs.declared.split.Side.{Side as SideOf};
 ghost use Rattle.search_tree.specs.declared.leaf.Lease.{Lease as LeaseOf};
 ghost use Rattle.search_tree.specs.declared.leaf.Leaf.TheVariants.{Todo, Leased};
@@ -28,7 +30,7 @@ use crate::refs::NodeRef;
 use crate::scan::{forget, given_back, leased_count, place_under, remember, sides_of};
 use crate::shape::{Shape, shape_of};
 use crate::walk::in_preorder;
-use certificate::{Split, Tree};
+use certificate::{ColumnSplit, Tree};
 use fraction::Frac;
 use instance::Point;
 use search_node::SplitTaken;
@@ -256,7 +258,7 @@ impl Ledger {
         seat: usize,
         lease: Lease,
         tree: Subtree,
-        split: Split,
+        split: ColumnSplit,
         best: Option<Frac>,
     ) -> Result<(), Subtree>
         requires one { leased_under lease.number self.old.tree ≤ 1 }
@@ -369,7 +371,8 @@ impl Ledger {
 
     /// The tree as a certificate has it, without the leaves that are not closed.
     pub(crate) fn closed_tree(&self, alloc: Global) -> Result<Tree, AllocError>
-        ensures { IfOk result (λ t. t ≡ nodes_of self.now.tree) }
+        ensures nodes { IfOk result (λ t. t ≡ nodes_of self.now.tree) }
+        ensures lines { IfOk result (AllByRecursion IsOfOne) }
     {
         let nodes = self.in_preorder(alloc)?;
         closed_tree(alloc, &self.log, &nodes)

@@ -3,7 +3,7 @@ ghost use Rattle.std.specs.Prelude.{◌≡◌, ◌≤◌, ◌<◌, ◌-◌, ◌+
 ghost use Rattle.certificate.specs.declared.split.Side.TheVariants.{Low, High};
 ghost use Rattle.tree_pool.specs.Paths.{path_at, paths_of, AreAbove};
 
-use certificate::{Side, Split};
+use certificate::{ColumnSplit, Side};
 use search_node::SplitTaken;
 use std::alloc::{AllocError, Global};
 use std::marker::Model;
@@ -44,7 +44,7 @@ impl Paths {
     }
 
     /// Those of the two sides of a split at a place come behind all others. After an error nothing has changed.
-    pub(crate) fn fork(&mut self, place: usize, split: Split) -> Result<(), AllocError>
+    pub(crate) fn fork(&mut self, place: usize, split: ColumnSplit) -> Result<(), AllocError>
         requires { place < length self.old }
         ensures ok { OnOk result (self.new ≡ self.old ++ (path_at self.old place ++ record { split = split; side = Low } ∷ []) ∷ (path_at self.old place ++ record { split = split; side = High } ∷ []) ∷ []) }
         ensures kept { OnErr result (self.new ≡ self.old) }
@@ -68,7 +68,7 @@ impl Paths {
     }
 }
 
-fn link_to(above: usize, split: Split, side: Side) -> Link
+fn link_to(above: usize, split: ColumnSplit, side: Side) -> Link
     ensures { result ≡ record { above = above; taken = record { split = split; side = side } } }
 {
     Link {

@@ -3,7 +3,7 @@ ghost use Rattle.std.specs.Prelude.{◌≡◌};
 ghost use Rattle.search_tree.specs.Tree.{made};
 ghost use Rattle.tree_pool.specs.Shapes.{IsShape};
 
-use certificate::Split;
+use certificate::ColumnSplit;
 use search_tree::{Slot, Subtree};
 
 /// A tree as it is put in the place of a leaf.
@@ -12,7 +12,7 @@ pub enum Shape {
     /// One leaf.
     Leaf,
     /// One split with two leaves.
-    Split(Split),
+    Split(ColumnSplit),
     /// A tree of more splits.
     Larger,
 }

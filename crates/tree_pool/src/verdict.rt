@@ -1,10 +1,11 @@
 // The certificate of a board's verdict.
 ghost use Rattle.std.specs.Prelude.{◌≡◌, length, true, IsTrue, IfSome, Some, None, is_some};
 ghost use Rattle.verdicts.specs.Certificate.{One};
-ghost use Rattle.certificate.specs.Written.{is_tree};
+ghost use Rattle.std.specs.List.{AllByRecursion};
+ghost use Rattle.certificate.specs.Written.{is_tree, IsOfOne};
 ghost use Rattle.search_tree.specs.Finished.{verdict_of};
 
-use certificate::{Certificate, DerivedRows, Tree};
+use certificate::{Certificate, DerivedRows, Tree, Version};
 use fraction::Frac;
 use instance::Point;
 
@@ -18,13 +19,17 @@ pub(crate) fn certificate_with(
     value: Option<Frac>,
 ) -> Certificate
     requires tree { IsTrue (is_tree tree) }
+    requires lines { AllByRecursion IsOfOne tree }
     requires size { IfSome best (λ x. length x ≡ columns) }
     requires value { is_some value ≡ is_some best }
     ensures { result ≡ record { version = One; rows = rows; columns = columns; verdict = verdict_of best; value = value; point = best; ray = None; derived = cuts; tree = tree } }
 {
     match best {
-        None => Certificate::infeasible(rows, columns, cuts, tree),
-        Some(point) => Certificate::optimal(rows, columns, known(value), point, cuts, tree),
+        None => Certificate::infeasible(Version::One, rows, columns, cuts, tree),
+        Some(point) => {
+            let value = known(value);
+            Certificate::optimal(Version::One, rows, columns, value, point, cuts, tree)
+        }
     }
 }
 

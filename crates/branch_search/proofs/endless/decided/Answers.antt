@@ -11,7 +11,7 @@ pub unreachable-requires : goal.unreachable-requires
 unreachable-requires c = not_unbounded c.args.problem.now c.args.certificate c.requires.proves (sym c.in-Unbounded.ensures)
 
 pub returns-in-Infeasible-clause-proves : goal.returns-in-Infeasible-clause-proves
-returns-in-Infeasible-clause-proves c = none_proves c.args.problem.now c.args.certificate c.rows-rows.ensures.written.version c.requires.accepted (sym c.in-Infeasible.ensures)
+returns-in-Infeasible-clause-proves c = none_proves c.args.problem.now c.args.certificate c.requires.accepted (sym c.in-Infeasible.ensures)
 
 pub returns-in-Infeasible-clause-accepted : goal.returns-in-Infeasible-clause-accepted
 returns-in-Infeasible-clause-accepted c = none_accepted c.args.problem.now c.args.certificate c.requires.accepted (sym c.in-Infeasible.ensures)

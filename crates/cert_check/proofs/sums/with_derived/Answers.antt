@@ -4,7 +4,7 @@ use Rattle.fraction.specs.declared.frac.NoFit.{NoFit}
 use Rattle.cert_check.specs.Sums.{form_at, item_products, with_products}
 use Rattle.cert_check.proofs.Products.{item_ok, item_fault}
 use Rattle.cert_check.specs.declared.kind.Kind.TheVariants.{OfDerived}
-use Rattle.cert_check.proofs.sums.with_items.Goals as goal
+use Rattle.cert_check.proofs.sums.with_derived.Goals as goal
 
 pub returns-in_err-total : goal.returns-in_err-total
 returns-in_err-total c =
