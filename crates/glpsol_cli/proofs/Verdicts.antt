@@ -105,12 +105,14 @@ module _ (words : List (List ℕ)) (told : ToldNames) (c : Certificate) (right :
 -- ---- subsets
 
 module _ (words : List (List ℕ)) (told : ToldNames) (c : Certificate) (w : FoundSubset) (right : AreRight) where
-  pub irreducible : (s : Settings) (texts : List (List ℕ)) → HasSubset c w s texts → IsIrreducibleSubset w s texts
+  pub irreducible : (s : Settings) (texts : List (List ℕ)) → HasSubset c w s texts → IsIrreducibleSubset c w s texts
   irreducible s texts h = record {
     problem = h.proved.problem;
     asked = h.proved.asked;
     none = subst (Holds h.proved.problem c) h.infeasible (right h.proved.problem c h.proved.proves);
     is = h.is;
+    infeasible = h.infeasible;
+    by_weights = h.by_weights;
   }
 
   verdict_differs : (d : Certificate) → VerdictReached d ≡ SubsetReached c w → ⊥
@@ -128,8 +130,8 @@ module _ (words : List (List ℕ)) (told : ToldNames) (c : Certificate) (w : Fou
   acceptance_differs : Acceptance ≡ SubsetReached c w → ⊥
   acceptance_differs e = cc
 
-  by_reached : (r : Reached) → r ≡ SubsetReached c w → IsReached words told r → OfTexts words told (IsIrreducibleSubset w)
-  by_reached r e h = of_texts words told (HasSubset c w) (IsIrreducibleSubset w) irreducible (subst (IsReached words told) e h)
+  by_reached : (r : Reached) → r ≡ SubsetReached c w → IsReached words told r → OfTexts words told (IsIrreducibleSubset c w)
+  by_reached r e h = of_texts words told (HasSubset c w) (IsIrreducibleSubset c w) irreducible (subst (IsReached words told) e h)
 
   file_differs : (name : List ℕ) (P : Option (Option (List ℕ)) → Type 0) (r : Reached) → r ≡ SubsetReached c w → OfFile words told name r P → ⊥
   file_differs name P Nothing e h = nothing_differs e
@@ -139,7 +141,7 @@ module _ (words : List (List ℕ)) (told : ToldNames) (c : Certificate) (w : Fou
   file_differs name P (VerdictReached d) e h = h
   file_differs name P (SubsetReached d v) e h = h
 
-  pub is_irreducible : (files_rose out_rose : Type 0) (answer : Answer) → reached_of answer ≡ SubsetReached c w → Cause words told files_rose out_rose answer → OfTexts words told (IsIrreducibleSubset w)
+  pub is_irreducible : (files_rose out_rose : Type 0) (answer : Answer) → reached_of answer ≡ SubsetReached c w → Cause words told files_rose out_rose answer → OfTexts words told (IsIrreducibleSubset c w)
   is_irreducible files_rose out_rose (Optimal d) e h = absurd (verdict_differs d e)
   is_irreducible files_rose out_rose (Infeasible d) e h = absurd (verdict_differs d e)
   is_irreducible files_rose out_rose (Irreducible d v) e h = by_reached (SubsetReached d v) e h

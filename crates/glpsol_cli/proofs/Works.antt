@@ -155,6 +155,7 @@ module _ (s : Settings) (texts : List (List ℕ)) (p : Problem) (asks : IsAsked 
       wanted = wants ∙ h.3;
       infeasible = h.2;
       is = h.4;
+      by_weights = h.5;
     }
 
 pub solves_by : (task : Task) (outputs : Outputs) → task ≡ Solve outputs → IsSolve task

@@ -1,5 +1,5 @@
 -- What each answer of a run says of the words, of what is told of the files, and of the faults that rose.
-use Rattle.std.specs.Prelude.{◌≡◌, ◌<◌, ℕ, suc, true, List, [], length, slice_get, Some, None, Ok, Err}
+use Rattle.std.specs.Prelude.{◌≡◌, ◌<◌, ℕ, suc, true, List, [], ◌∷◌, length, slice_get, Some, None, Ok, Err}
 use Rattle.milp.specs.Problem.{Problem}
 use Rattle.milp.specs.Points.{IsOptimal, Feasible, IsUnbounded, objective_value}
 use Rattle.rational.specs.Rational.{Rational}
@@ -20,7 +20,7 @@ use Rattle.cert_check.specs.Outcome.{Acceptance as Accepting, Fault, outcome, tr
 use Rattle.cert_check.specs.declared.part.Part.{Part}
 use Rattle.std.specs.declared.option.Option.{Option}
 use Rattle.infeasible_subset.specs.Members.{has}
-use Rattle.infeasible_subset.specs.Subsets.{IsIrreducible, UsesOnly, Refutes}
+use Rattle.infeasible_subset.specs.Subsets.{IsIrreducible, UsesOnly, Refutes, AreAccepted}
 use Rattle.infeasible_subset.specs.Listed.{AreAmong, all_bounds}
 use Rattle.infeasible_subset.specs.Underway.{members_of, AllMeet}
 use Rattle.infeasible_subset.specs.Faults.{IsStuckAt as IsSubsetStuck, IsTooLong as IsSubsetTooLong}
@@ -74,28 +74,37 @@ pub record HasNoPoint (s : Settings) (texts : List (List ℕ)) : Type 0 where
   pub none : (x : List Rational) → ¬ (Feasible problem x)
 
 -- some bounds of the problem, in order, that no point meets, while without any one of them a point does, which stands beside it; and
--- weights that refute the problem by these bounds alone
+-- weights that refute the problem by these bounds alone, and that the checker accepts
 pub record IsSubsetOf (p : Problem) (w : FoundSubset) : Type 0 where
   pub irreducible : IsIrreducible p (members_of w.witnesses)
   pub listed : AreAmong (members_of w.witnesses) (all_bounds p)
   pub points : AllMeet p (members_of w.witnesses) w.witnesses
   pub uses : UsesOnly (has (members_of w.witnesses)) w.weights
   pub refutes : Refutes p w.weights
+  pub accepted : AreAccepted p w.weights
 
--- a subset is wanted, c proves that no point is feasible for the problem that is asked about, the checker accepts it, and w is a subset
--- of this problem's bounds
+-- c shows its verdict by the weights of w alone: it has no derived row, and its tree is one empty leaf
+pub record IsByWeights (c : Certificate) (w : FoundSubset) : Type 0 where
+  pub derived : c.derived ≡ []
+  pub tree : c.tree ≡ kind.Empty w.weights ∷ []
+
+-- a subset is wanted, w is a subset of the bounds of the problem that is asked about, c proves by the weights of w alone that no point is
+-- feasible there, and the checker accepts c
 pub record HasSubset (c : Certificate) (w : FoundSubset) (s : Settings) (texts : List (List ℕ)) : Type 0 where
   pub proved : IsProved c s texts
   pub wanted : wants_subset s.task ≡ true
   pub infeasible : c.verdict ≡ kind.Infeasible
   pub is : IsSubsetOf proved.problem w
+  pub by_weights : IsByWeights c w
 
--- no point is feasible, and w is a subset of the problem's bounds
-pub record IsIrreducibleSubset (w : FoundSubset) (s : Settings) (texts : List (List ℕ)) : Type 0 where
+-- no point is feasible, w is a subset of the problem's bounds, and c is of its weights
+pub record IsIrreducibleSubset (c : Certificate) (w : FoundSubset) (s : Settings) (texts : List (List ℕ)) : Type 0 where
   pub problem : Problem
   pub asked : IsAsked s texts problem
   pub none : (x : List Rational) → ¬ (Feasible problem x)
   pub is : IsSubsetOf problem w
+  pub infeasible : c.verdict ≡ kind.Infeasible
+  pub by_weights : IsByWeights c w
 
 -- the point of c is feasible, and its ray improves without end
 pub record HasRay (c : Certificate) (s : Settings) (texts : List (List ℕ)) : Type 0 where

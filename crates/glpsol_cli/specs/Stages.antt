@@ -37,7 +37,7 @@ use Rattle.glpsol_cli.specs.Pieces.{Piece, Outside, AllWritten, SameNames, Says,
 use Rattle.glpsol_cli.specs.Meaning.{Behind, Declared, Faulty, Wanting, Meaning, IsRefused, HasDone, HasFound, asked_of, behind_of, displayed, ends_in, file_pieces, files_behind, files_by, found_pieces, lacks_subset, made_in, meaning_in, meaning_of, nothing_behind, shown_by}
 use Rattle.glpsol_cli.specs.Texts.{AreTables, OfTexts, OfPieces}
 use Rattle.glpsol_cli.specs.Written.{ThenLine, extent_of, line_of}
-use Rattle.glpsol_cli.specs.Cause.{EndsBehind, HasSubset, IsNotLinear, IsProved, IsSubsetOf, IsTranslated, reached_of, OfCertificate, IsAccepted, IsRefusedAt, IsCheckOverflow, IsNoCertificate, IsOverflow, IsUndecided, RoseAt}
+use Rattle.glpsol_cli.specs.Cause.{EndsBehind, HasSubset, IsByWeights, IsNotLinear, IsProved, IsSubsetOf, IsTranslated, reached_of, OfCertificate, IsAccepted, IsRefusedAt, IsCheckOverflow, IsNoCertificate, IsOverflow, IsUndecided, RoseAt}
 use Rattle.glpsol_cli.specs.declared.answer.Answer.{Answer}
 use Rattle.glpsol_cli.specs.declared.answer.Answer.TheVariants.{Optimal, Infeasible, Unbounded, Translated, Accepted, Usage, Missing, OpenFault, ReadFault, WriteFault, TooLong, BadText as TextRefused, FaultBehindSolve, BadCertificate, NotLinear, Overflow, Undecided, Refused, NoMemory}
 use Rattle.glpsol_cli.specs.declared.answer.Limit.TheVariants.{Pivots, Splits, SubsetPivots}
@@ -199,7 +199,7 @@ abbrev pub IsSolution : Problem → Bool → Finding → Type 0
 IsSolution p wanted Size = ⊥
 IsSolution p wanted Acceptance = ⊥
 IsSolution p wanted (VerdictFound c) = Proves p c × (outcome (trials p c) ≡ Accepting) × (lacks_subset wanted c.verdict ≡ false)
-IsSolution p wanted (SubsetFound c w) = Proves p c × (outcome (trials p c) ≡ Accepting) × (c.verdict ≡ kind.Infeasible) × (wanted ≡ true) × IsSubsetOf p w
+IsSolution p wanted (SubsetFound c w) = Proves p c × (outcome (trials p c) ≡ Accepting) × (c.verdict ≡ kind.Infeasible) × (wanted ≡ true) × IsSubsetOf p w × IsByWeights c w
 
 -- what a finding is as a part of an answer
 abbrev pub reached_by : Finding → Reached

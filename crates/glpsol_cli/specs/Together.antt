@@ -69,7 +69,7 @@ CauseBy told files_rose out_rose answer s texts = CauseIn s texts files_rose out
 abbrev pub VerdictBy : Answer → Settings → List (List ℕ) → Type 0
 VerdictBy (Optimal c) s texts = IsBest c s texts
 VerdictBy (Infeasible c) s texts = HasNoPoint s texts
-VerdictBy (Irreducible c w) s texts = IsIrreducibleSubset w s texts
+VerdictBy (Irreducible c w) s texts = IsIrreducibleSubset c w s texts
 VerdictBy (Unbounded c) s texts = HasRay c s texts
 VerdictBy (FaultBehindSolve fault c) s texts = IsBest c s texts
 VerdictBy answer s texts = Unit {0}

@@ -74,7 +74,7 @@ pub enum Reached {
     Acceptance,
     /// This certificate proves its verdict, and the checker accepts it.
     Verdict(Boxed<Certificate>),
-    /// The certificate proves that no point is feasible, the checker accepts it, and this is an irreducible infeasible subset.
+    /// The certificate proves by the weights of this irreducible infeasible subset that no point is feasible, and the checker accepts it.
     Subset(Boxed<Certificate>, Boxed<Subset>),
 }
 
@@ -85,8 +85,8 @@ pub enum Answer {
     Optimal(Boxed<Certificate>),
     /// No point is feasible, as the certificate shows, and all was written. No subset was asked for.
     Infeasible(Boxed<Certificate>),
-    /// No point is feasible, as the certificate shows, and all was written, with this irreducible infeasible subset, which was
-    /// asked for.
+    /// No point is feasible, as the certificate shows by the weights of this irreducible infeasible subset, which was asked for, and
+    /// all was written.
     Irreducible(Boxed<Certificate>, Boxed<Subset>),
     /// The certificate's ray improves its point without end, and all was written.
     Unbounded(Boxed<Certificate>),

@@ -16,7 +16,7 @@ pub enum Finding {
     Acceptance,
     // this certificate proves its verdict
     Verdict(Boxed<Certificate>),
-    // the certificate proves that no point is feasible, and this is an irreducible infeasible subset
+    // the certificate proves that no point is feasible, by the weights of this irreducible infeasible subset
     Subset(Boxed<Certificate>, Boxed<Subset>),
 }
 

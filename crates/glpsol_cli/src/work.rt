@@ -47,8 +47,9 @@ pub fn run<T: Threads + Sync, S: Store, O: Sink>(
     ensures unbounded { (c : Certificate) → result ≡ Answer.Unbounded c → OfTexts (map string_bytes words.items) (S.told files.old) (HasRay c) }
 
     // Where a subset is asked for, and no point is feasible, no point meets the subset's bounds, and the point beside each of them meets
-    // all the others, whatever fault comes after it. These are the lines that are printed behind the verdict.
-    ensures subset { (c : Certificate) (w : Subset) → reached_of result ≡ Reached.Subset c w → OfTexts (map string_bytes words.items) (S.told files.old) (IsIrreducibleSubset w) }
+    // all the others, whatever fault comes after it. These are the lines that are printed behind the verdict. The certificate shows by
+    // the weights of this subset alone that no point is feasible.
+    ensures subset { (c : Certificate) (w : Subset) → reached_of result ≡ Reached.Subset c w → OfTexts (map string_bytes words.items) (S.told files.old) (IsIrreducibleSubset c w) }
 
     // And there it never answers Infeasible without a subset.
     ensures subset_asked { (s : Settings) → settings_of (map string_bytes words.items) ≡ Some s → wants_subset s.task ≡ true → IsNotPlain result }

@@ -22,7 +22,7 @@ use command_line::{Settings, Task};
 use infeasible_subset::{Subset, SubsetFault, has_no_integer_column, subset};
 use instance::Instance;
 use sqlite_items::Boxed;
-use std::alloc::Global;
+use std::alloc::{AllocError, Global};
 
 /// What is found of the problem, as the task asks.
 pub fn finding(alloc: Global, problem: &Instance, inputs: &Inputs) -> Result<Finding, Unfound>
@@ -104,7 +104,7 @@ fn with_subset(
     }
 }
 
-// The certificate of a problem without feasible points, with a subset.
+// A subset of the bounds of a problem without feasible points, as the certificate shows, with the certificate of its weights.
 fn by_subset(
     alloc: Global,
     problem: &Instance,
@@ -119,10 +119,28 @@ fn by_subset(
     ensures finding { IfOk result (IsSolution problem.now true) }
     ensures fault { IfErr result (IsUnsolved problem.now settings.now true) }
 {
-    match kept_subset(alloc, problem, certificate.get(), settings.pivot_limit) {
-        Ok(subset) => Ok(Finding::Subset(certificate, subset)),
+    match subset_found(alloc, problem, certificate.get(), settings.pivot_limit) {
+        Ok(finding) => Ok(finding),
         Err(fault) => Err(Unfound::Subset(fault)),
     }
+}
+
+// The same, where the problem's own certificate is lent.
+fn subset_found(
+    alloc: Global,
+    problem: &Instance,
+    certificate: &Certificate,
+    pivot_limit: u32,
+) -> Result<Finding, SubsetFault>
+    requires continuous { NoneInteger problem.now.columns }
+    requires infeasible { certificate.now.verdict ≡ is_infeasible }
+    requires plain { IsPlainCertificate problem.now certificate.now }
+    requires accepted { outcome (trials problem.now certificate.now) ≡ Acceptance }
+    ensures finding { IfOk result (IsSolution problem.now true) }
+    ensures fault { IfErr result (IsSubsetFault problem.now pivot_limit) }
+{
+    let subset = kept_subset(alloc, problem, certificate, pivot_limit)?;
+    Ok(with_its_certificate(alloc, problem, subset)?)
 }
 
 // An irreducible infeasible subset of the problem's bounds.
@@ -135,12 +153,25 @@ fn kept_subset(
     requires continuous { NoneInteger problem.now.columns }
     requires infeasible { certificate.now.verdict ≡ is_infeasible }
     requires plain { IsPlainCertificate problem.now certificate.now }
-    requires proves { Proves problem.now certificate.now }
+    requires accepted { outcome (trials problem.now certificate.now) ≡ Acceptance }
     ensures subset { IfOk result (IsSubsetOf problem.now) }
     ensures fault { IfErr result (IsSubsetFault problem.now pivot_limit) }
 {
     let subset = subset(alloc, problem, certificate, pivot_limit)?;
     Ok(Boxed::new(alloc, subset)?)
+}
+
+// A subset with the certificate of its weights.
+fn with_its_certificate(
+    alloc: Global,
+    problem: &Instance,
+    subset: Boxed<Subset>,
+) -> Result<Finding, AllocError>
+    requires { IsSubsetOf problem.now subset }
+    ensures { IfOk result (IsSolution problem.now true) }
+{
+    let certificate = subset.get().certificate(alloc, problem)?;
+    Ok(Finding::Subset(Boxed::new(alloc, certificate)?, subset))
 }
 
 // The certificate of a problem.

@@ -1,6 +1,6 @@
 -- Weights that the checker accepts: they refute the problem, and those that it accepts with some of the problem's bounds it accepts
--- with all of them, since its test meets the same operations there. The certificate of such weights is accepted, and gives them back.
-use Rattle.std.proofs.Common.{◌≡◌, ◌∙◌, ℕ, ◌+◌, ◌==◌, ◌&&◌, zero, suc, List, [], ◌∷◌, ◌++◌, length, Bool, true, false, cond, refl, sym, ap, subst, Option, Some, None, Result, Ok, Err, IfOk, IsTrue, slice_get, option_and_then, if◌then◌else◌}
+-- with all of them, since its test makes the same operations there. The certificate of such weights is accepted.
+use Rattle.std.proofs.Common.{◌≡◌, ◌∙◌, ℕ, ◌+◌, ◌==◌, ◌&&◌, suc, List, [], ◌∷◌, ◌++◌, length, Bool, true, false, cond, refl, sym, ap, subst, Option, Some, None, Result, Ok, Err, IfOk, IsTrue, slice_get, option_and_then, if◌then◌else◌}
 use Rattle.std.proofs.lemmas.Bool.{and_from, eq-eqb}
 use mathlib.Core.Path.{ap₂}
 use Rattle.rational.specs.Rational.{Rational, zero_ℚ}
@@ -9,18 +9,17 @@ use Rattle.fraction.specs.declared.frac.NoFit.{NoFit}
 use Rattle.milp.specs.Form.{Entry}
 use Rattle.milp.specs.Problem.{Column, Row, Problem}
 use Rattle.instance.specs.Sums.{and_then, form_of}
-use Rattle.verdicts.specs.Certificate.{One, Verdict, Optimal, Infeasible, Unbounded, Item, Weights, TreeNode, Empty, Certificate}
-use Rattle.verdicts.specs.Proves.{Part, Size, Node, Proves, lower_under, upper_under, node_passes}
+use Rattle.verdicts.specs.Certificate.{One, Infeasible, Item, Weights, Empty, Certificate}
+use Rattle.verdicts.specs.Proves.{Proves, lower_under, upper_under, node_passes}
 use Rattle.basis.specs.Relaxation.{leaf_certificate}
 use Rattle.cert_check.specs.Sums.{and_also, row_bound, are_there, all_there, with_bound, with_bounds, bound_sum, Product, item_products, weight_products, with_products, are_forms}
 use Rattle.cert_check.specs.Parts.{node_answer}
-use Rattle.cert_check.specs.Outcome.{Outcome, Acceptance, judged, outcome, trials}
+use Rattle.cert_check.specs.Outcome.{Acceptance, outcome, trials}
 use Rattle.cert_check.specs.declared.part.Checked.TheVariants.{Accepted}
 use Rattle.cert_check.proofs.Laws.{check_accepted, node_ok}
 use Rattle.search_tree.specs.Work.{node_setting}
-use Rattle.branch_search.specs.Plain.{IsPlainCertificate}
-use Rattle.infeasible_subset.specs.Members.{Side, Lower, Upper, Member, OfRow, OfColumn}
-use Rattle.infeasible_subset.specs.Subsets.{kept_if, sub_columns, sub, side_used, row_used, column_used, AllUse, UsesOnly, Refutes, AreAccepted}
+use Rattle.infeasible_subset.specs.Members.{Side, Member, OfRow, OfColumn}
+use Rattle.infeasible_subset.specs.Subsets.{sub_columns, sub, row_used, column_used, AllUse, UsesOnly, Refutes, AreAccepted}
 use Rattle.infeasible_subset.proofs.NoSplits.{refuting_without_splits}
 use Rattle.infeasible_subset.proofs.Subsets.{row_or_none, get_row, column_or_none, get_column, used_bound, trial_refutes}
 
@@ -120,21 +119,6 @@ trial_accepted p keep w a =
     (uses, record { passes = sym (answer_same p keep w uses) ∙ a.passes })
 
 -- ---- the certificate of weights
-
--- a test that decides passes
-passes : (part : Part) (answer : Result Bool NoFit) (rest : Outcome) → judged part answer rest ≡ Acceptance → (answer ≡ Ok true) × (rest ≡ Acceptance)
-passes part (Ok true) rest h = (refl, h)
-passes part (Ok false) rest h = cc
-passes part (Err e) rest h = cc
-
--- an accepted certificate made of weights alone gives them back, accepted
-pub of_leaf : (p : Problem) (w : Weights) (c : Certificate) → c ≡ leaf_certificate p Infeasible None None (Empty w) → outcome (trials p c) ≡ Acceptance → AreAccepted p w
-of_leaf p w c is h =
-    let P : Certificate → Type 0 = λ d. outcome (trials p d) ≡ Acceptance in
-    let answer : Result Bool NoFit = node_answer (node_setting p [] []) None (Empty w) in
-    let size : Result Bool NoFit = Ok ((length p.rows == length p.rows) && (length p.columns == length p.columns)) in
-    let node : judged (Node 1) answer Acceptance ≡ Acceptance = (passes Size size (judged (Node 1) answer Acceptance) (subst P is h)).1 in
-    record { passes = (passes (Node 1) answer Acceptance node).0 }
 
 -- the certificate of accepted weights is accepted
 pub leaf_accepted : (p : Problem) (w : Weights) (c : Certificate) → AreAccepted p w → c ≡ leaf_certificate p Infeasible None None (Empty w) → outcome (trials p c) ≡ Acceptance

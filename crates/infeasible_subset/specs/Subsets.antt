@@ -1,13 +1,12 @@
 -- Subsets of a problem's bounds that cannot stand together, and of which each part can.
-use Rattle.std.specs.Prelude.{ℕ, zero, suc, List, [], ◌∷◌, Bool, true, false, ◌&&◌, not, Option, None, IsTrue, Ok, if◌then◌else◌, ◌≡◌}
+use Rattle.std.specs.Prelude.{ℕ, zero, suc, List, [], ◌∷◌, Bool, true, false, ◌&&◌, not, Option, None, IsTrue, if◌then◌else◌, ◌≡◌}
 use Rattle.rational.specs.Rational.{Rational, zero_ℚ}
 use Rattle.rational.specs.Compare.{is_less}
 use Rattle.milp.specs.Problem.{Column, Row, Problem}
 use Rattle.milp.specs.Points.{Feasible}
 use Rattle.verdicts.specs.Certificate.{One, Item, Weights, Empty}
 use Rattle.verdicts.specs.Proves.{node_passes}
-use Rattle.cert_check.specs.Parts.{node_answer}
-use Rattle.search_tree.specs.Work.{node_setting}
+use Rattle.search_tree.specs.Nodes.{NodePasses}
 use Rattle.infeasible_subset.specs.Members.{Side, Lower, Upper, Member, OfRow, OfColumn, same_member, has}
 
 -- ---- the problem with some of its bounds alone
@@ -71,6 +70,6 @@ pub record UsesOnly (keep : Member → Bool) (w : Weights) : Type 0 where
 pub record Refutes (p : Problem) (w : Weights) : Type 0 where
   pub passes : node_passes p One None [] [] (Empty w) ≡ true
 
--- the checker's test of the weights, as those of a tree that is one empty leaf, passes, and all its operations fit
+-- the checker's test of the weights passes, as those of a tree that is one empty leaf, and all its operations fit
 pub record AreAccepted (p : Problem) (w : Weights) : Type 0 where
-  pub passes : node_answer (node_setting p [] []) None (Empty w) ≡ Ok true
+  pub passes : NodePasses p None [] [] (Empty w)

@@ -1,10 +1,9 @@
 // The weights of a certificate of one leaf.
-ghost use Rattle.std.specs.Prelude.{◌≡◌, [], None, Ok, true, IfOk};
+ghost use Rattle.std.specs.Prelude.{◌≡◌, [], None, IfOk};
 ghost use Rattle.verdicts.specs.Certificate.{Infeasible as is_infeasible};
 ghost use Rattle.certificate.specs.Values.{node_of};
-ghost use Rattle.cert_check.specs.Parts.{node_answer};
 ghost use Rattle.cert_check.specs.Outcome.{Acceptance, outcome, trials};
-ghost use Rattle.search_tree.specs.Work.{node_setting};
+ghost use Rattle.search_tree.specs.Nodes.{NodePasses};
 ghost use Rattle.branch_search.specs.Plain.{NoneInteger, IsPlainCertificate};
 ghost use Rattle.infeasible_subset.specs.Subsets.{AreAccepted};
 
@@ -30,7 +29,7 @@ pub(crate) fn refuting(
 
 fn weights_of(alloc: Global, problem: &Instance, node: &TreeNode) -> Result<Weights, AllocError>
     requires continuous { NoneInteger problem.now.columns }
-    requires passes { node_answer (node_setting problem.now [] []) None (node_of node.now) ≡ Ok true }
+    requires passes { NodePasses problem.now None [] [] (node_of node.now) }
     ensures { IfOk result (λ weights. AreAccepted problem.now weights) }
 {
     match node {

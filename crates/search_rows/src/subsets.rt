@@ -1,33 +1,37 @@
 // Irreducible infeasible subsets of the bounds of programs.
+ghost use Rattle.std.specs.Prelude.{◌≡◌, IfOk};
+ghost use Rattle.cert_check.specs.Outcome.{Acceptance, outcome, trials};
 ghost use Rattle.branch_search.specs.Plain.{NoneInteger, IsPlainCertificate};
-ghost use Rattle.verdicts.specs.Proves.{Proves};
+ghost use Rattle.infeasible_subset.specs.Subsets.{AreAccepted};
 
+use crate::texts::in_marks;
 use branch_search::solve;
-use certificate::{Certificate, Verdict};
+use certificate::{Certificate, Verdict, text};
 use infeasible_subset::{
     Member, Side, Subset, SubsetFault, Witness, has_no_integer_column, subset,
 };
 use instance::Instance;
 use std::alloc::{AllocError, Global};
 
-/// The members of a subset that is found within a limit of steps, or why there is none.
+/// The members of a subset that is found within a limit of steps, or why there is none. Behind the word `certificate` the
+/// certificate of its weights.
 pub(crate) fn found_subset(
     alloc: Global,
     problem: &Instance,
-    steps: &str,
+    asked: &str,
 ) -> Result<String, AllocError> {
     if !has_no_integer_column(problem) {
         return "integer columns".to_string(alloc);
     }
-    of_continuous(alloc, problem, steps.parse::<u32>().unwrap_or(1))
+    of_continuous(alloc, problem, asked)
 }
 
-fn of_continuous(alloc: Global, problem: &Instance, steps: u32) -> Result<String, AllocError>
+fn of_continuous(alloc: Global, problem: &Instance, asked: &str) -> Result<String, AllocError>
     requires { NoneInteger problem.now.columns }
 {
     let verdict = solve(alloc, problem, 0, 0);
     let words = match &verdict {
-        Ok(certificate) => of_certificate(alloc, problem, certificate, steps),
+        Ok(certificate) => of_certificate(alloc, problem, certificate, asked),
         Err(_) => "no verdict".to_string(alloc),
     };
     std::mem::drop(verdict);
@@ -38,16 +42,18 @@ fn of_certificate(
     alloc: Global,
     problem: &Instance,
     certificate: &Certificate,
-    steps: u32,
+    asked: &str,
 ) -> Result<String, AllocError>
     requires continuous { NoneInteger problem.now.columns }
     requires plain { IsPlainCertificate problem.now certificate.now }
-    requires proves { Proves problem.now certificate.now }
+    requires accepted { outcome (trials problem.now certificate.now) ≡ Acceptance }
 {
+    let (word, number) = asked.split_once(' ').unwrap_or(("", asked));
     match certificate.verdict() {
         Verdict::Infeasible => {
+            let steps = number.parse::<u32>().unwrap_or(1);
             let found = subset(alloc, problem, certificate, steps);
-            let words = subset_words(alloc, &found);
+            let words = subset_words(alloc, problem, word, &found);
             std::mem::drop(found);
             words
         }
@@ -55,13 +61,37 @@ fn of_certificate(
     }
 }
 
-fn subset_words(alloc: Global, found: &Result<Subset, SubsetFault>) -> Result<String, AllocError> {
+fn subset_words(
+    alloc: Global,
+    problem: &Instance,
+    word: &str,
+    found: &Result<Subset, SubsetFault>,
+) -> Result<String, AllocError>
+    requires { IfOk found.now (λ s. AreAccepted problem.now s.weights) }
+{
     match found {
-        Ok(subset) => members_words(alloc, subset.witnesses.as_slice()),
+        Ok(subset) => match word {
+            "certificate" => certificate_words(alloc, problem, subset),
+            _ => members_words(alloc, subset.witnesses.as_slice()),
+        },
         Err(SubsetFault::NoFit(_)) => "overflow".to_string(alloc),
         Err(SubsetFault::PivotLimit(_)) => "steps".to_string(alloc),
         Err(SubsetFault::NoMemory) => Err(AllocError),
     }
+}
+
+// The certificate of the subset's weights, as a row has it.
+fn certificate_words(
+    alloc: Global,
+    problem: &Instance,
+    subset: &Subset,
+) -> Result<String, AllocError>
+    requires { AreAccepted problem.now subset.now.weights }
+{
+    let certificate = subset.certificate(alloc, problem)?;
+    let text = text(alloc, &certificate);
+    std::mem::drop(certificate);
+    in_marks(alloc, &text?)
 }
 
 // The members, a word each, with the numbers of rows and columns from 1.

@@ -2,5 +2,5 @@ use Rattle.std.proofs.Common.{sym, subst}
 use Rattle.branch_search.specs.Plain.{IsPlainCertificate}
 use Rattle.glpsol_cli.proofs.work_out.by_subset.Goals as goal
 
-pub kept_subset-requires-clause-plain : goal.kept_subset-requires-clause-plain
-kept_subset-requires-clause-plain c = subst (IsPlainCertificate c.args.problem.now) (sym c.get.ensures) c.requires.plain
+pub subset_found-requires-clause-plain : goal.subset_found-requires-clause-plain
+subset_found-requires-clause-plain c = subst (IsPlainCertificate c.args.problem.now) (sym c.get.ensures) c.requires.plain
