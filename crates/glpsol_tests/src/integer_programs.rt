@@ -35,7 +35,8 @@ fn their_certificates_are_accepted(rt: HostRuntime) -> Result<(), Fail> {
     check(&rt, rt.alloc(), &Subject::RoundTrips, INTEGER)
 }
 
-// Whole numbers that no split finds, refuted by a derived row; and a tree of one split.
+// Whole numbers that no split of a column finds, refuted by a derived row, and by a split of a form; a tree of one split; and derived
+// rows that rest on others.
 const CHECKED: &str = "\
 0 ACCEPTED$ <- --lp f --checkcert c <- min$ x$st$ 2 x - 2 y = 1$general$ x y$end$ <- cert 1$size 1 2$verdict infeasible$derived 1$derive 1$split 0 1:1 2:-1$low 2 r1:1$high 2 r1:-1$tree$empty d1:1$end$
 6 refused: derived 1$ <- --lp f --checkcert c <- min$ x$st$ 2 x - 2 y = 1$general$ x y$end$ <- cert 1$size 1 2$verdict infeasible$derived 1$derive 1$split 0 1:1 2:-1$low 2 r1:1$high 2$tree$empty d1:1$end$
@@ -43,6 +44,15 @@ const CHECKED: &str = "\
 0 ACCEPTED$ <- --lp f --checkcert c <- min$ x$st$ 1 <= 3 x <= 2$general$ x$end$ <- cert 1$size 1 1$verdict infeasible$derived 0$tree$branch 1 0$empty r1:1 c1:-3$empty r1:-1 c1:3$end$
 6 refused: point$ <- --lp f --checkcert c <- max$ x$st$ 2 x <= 3$general$ x$end$ <- cert 1$size 1 1$verdict optimal$value 3/2$point 3/2$derived 0$tree$bound r1:-1/2$end$
 0 ACCEPTED$ <- --lp f --nomip --checkcert c <- max$ x$st$ 2 x <= 3$general$ x$end$ <- cert 1$size 1 1$verdict optimal$value 3/2$point 3/2$derived 0$tree$bound r1:-1/2$end$
+0 ACCEPTED$ <- --lp f --checkcert c <- min$ x$st$ 2 x - 2 y = 1$general$ x y$end$ <- cert 2$size 1 2$verdict infeasible$derived 0$tree$split 0 1:1 2:-1$empty r1:1 s1:2$empty r1:-1 s1:2$end$
+6 refused: node 2$ <- --lp f --checkcert c <- min$ x$st$ 2 x - 2 y = 1$general$ x y$end$ <- cert 2$size 1 2$verdict infeasible$derived 0$tree$split 0 1:1 2:-1$empty r1:1$empty r1:-1 s1:2$end$
+6 refused: node 2$ <- --lp f --checkcert c <- min$ x$st$ 2 x - 2 y = 1$general$ x y$end$ <- cert 2$size 1 2$verdict infeasible$derived 0$tree$split 0 1:1 2:-1$empty r1:1 s1:-2$empty r1:-1 s1:2$end$
+6 refused: node 1$ <- --lp f --nomip --checkcert c <- min$ x$st$ 2 x - 2 y = 1$general$ x y$end$ <- cert 2$size 1 2$verdict infeasible$derived 0$tree$split 0 1:1 2:-1$empty r1:1 s1:2$empty r1:-1 s1:2$end$
+2 certificate fault: line 6: BadLine$ <- --lp f --checkcert c <- min$ x$st$ 2 x - 2 y = 1$general$ x y$end$ <- cert 2$size 1 2$verdict infeasible$derived 0$tree$branch 1 0$empty r1:1 s1:2$empty r1:-1 s1:2$end$
+2 certificate fault: line 6: BadLine$ <- --lp f --checkcert c <- min$ x$st$ 2 x - 2 y = 1$general$ x y$end$ <- cert 1$size 1 2$verdict infeasible$derived 0$tree$split 0 1:1 2:-1$empty r1:1$empty r1:-1$end$
+0 ACCEPTED$ <- --lp f --checkcert c <- max$ x$st$ 2 x <= 3$general$ x$end$ <- cert 2$size 1 1$verdict optimal$value 1$point 1$derived 2$derive -1 1:-1$split 1 1:1$low 1$high 1 r1:-1$derive -2 1:-2$plain d1:2$tree$bound d2:1/2$end$
+6 refused: derived 2$ <- --lp f --checkcert c <- max$ x$st$ 2 x <= 3$general$ x$end$ <- cert 1$size 1 1$verdict optimal$value 1$point 1$derived 2$derive -1 1:-1$split 1 1:1$low 1$high 1 r1:-1$derive -2 1:-2$plain d1:2$tree$bound d2:1/2$end$
+6 refused: derived 2$ <- --lp f --checkcert c <- max$ x$st$ 2 x <= 3$general$ x$end$ <- cert 2$size 1 1$verdict optimal$value 1$point 1$derived 2$derive -1 1:-1$split 1 1:1$low 1$high 1 r1:-1$derive -2 1:-2$plain d2:1$tree$bound d2:1/2$end$
 ";
 
 #[test]
