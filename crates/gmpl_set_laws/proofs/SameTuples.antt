@@ -1,18 +1,10 @@
 -- The test for equal tuples decides equality.
-use Rattle.std.proofs.Common.{◌≡◌, ◌↔◌, true, List, [], ◌∷◌, refl, sym, ap, subst}
+use Rattle.std.proofs.Common.{◌≡◌, ◌↔◌, true, List, [], ◌∷◌, refl, subst}
 use Rattle.std.proofs.lemmas.Bool.{and_parts}
-use Rattle.std.specs.Cmp.Lexicographic.{same_text}
-use Rattle.rational.proofs.Laws.{same_true}
 use Rattle.gmpl_value.specs.declared.symbol.Symbol.{Symbol}
-use Rattle.gmpl_value.specs.declared.symbol.Symbol.TheVariants.{Number, Word}
 use Rattle.gmpl_value.specs.SymbolEquality.{symbol_eq, tuple_eq}
+use Rattle.gmpl_value.specs.SymbolFed.{same_symbol}
 use Rattle.gmpl_value.proofs.Distinct.{tuple_laws}
-
-same_symbol : (s t : Symbol) → symbol_eq s t ≡ true → s ≡ t
-same_symbol (Number a) (Number b) h = ap Number (same_true a b h)
-same_symbol (Number a) (Word t) h = absurd cc
-same_symbol (Word s) (Number b) h = absurd cc
-same_symbol (Word s) (Word t) h = ap Word (same_text s t (sym h))
 
 pub same_tuple : (s t : List Symbol) → tuple_eq s t ≡ true → s ≡ t
 same_tuple [] [] h = refl
