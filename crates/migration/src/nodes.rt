@@ -1,5 +1,5 @@
 // Trees of version 1 as trees of version 2.
-ghost use Rattle.std.specs.Prelude.{◌≡◌, ◌<◌, ◌≤◌, [], length, IfOk, IsTrue, OnOk, ◌++◌, ◌∷◌};
+ghost use Rattle.std.specs.Prelude.{◌≡◌, ◌≤◌, [], ◌∷◌, ◌++◌, length, IsTrue, IfOk, OnOk};
 ghost use Rattle.std.specs.List.{AllByRecursion};
 ghost use Rattle.verdicts.specs.Migrated.{named, migrated_node, migrated_nodes};
 ghost use Rattle.certificate.specs.Values.{node_of};

@@ -8,7 +8,7 @@ ghost use Rattle.verdicts.specs.Proves.{narrows};
 ghost use Rattle.verdicts.specs.Migrated.{source};
 ghost use Rattle.certificate.specs.Written.{count_max};
 ghost use Rattle.certificate.specs.Ways.{side_of, way};
-ghost use Rattle.migration.specs.Sources.{bound_on, source_on, tightens, is_as_tight, is_on, tighter, with_split, source_from};
+ghost use Rattle.migration.specs.Sources.{bound_on, source_on, tightens, is_as_tight, is_on, tighter, with_split};
 
 use certificate::{Item, Side, Split, Tree, Turn, WholeNumber, parts_fit};
 use fraction::Frac;

@@ -1,5 +1,5 @@
 // The weights of a leaf's columns that use the bounds of splits, as weights of these splits.
-ghost use Rattle.std.specs.Prelude.{◌≡◌, ◌≢◌, ◌<◌, ◌≤◌, [], ◌∷◌, length, pos, true, insert, IfOk, OnOk};
+ghost use Rattle.std.specs.Prelude.{◌≡◌, ◌≢◌, ◌<◌, ◌≤◌, [], length, pos, true, insert, IfOk, OnOk};
 ghost use Rattle.rational.specs.Rational.{zero_ℚ};
 ghost use Rattle.rational.specs.Compare.{is_less};
 ghost use Rattle.verdicts.specs.Migrated.{source, on_split, placed, placed_if, with_splits, Each, Rising};
