@@ -14,8 +14,8 @@ use std::alloc::{AllocError, Global};
 
 /// The same certificate in version 2: each branch is the split of its column, and each weight of a column at a leaf whose
 /// bound a branch gives is a weight of that split; a bound as good that the column has itself, or that a split nearer the
-/// root gives, is preferred. It makes no new numbers. Where more splits stand on the way to a leaf than a text can count,
-/// 2^32 - 1, memory counts as wanting.
+/// root gives, is preferred. Its numbers are those given, and negatives of weights. Where more splits stand on the way to a
+/// leaf than a text can count, 2^32 - 1, memory counts as wanting.
 pub fn migrate(
     alloc: Global,
     problem: &Instance,
