@@ -1,0 +1,5 @@
+pub mod Walk
+pub mod Tests
+pub mod Order
+pub mod Named
+pub mod Behind

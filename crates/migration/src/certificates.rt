@@ -1,0 +1,129 @@
+// Certificates of version 1 as certificates of version 2.
+ghost use Rattle.std.specs.Prelude.{◌≡◌, ◌≢◌, length, Some, IfOk};
+ghost use Rattle.milp.specs.Problem.{Problem};
+ghost use Rattle.verdicts.specs.Certificate.{One, Optimal, Infeasible, Unbounded};
+ghost use Rattle.verdicts.specs.Proves.{Proves};
+ghost use Rattle.verdicts.specs.Migrated.{migrated};
+
+use crate::copies::copy_derived_rows;
+use crate::nodes::migrated_tree;
+use certificate::{Certificate, Verdict, Version};
+use fraction::Frac;
+use instance::{Instance, Point};
+use std::alloc::{AllocError, Global};
+
+/// The same certificate in version 2: each branch is the split of its column, and each weight of a column at a leaf whose
+/// bound a branch gives is a weight of that split; a bound as good that the column has itself, or that a split nearer the
+/// root gives, is preferred. Its numbers are those given, and negatives of weights. Where more splits stand on the way to a
+/// leaf than a text can count, 2^32 - 1, memory counts as wanting.
+pub fn migrate(
+    alloc: Global,
+    problem: &Instance,
+    certificate: &Certificate,
+) -> Result<Certificate, AllocError>
+    requires version { certificate.now.version ≡ One }
+    requires proves { Proves problem.now certificate.now }
+    ensures exact { IfOk result (λ d. d ≡ migrated problem.now certificate.now) }
+    ensures proves { IfOk result (λ d. Proves problem.now d) }
+{
+    verdicts::migrations_prove();
+    migrated(alloc, problem, certificate)
+}
+
+fn migrated(
+    alloc: Global,
+    problem: &Instance,
+    certificate: &Certificate,
+) -> Result<Certificate, AllocError>
+    requires { certificate.now.version ≡ One }
+    ensures { IfOk result (λ d. d ≡ migrated problem.now certificate.now) }
+{
+    match certificate.verdict() {
+        Verdict::Optimal => migrated_optimal(alloc, problem, certificate),
+        Verdict::Infeasible => migrated_infeasible(alloc, problem, certificate),
+        Verdict::Unbounded => migrated_unbounded(alloc, certificate),
+    }
+}
+
+fn migrated_optimal(
+    alloc: Global,
+    problem: &Instance,
+    certificate: &Certificate,
+) -> Result<Certificate, AllocError>
+    requires version { certificate.now.version ≡ One }
+    requires verdict { certificate.now.verdict ≡ Optimal }
+    ensures { IfOk result (λ d. d ≡ migrated problem.now certificate.now) }
+{
+    let rows = certificate.rows();
+    let value = value_of(certificate);
+    let point = point_of(certificate).copy(alloc)?;
+    let derived = copy_derived_rows(alloc, certificate.derived())?;
+    let tree = migrated_tree(alloc, problem, certificate.tree())?;
+    let columns = certificate.columns();
+    Ok(Certificate::optimal(Version::Two, rows, columns, value, point, derived, tree))
+}
+
+fn migrated_infeasible(
+    alloc: Global,
+    problem: &Instance,
+    certificate: &Certificate,
+) -> Result<Certificate, AllocError>
+    requires version { certificate.now.version ≡ One }
+    requires verdict { certificate.now.verdict ≡ Infeasible }
+    ensures { IfOk result (λ d. d ≡ migrated problem.now certificate.now) }
+{
+    let rows = certificate.rows();
+    let derived = copy_derived_rows(alloc, certificate.derived())?;
+    let tree = migrated_tree(alloc, problem, certificate.tree())?;
+    let columns = certificate.columns();
+    Ok(Certificate::infeasible(Version::Two, rows, columns, derived, tree))
+}
+
+fn migrated_unbounded(alloc: Global, certificate: &Certificate) -> Result<Certificate, AllocError>
+    requires { certificate.now.verdict ≡ Unbounded }
+    ensures { (problem : Problem) → IfOk result (λ d. d ≡ migrated problem certificate.now) }
+{
+    let rows = certificate.rows();
+    let point = point_of(certificate).copy(alloc)?;
+    let ray = ray_of(certificate).copy(alloc)?;
+    let columns = certificate.columns();
+    Ok(Certificate::unbounded(alloc, Version::Two, rows, columns, point, ray))
+}
+
+// The best value.
+fn value_of(certificate: &Certificate) -> Frac
+    requires { certificate.now.verdict ≡ Optimal }
+    ensures { Some result ≡ certificate.now.value }
+{
+    let _rows = certificate.rows();
+    match certificate.value() {
+        None => unreachable!(),
+        Some(value) => value,
+    }
+}
+
+// The point.
+fn point_of(certificate: &Certificate) -> &Point
+    requires { certificate.now.verdict ≢ Infeasible }
+    ensures point { Some result.now ≡ certificate.now.point }
+    ensures size { length result.now ≡ certificate.now.columns }
+{
+    let _rows = certificate.rows();
+    match certificate.point() {
+        None => unreachable!(),
+        Some(point) => point,
+    }
+}
+
+// The ray.
+fn ray_of(certificate: &Certificate) -> &Point
+    requires { certificate.now.verdict ≡ Unbounded }
+    ensures ray { Some result.now ≡ certificate.now.ray }
+    ensures size { length result.now ≡ certificate.now.columns }
+{
+    let _rows = certificate.rows();
+    match certificate.ray() {
+        None => unreachable!(),
+        Some(ray) => ray,
+    }
+}

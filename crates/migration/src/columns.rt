@@ -1,0 +1,50 @@
+// The weights of a leaf's columns that use bounds of the columns' own.
+ghost use Rattle.std.specs.Prelude.{◌≡◌, ◌≢◌, ◌<◌, ◌≤◌, ◌+◌, ◌++◌, [], length, pos, IfOk, OnOk};
+ghost use Rattle.verdicts.specs.Migrated.{source, kept_if, kept};
+ghost use Rattle.certificate.specs.Ways.{way};
+ghost use Rattle.certificate.specs.Written.{count_max, rank_of, next_rank};
+
+use crate::sources::source;
+use certificate::{Item, Items, Tree};
+use instance::Instance;
+use std::alloc::{AllocError, Global};
+
+// The weights of columns at a place that use a bound of the column's own.
+pub(crate) fn own_columns(
+    alloc: Global,
+    problem: &Instance,
+    tree: &Tree,
+    place: usize,
+    columns: &Items,
+) -> Result<Items, AllocError>
+    requires { place ≤ length tree.now }
+    ensures { IfOk result (λ own. own ≡ kept problem.now (way tree.now place) columns.now) }
+{
+    let mut own = Items::new(alloc);
+    let items = columns.as_slice();
+    for item in items {
+        keep_own(&mut own, problem, tree, place, *item)?;
+    }
+    Ok(own)
+}
+
+// Keeps a weight that uses the column's own bound.
+fn keep_own(
+    own: &mut Items,
+    problem: &Instance,
+    tree: &Tree,
+    place: usize,
+    item: Item,
+) -> Result<(), AllocError>
+    requires within { place ≤ length tree.now }
+    requires index { item.index < count_max }
+    requires some { item.weight.numerator ≢ pos 0 }
+    requires order { next_rank 0 own.old ≤ rank_of item }
+    ensures kept { OnOk result (own.new ≡ own.old ++ kept_if (source problem.now (way tree.now place) item) item []) }
+    ensures next { OnOk result (next_rank 0 own.new ≤ rank_of item + 1) }
+{
+    match source(problem, tree, place, item) {
+        None => own.push(item),
+        Some(_) => Ok(()),
+    }
+}

@@ -1,0 +1,11 @@
+//! Certificates of version 1 as certificates of version 2.
+#![tactic(auto)]
+
+mod certificates;
+mod columns;
+mod copies;
+mod nodes;
+mod sources;
+mod splits;
+
+pub use certificates::migrate;
