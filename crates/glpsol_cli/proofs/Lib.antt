@@ -6,7 +6,6 @@ pub mod Runs
 pub mod Answers
 pub mod Reports
 pub mod Works
-pub mod ByWeights
 pub mod FilesRead
 pub mod Carried
 pub mod Ended
