@@ -166,8 +166,8 @@ wants_by task outputs e = ap wants_subset e
 
 -- ---- checking
 
-pub checks_by : (task : Task) (name : List ℕ) (migrated : Option (List ℕ)) → task ≡ CheckCertificate name migrated → names_checked task ≡ name ∷ []
-checks_by task name migrated e = ap names_checked e
+pub checks_by : {name : List ℕ} {migrated : Option (List ℕ)} (task : Task) → task ≡ CheckCertificate name migrated → names_checked task ≡ name ∷ []
+checks_by task e = ap names_checked e
 
 -- there is a text behind those of the data files
 pub one_behind : (s : Settings) (name : List ℕ) (count : ℕ) → Checks s name → length (names_read s) ≤ count → suc (length s.data_files) < count

@@ -8,7 +8,7 @@ ghost use Rattle.solution_writer.specs.Report.{IsReportable, solved_report};
 ghost use Rattle.solution_writer.specs.Solution.{raw_solution};
 ghost use Rattle.certificate.specs.Text.{certificate_text};
 ghost use Rattle.glpsol_cli.specs.Asked.{migrated_file, outputs_of, wants_subset};
-ghost use Rattle.glpsol_cli.specs.Meaning.{accepted_pieces, found_pieces, in_version_two, lacks_subset, printed, saved_in, saved_pieces, solved_pieces};
+ghost use Rattle.glpsol_cli.specs.Meaning.{found_pieces, in_version_two, lacks_subset, printed, saved_in, saved_pieces, solved_pieces};
 ghost use Rattle.glpsol_cli.specs.Stages.{reached_by, piece_of, pieces_of, IsShown, EndsPiece, EndsWriting, HasFailed, IsPublished};
 
 use crate::Target;
@@ -93,15 +93,11 @@ fn accepted(
     certificate: &Certificate,
 ) -> Result<Vec<Piece>, AllocError>
     requires { Proves problem.now certificate.now }
-    ensures { IfOk result (λ pieces. pieces_of pieces.items ≡ accepted_pieces task.now problem.now certificate.now) }
+    ensures { IfOk result (λ pieces. found_pieces task.now problem.now (reached_by (Finding.Acceptance certificate.now)) ≡ Some (pieces_of pieces.items)) }
 {
-    let mut pieces = output(alloc, &accepted_report(alloc)?)?;
-    match task {
-        Task::CheckCertificate { migrated, .. } => {
-            add_in_version_two(alloc, &mut pieces, migrated, problem, certificate)?;
-        }
-        Task::Solve(_) | Task::Translate => {}
-    }
+    let report = accepted_report(alloc)?;
+    let mut pieces = output(alloc, &report)?;
+    add_migrated(alloc, &mut pieces, task, problem, certificate)?;
     Ok(pieces)
 }
 
@@ -218,6 +214,25 @@ fn add_certificate(
     match file {
         Some(name) => add_file(alloc, pieces, name, text(alloc, certificate)?),
         None => Ok(()),
+    }
+}
+
+// The certificate in version 2, to the file that the task names for it.
+fn add_migrated(
+    alloc: Global,
+    pieces: &mut Vec<Piece>,
+    task: &Task,
+    problem: &Instance,
+    certificate: &Certificate,
+) -> Result<(), AllocError>
+    requires { Proves problem.now certificate.now }
+    ensures { OnOk result (pieces_of pieces.new.items ≡ pieces_of pieces.old.items ++ saved_in (migrated_file task.now) (certificate_text (in_version_two problem.now certificate.now))) }
+{
+    match task {
+        Task::CheckCertificate { migrated, .. } => {
+            add_in_version_two(alloc, pieces, migrated, problem, certificate)
+        }
+        Task::Solve(_) | Task::Translate => Ok(()),
     }
 }
 
