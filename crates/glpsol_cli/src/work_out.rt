@@ -208,11 +208,7 @@ fn accept_behind(
 }
 
 // The certificate with this text, where it proves its verdict.
-fn accept(
-    alloc: Global,
-    problem: &Instance,
-    text: &[u8],
-) -> Result<Boxed<Certificate>, CheckStop>
+fn accept(alloc: Global, problem: &Instance, text: &[u8]) -> Result<Boxed<Certificate>, CheckStop>
     ensures accepted { IfOk result (λ c. IsAccepted c problem.now text.now) }
     ensures stop { IfErr result (IsCheckStop problem.now text.now) }
 {

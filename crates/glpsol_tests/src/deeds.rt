@@ -65,9 +65,9 @@ writes out <- ACCEPTED$
 
 const A_MIGRATION: &str = "\
 --lp f --checkcert c --cert n
+lies n <- what was there before$
 reads f <- min$ x$st$ 1 <= 3 x <= 2$general$ x$end$
 reads c <- cert 1$size 1 1$verdict infeasible$derived 0$tree$branch 1 0$empty r1:1 c1:-3$empty r1:-1 c1:3$end$
-lies n <- what was there before$
 writes out <- ACCEPTED$
 writes n <- cert 2$size 1 1$verdict infeasible$derived 0$tree$split 0 1:1$empty r1:1 s1:3$empty r1:-1 s1:3$end$
 ";
