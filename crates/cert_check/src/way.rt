@@ -101,6 +101,18 @@ impl<'t> Way<'t> {
         }
     }
 
+    // A place, with the turns on the way to it where there is memory for them.
+    pub(crate) fn to(alloc: Global, tree: &'t Tree, place: usize) -> Self
+        requires { place ≤ length tree.now }
+        ensures { result ≡ record { nodes = tree.now; place = place } }
+    {
+        let mut way = Way::root(alloc, tree);
+        while way.place < place {
+            way.advance();
+        }
+        way
+    }
+
     // On to the next place. Where there is no memory for a turn, none are kept from there on.
     pub(crate) fn advance(&mut self)
         requires { self.old.place < length self.old.nodes }

@@ -9,3 +9,4 @@ mod sources;
 mod splits;
 
 pub use certificates::migrate;
+pub use nodes::named;

@@ -78,7 +78,7 @@ pub fn treated_nodes()
 /// those of the tests of what it finds.
 pub fn faults_are_on_site_numbers()
     ensures { (p : Problem) (ds : List Derived) (sides : List SideOf) (e : NoFit) → IsOverColumns p ds sides →
-        AreFormsAscending p ds → IsWorkFault p ds sides e → IsSiteFault (node_numbers p ds sides) e }
+        AreFormsAscending p ds sides → IsWorkFault p ds sides e → IsSiteFault (node_numbers p ds sides) e }
 {}
 
 /// Far out on a face of optimal points that has no end no split is honest: `min 0, x >= 0 whole` has no honest split.
