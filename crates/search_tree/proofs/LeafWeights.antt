@@ -1,5 +1,5 @@
 -- Where the sums of a node's weights have their faults.
-use Rattle.std.proofs.Common.{◌≡◌, ◌∙◌, ℕ, ◌+◌, inl, inr, ◌==◌, nat_le, nat_lt, ◌&&◌, List, [], ◌∷◌, ◌++◌, map, slice_get, Bool, true, false, cond, if◌then◌else◌, Option, Some, None, is_some, Result, Ok, Err, IfOk, refl, sym, ap, subst, arith, append-nil}
+use Rattle.std.proofs.Common.{◌≡◌, ◌∙◌, ℕ, ◌+◌, inl, inr, ◌==◌, nat_le, nat_lt, ◌&&◌, List, [], ◌∷◌, ◌++◌, map, slice_get, Bool, true, false, cond, if◌then◌else◌, Option, Some, None, is_some, Result, Ok, IfOk, refl, sym, ap, subst, arith, append-nil}
 use Rattle.std.specs.Prelude.{pos, negsuc, ◌+ℤ◌, option_and_then}
 use mathlib.Core.Path.{ap₂}
 use Rattle.std.proofs.lemmas.Bool.Decides.{nat_tests}

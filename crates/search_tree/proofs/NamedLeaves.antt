@@ -1,5 +1,5 @@
 -- Weights that name the splits on the way have the sums of those that use the bounds of narrowed columns, and pass where these do.
-use Rattle.std.proofs.Common.{◌≡◌, ◌∙◌, ℕ, zero, suc, List, [], ◌∷◌, length, Bool, true, false, ◌&&◌, if◌then◌else◌, Option, Some, None, refl, sym, ap}
+use Rattle.std.proofs.Common.{◌≡◌, ◌∙◌, ℕ, zero, suc, List, [], ◌∷◌, length, Bool, true, false, if◌then◌else◌, Option, Some, None, refl, sym, ap}
 use Rattle.std.proofs.lemmas.Bool.{and_parts, and_from}
 use Rattle.rational.specs.Rational.{Rational, zero_ℚ, ◌*ℚ◌, ◌-ℚ◌}
 use Rattle.rational.specs.Compare.{is_less, is_at_most, is_same}
@@ -10,8 +10,7 @@ use Rattle.milp.specs.Points.{objective_value, sign_of}
 use Rattle.verdicts.specs.WeightedSums.{Weighted, scaled, combined, combined_bound, coefficient_of}
 use Rattle.verdicts.specs.Certificate.{Item, Weights, Side, Derived}
 use Rattle.verdicts.specs.Proves.{terms, split_term, same_form, shows, refutes}
-use Rattle.verdicts.specs.Migrated.{SameSum, Keeps, TermKeeps, source, kept, with_splits, named}
-use Rattle.basis.specs.Relaxation.{ShowsObjective, ShowsInfeasible}
+use Rattle.verdicts.specs.Migrated.{Keeps, TermKeeps, source, kept, with_splits, named}
 use Rattle.basis.proofs.Laws.{optimal_passes, refutes_leaf}
 use Rattle.search_tree.specs.Named.{EmptyIsNamed, BoundIsNamed}
 
