@@ -62,6 +62,7 @@ COMMANDS = {
     "free MPS, with all that is written": ("--freemps f --cert c -o o -w w", {"f": MPS}, ["c", "o", "w"]),
     "CPLEX LP": ("--lp f --exact", {"f": LP}, []),
     "a certificate that is checked": ("--lp f --checkcert c", {"f": LP, "c": CERTIFICATE}, []),
+    "a certificate that is migrated": ("--lp f --checkcert c --cert n", {"f": LP, "c": CERTIFICATE}, ["n"]),
     "tables": ("--math f -o o", {"f": TABLES, "read.csv": "k,v\na,3\nb,0.5\nc d,4\n"}, ["written.csv", "o"]),
 }
 

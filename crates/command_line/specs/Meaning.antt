@@ -80,17 +80,25 @@ outputs_in rows = record {
   subset = stands (codes "iis") rows;
 }
 
+-- the task, where no report, no solution and no subset is asked for
+abbrev pub unsolved : Outputs → Task → Option Task
+unsolved outputs task = option_map_or (λ _. None) outputs.report (option_map_or (λ _. None) outputs.solution (if outputs.subset then None else Some task))
+
 -- the task, where no file is to be written, and no subset to be found
 abbrev pub alone : Outputs → Task → Option Task
-alone outputs task = option_map_or (λ _. None) outputs.report (option_map_or (λ _. None) outputs.solution (option_map_or (λ _. None) outputs.certificate (if outputs.subset then None else Some task)))
+alone outputs task = option_map_or (λ _. None) outputs.certificate (unsolved outputs task)
+
+-- the certificate in this file is checked; the file of `--cert` is that of the same certificate in version 2
+abbrev pub checking : Text → Outputs → Option Task
+checking file outputs = unsolved outputs (CheckCertificate file outputs.certificate)
 
 abbrev pub task_by : Bool → Option Text → Outputs → Option Task
 task_by false None outputs = Some (Solve outputs)
-task_by false (Some file) outputs = alone outputs (CheckCertificate file)
+task_by false (Some file) outputs = checking file outputs
 task_by true None outputs = alone outputs Translate
 task_by true (Some file) outputs = None
 
--- `--check` and `--checkcert` stand with no file to be written, without `--iis`, and not together
+-- `--check` stands with no file to be written, `--checkcert` with that of `--cert` alone, both without `--iis`, and not together
 abbrev pub task_in : List Row → Option Task
 task_in rows = task_by (stands (codes "check") rows) (first_of (codes "checkcert") rows) (outputs_in rows)
 

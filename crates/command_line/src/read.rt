@@ -4,7 +4,7 @@ ghost use Rattle.std.specs.List.{list_all};
 ghost use Rattle.std.specs.Str.Parse.{digits_value};
 ghost use Rattle.std.specs.Prelude.{◌≡◌, true, IfOk, IfErr, Some, None, map, string_bytes, option_map, codes, ℕ, List};
 ghost use Rattle.command_line.specs.Options.{given_in};
-ghost use Rattle.command_line.specs.Meaning.{settings_of, settings_in, source_in, source_by, data_in, data_by, display_in, display_by, values_of, direction_in, split_limit_in, pivot_limit_in, limit_by, limit_of, is_numeral, limit_within, task_in, task_by, alone, outputs_in, stands};
+ghost use Rattle.command_line.specs.Meaning.{settings_of, settings_in, source_in, source_by, data_in, data_by, display_in, display_by, values_of, direction_in, split_limit_in, pivot_limit_in, limit_by, limit_of, is_numeral, limit_within, task_in, task_by, alone, checking, outputs_in, stands};
 ghost use Rattle.clap.specs.Words.{all_of, first_of};
 ghost use Rattle.command_line.specs.declared.settings.WordsFault.TheVariants.{Usage};
 
@@ -165,7 +165,7 @@ fn task_by(translates: bool, certificate: Option<Name>, outputs: Outputs) -> Opt
 {
     match (translates, certificate) {
         (false, None) => Some(Task::Solve(outputs)),
-        (false, Some(file)) => alone(outputs, Task::CheckCertificate(file)),
+        (false, Some(file)) => checking(file, outputs),
         (true, None) => alone(outputs, Task::Translate),
         (true, Some(_)) => None,
     }
@@ -182,6 +182,19 @@ fn alone(outputs: Outputs, task: Task) -> Option<Task>
         outputs.subset,
     ) {
         (None, None, None, false) => Some(task),
+        _ => None,
+    }
+}
+
+// A certificate's check, where no file is to be written but the certificate's in version 2, and no subset to be found.
+fn checking(certificate: Name, outputs: Outputs) -> Option<Task>
+    ensures { result ≡ checking certificate outputs }
+{
+    match (outputs.report, outputs.solution, outputs.subset) {
+        (None, None, false) => Some(Task::CheckCertificate {
+            certificate,
+            migrated: outputs.certificate,
+        }),
         _ => None,
     }
 }

@@ -48,8 +48,13 @@ pub enum Task {
     Solve(Outputs),
     /// It is read, and its size reported.
     Translate,
-    /// The certificate in this file is checked against it.
-    CheckCertificate(Name),
+    /// The certificate in a file is checked against it.
+    CheckCertificate {
+        /// The certificate's file.
+        certificate: Name,
+        /// The file to which the certificate is written in version 2, where it is accepted.
+        migrated: Option<Name>,
+    },
 }
 
 /// What is written when a model is solved, beside the report that is printed.

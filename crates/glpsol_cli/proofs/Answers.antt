@@ -85,7 +85,7 @@ module _ (words : List (List ℕ)) (told : ToldNames) (s : Settings) (texts : Li
   reached_of_texts Nothing h = tt
   reached_of_texts Executed h = of_these (HasDone (λ done. Unit {0})) h
   reached_of_texts Size h = of_these IsTranslated h
-  reached_of_texts Acceptance h = of_these (OfCertificate IsAccepted) h
+  reached_of_texts (Acceptance c) h = of_these (OfCertificate (IsAccepted c)) h
   reached_of_texts (Verdict c) h = of_these (IsProved c) h
   reached_of_texts (Subset c w) h = of_these (HasSubset c w) h
 
@@ -95,7 +95,7 @@ module _ (words : List (List ℕ)) (told : ToldNames) (s : Settings) (texts : Li
   cause_of_texts files_rose out_rose (Irreducible c w) h = of_these (HasSubset c w) h
   cause_of_texts files_rose out_rose (Unbounded c) h = (h.0, of_these (IsProved c) h.1)
   cause_of_texts files_rose out_rose Translated h = of_these IsTranslated h
-  cause_of_texts files_rose out_rose Accepted h = of_these (OfCertificate IsAccepted) h
+  cause_of_texts files_rose out_rose (Accepted c) h = of_these (OfCertificate (IsAccepted c)) h
   cause_of_texts files_rose out_rose Usage h = absurd h
   cause_of_texts files_rose out_rose (Missing name r) h = absurd h
   cause_of_texts files_rose out_rose (OpenFault name r) h = absurd h
@@ -115,7 +115,7 @@ module _ (words : List (List ℕ)) (told : ToldNames) (s : Settings) (texts : Li
   pieces_of_texts Nothing P h = h
   pieces_of_texts Executed P h = of_these (HasDone P) h
   pieces_of_texts Size P h = of_these (HasFound Size P) h
-  pieces_of_texts Acceptance P h = of_these (HasFound Acceptance P) h
+  pieces_of_texts (Acceptance c) P h = of_these (HasFound (Acceptance c) P) h
   pieces_of_texts (Verdict c) P h = of_these (HasFound (Verdict c) P) h
   pieces_of_texts (Subset c w) P h = of_these (HasFound (Subset c w) P) h
 
@@ -132,7 +132,7 @@ module _ (s : Settings) (texts : List (List ℕ)) (a b c d : ℕ) (before : a �
   cause_within (Irreducible c w) h = h
   cause_within (Unbounded c) h = h
   cause_within Translated h = h
-  cause_within Accepted h = h
+  cause_within (Accepted c) h = h
   cause_within Usage h = h
   cause_within (Missing name r) h = h
   cause_within (OpenFault name r) h = h

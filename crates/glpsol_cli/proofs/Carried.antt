@@ -17,7 +17,7 @@ use Rattle.command_line.specs.declared.settings.Settings.{Settings}
 use Rattle.glpsol_cli.specs.Asked.{ToldNames, names_read}
 use Rattle.glpsol_cli.specs.Pieces.{Piece, Outside, SameNames, AllWritten, WrittenUpTo, Whole}
 use Rattle.glpsol_cli.specs.Meaning.{Behind, Declared, IsAsked, Meaning, behind_at, behind_of, found_pieces, meaning_in, meaning_of}
-use Rattle.glpsol_cli.specs.Cause.{Cause, EndsBehind, HasSubset, IsProved, IsTranslated, reached_of}
+use Rattle.glpsol_cli.specs.Cause.{Cause, EndsBehind, HasSubset, IsAccepted, IsProved, IsTranslated, OfCertificate, reached_of}
 use Rattle.glpsol_cli.specs.Written.{Written, ThenLine, extent_of, line_of}
 use Rattle.glpsol_cli.specs.Stages.{EndsWriting, HasFailed, IsEndBehind, IsEndIn, IsFinding, IsKept, IsPublished, IsStop, IsSubject, IsUnfound, LeftIn, LeftWritten, RestWritten, TellsBehind, behind_in, best_answer, pieces_of, reached_by, stop_answer, unfound_answer, unwritten_answer}
 use Rattle.glpsol_cli.specs.Together.{CauseIn, PiecesIn, ReachedIn}
@@ -93,14 +93,14 @@ module _ (s : Settings) (texts : List (List ℕ)) where
     are = h.are;
     has = subst (λ (n : Meaning). Q (n.done ++ (h.found ++ (behind_of h.meaning.behind Size).pieces))) (some_same (sym means ∙ h.means)) (f (h.found ++ (behind_of h.meaning.behind Size).pieces) h.has);
   }
-  left_in m means Acceptance P Q f h = record {
+  left_in m means (Acceptance c) P Q f h = record {
     meaning = h.meaning;
     means = h.means;
     problem = h.problem;
     end = h.end;
     found = h.found;
     are = h.are;
-    has = subst (λ (n : Meaning). Q (n.done ++ (h.found ++ (behind_of h.meaning.behind Acceptance).pieces))) (some_same (sym means ∙ h.means)) (f (h.found ++ (behind_of h.meaning.behind Acceptance).pieces) h.has);
+    has = subst (λ (n : Meaning). Q (n.done ++ (h.found ++ (behind_of h.meaning.behind (Acceptance c)).pieces))) (some_same (sym means ∙ h.means)) (f (h.found ++ (behind_of h.meaning.behind (Acceptance c)).pieces) h.has);
   }
   left_in m means (Verdict c) P Q f h = record {
     meaning = h.meaning;
@@ -197,7 +197,7 @@ module _ (s : Settings) (texts : List (List ℕ)) (p : Problem) (later : Option 
 
   reached : (f : Finding) → IsFinding p s texts f → ReachedIn s texts (reached_by f)
   reached SizeFound h = record { problem = p; asked = subject_asked; translates = h }
-  reached AcceptanceFound h = h
+  reached (AcceptanceFound c) h = h
   reached (VerdictFound c) h = record { problem = p; asked = subject_asked; solves = h.0; proves = h.1; accepted = h.2 }
   reached (SubsetFound c w) h = h
 
@@ -207,7 +207,7 @@ module _ (s : Settings) (texts : List (List ℕ)) (p : Problem) (later : Option 
   -- what is left of a problem, by a meaning of the texts
   left_of : (f : Finding) (P : List Piece → Type 0) (m : Meaning) (pieces : List Piece) → meaning_of s texts ≡ Some m → found_pieces s.task p (reached_by f) ≡ Some pieces → P (pieces ++ (behind_of m.behind (reached_by f)).pieces) → LeftIn s texts (reached_by f) P
   left_of SizeFound P m pieces means are has = record { meaning = m; means = means; problem = p; end = ends_at m means; found = pieces; are = are; has = has }
-  left_of AcceptanceFound P m pieces means are has = record { meaning = m; means = means; problem = p; end = ends_at m means; found = pieces; are = are; has = has }
+  left_of (AcceptanceFound c) P m pieces means are has = record { meaning = m; means = means; problem = p; end = ends_at m means; found = pieces; are = are; has = has }
   left_of (VerdictFound c) P m pieces means are has = record { meaning = m; means = means; problem = p; end = ends_at m means; found = pieces; are = are; has = has }
   left_of (SubsetFound c w) P m pieces means are has = record { meaning = m; means = means; problem = p; end = ends_at m means; found = pieces; are = are; has = has }
 
@@ -259,8 +259,12 @@ module _ (s : Settings) (texts : List (List ℕ)) (p : Problem) (later : Option 
     pub size_written : f ≡ SizeFound → (o : Outside) → RestWritten (reached_by f) s texts o o Translated
     size_written is o = subst (λ g. RestWritten (reached_by g) s texts o o Translated) (sym is) (none_left Size o Translated refl refl refl refl)
 
-    pub acceptance_written : f ≡ AcceptanceFound → (o : Outside) → RestWritten (reached_by f) s texts o o Accepted
-    acceptance_written is o = subst (λ g. RestWritten (reached_by g) s texts o o Accepted) (sym is) (none_left Acceptance o Accepted refl refl refl refl)
+    module _ (c : Certificate) (is : f ≡ AcceptanceFound c) where
+      pub acceptance_cause : IsFinding p s texts f → OfCertificate (IsAccepted c) s texts
+      acceptance_cause h = subst (IsFinding p s texts) is h
+
+      pub acceptance_written : (o : Outside) → RestWritten (reached_by f) s texts o o (Accepted c)
+      acceptance_written o = subst (λ g. RestWritten (reached_by g) s texts o o (Accepted c)) (sym is) (none_left (Acceptance c) o (Accepted c) refl refl refl refl)
 
     module _ (c : Certificate) (w : FoundSubset) (is : f ≡ SubsetFound c w) where
       pub subset_cause : IsFinding p s texts f → HasSubset c w s texts

@@ -18,13 +18,12 @@ use Rattle.mps_reader.specs.FreeMps.{declared}
 use Rattle.outside.specs.Told.{Has}
 use Rattle.command_line.proofs.Laws.{plain_settings, plain_words}
 use Rattle.command_line.specs.declared.settings.Settings.{Settings}
-use Rattle.command_line.specs.declared.settings.Task.TheVariants.{CheckCertificate}
-use Rattle.glpsol_cli.specs.Asked.{ToldNames, wants_subset}
+use Rattle.glpsol_cli.specs.Asked.{ToldNames, names_checked, wants_subset}
 use Rattle.glpsol_cli.specs.Meaning.{Meaning, end_of, IsAsked, meaning_of}
 use Rattle.glpsol_cli.specs.Cause.{OfSearch, IsOverflow, IsUndecided}
 use Rattle.glpsol_cli.specs.Complete.{IsComplete}
 use Rattle.glpsol_cli.specs.WorkedExample.{example_words}
-use Rattle.glpsol_cli.proofs.Completes.{declared_same}
+use Rattle.glpsol_cli.proofs.Reports.{declared_same}
 use Rattle.glpsol_cli.specs.declared.answer.Limit.{Limit}
 use Rattle.glpsol_cli.specs.declared.answer.Limit.TheVariants.{Pivots, Splits, SubsetPivots}
 use Rattle.glpsol_cli.specs.declared.answer.OverflowSite.{OverflowSite}
@@ -55,7 +54,7 @@ module _ (text : List ℕ) (p : Problem) (count : ℕ) (declares : declared text
       search.fits 10000 (record { node = node; fault = e }) stuck.1
   fits (InPart part) e h = solves_only h.name h.checks
     where
-      solves_only : (name : List ℕ) → plain_settings.task ≡ CheckCertificate name → ⊥
+      solves_only : (name : List ℕ) → names_checked plain_settings.task ≡ name ∷ [] → ⊥
       solves_only name e = cc
   fits (InSubset members) e h = none_wanted h.wanted
 

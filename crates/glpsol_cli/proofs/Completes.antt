@@ -40,6 +40,7 @@ use Rattle.glpsol_cli.specs.declared.answer.Reached.{Reached}
 use Rattle.glpsol_cli.specs.declared.answer.Reached.TheVariants.{Nothing, Executed, Size, Acceptance, Verdict as VerdictReached, Subset as SubsetReached}
 use Rattle.glpsol_cli.specs.declared.answer.Target.{Target}
 use Rattle.glpsol_cli.specs.declared.answer.Target.TheVariants.{Out, File}
+use Rattle.glpsol_cli.proofs.Reports.{declared_same}
 use Rattle.glpsol_cli.proofs.Verdicts.{AreRight}
 
 -- ---- told files
@@ -181,7 +182,7 @@ module _ (words : List (List ℕ)) (told : ToldNames) (settings : Settings) (tex
   file_told name Nothing P h = let short = in_turn name h.0 in record { text = short.text; said = record { now = told name; first = h.1; second = (short.has, short.within) } }
   file_told name Executed P h = table_told name P h
   file_told name Size P h = absurd h
-  file_told name Acceptance P h = absurd h
+  file_told name (Acceptance c) P h = absurd h
   file_told name (VerdictReached c) P h = absurd h
   file_told name (SubsetReached c w) P h = absurd h
 
@@ -210,23 +211,20 @@ module _ (words : List (List ℕ)) (told : ToldNames) (settings : Settings) (tex
       apart : (p : Problem) (fault : TextFault) → Some (Declared p) ≡ Some (Faulty fault) → ⊥
       apart p fault e = cc
 
-pub declared_same : (p q : Problem) → Some (Declared p) ≡ Some (Declared q) → p ≡ q
-declared_same p q e = cc
-
 -- ---- tasks
 
 solve_translates : (task : Task) → IsSolve task → task ≡ Translate → ⊥
 solve_translates (Solve outputs) s e = cc
 solve_translates Translate s e = absurd s
-solve_translates (CheckCertificate name) s e = absurd s
+solve_translates (CheckCertificate name migrated) s e = absurd s
 
-solve_checks : (task : Task) (name : List ℕ) → IsSolve task → task ≡ CheckCertificate name → ⊥
+solve_checks : (task : Task) (name : List ℕ) → IsSolve task → names_checked task ≡ name ∷ [] → ⊥
 solve_checks (Solve outputs) name s e = cc
 solve_checks Translate name s e = absurd s
-solve_checks (CheckCertificate other) name s e = absurd s
+solve_checks (CheckCertificate other migrated) name s e = absurd s
 
-check_translates : (name : List ℕ) → CheckCertificate name ≡ Translate → ⊥
-check_translates name e = cc
+check_translates : (name : List ℕ) (migrated : Option (List ℕ)) → CheckCertificate name migrated ≡ Translate → ⊥
+check_translates name migrated e = cc
 
 -- ---- words that ask for a solution
 
@@ -293,7 +291,7 @@ module _ (words : List (List ℕ)) (told : ToldNames) (files_rose out_rose : Typ
   complete (Irreducible c w) h = tt
   complete (Unbounded c) h = tt
   complete Translated h = solve_translates k.settings.task k.solves (said IsTranslated translated_over h).translates
-  complete Accepted h = checks_none IsAccepted h
+  complete (Accepted c) h = checks_none (IsAccepted c) h
   complete Usage h = no_usage words told k.settings k.texts k.tables k.asks k.has k.tables_told over h
   complete (Missing name r) h = not_missing words told k.settings k.texts k.tables k.asks k.has k.tables_told over name r h
   complete (OpenFault name r) h = k.files_held (rose_by words told k.settings k.texts k.tables k.asks k.has k.tables_told over name r files_rose h)
@@ -331,10 +329,10 @@ meaning_by s text others tables n =
     ∙ ap (λ ts. Some (meaning_in s text (take (length s.data_files) others) ts)) (subst (λ k. drop k (others ++ tables) ≡ tables) n (drop-append_seam others tables))
 
 -- words that ask for a check ask about the same problem, with one more text behind the data files
-asked_again : (s : Settings) (name : List ℕ) (texts tables : List (List ℕ)) (more : List ℕ) (p : Problem) → IsSolve s.task → length texts ≡ suc (length s.data_files) → IsAsked s (texts ++ tables) p → IsAsked (record s { task = CheckCertificate name }) ((texts ++ more ∷ []) ++ tables) p
-asked_again s name [] tables more p solves n a = absurd (omega (arith, n))
-asked_again s name (text ∷ others) tables more p solves n a =
-    let again : Settings = record s { task = CheckCertificate name } in
+asked_again : (s : Settings) (name : List ℕ) (migrated : Option (List ℕ)) (texts tables : List (List ℕ)) (more : List ℕ) (p : Problem) → IsSolve s.task → length texts ≡ suc (length s.data_files) → IsAsked s (texts ++ tables) p → IsAsked (record s { task = CheckCertificate name migrated }) ((texts ++ more ∷ []) ++ tables) p
+asked_again s name migrated [] tables more p solves n a = absurd (omega (arith, n))
+asked_again s name migrated (text ∷ others) tables more p solves n a =
+    let again : Settings = record s { task = CheckCertificate name migrated } in
     let checked : names_checked s.task ≡ [] = none_checked s.task solves in
     let both = length-append s.data_files (names_checked s.task) in
     let none : length (names_checked s.task) ≡ 0 = ap length checked in
@@ -349,7 +347,7 @@ asked_again s name (text ∷ others) tables more p solves n a =
     none_checked : (task : Task) → IsSolve task → names_checked task ≡ []
     none_checked (Solve outputs) h = refl
     none_checked Translate h = refl
-    none_checked (CheckCertificate other) h = absurd h
+    none_checked (CheckCertificate other also) h = absurd h
 
 -- the text behind so many others
 behind_them : (texts more : List (List ℕ)) (text : List ℕ) → slice_get ((texts ++ text ∷ []) ++ more) (length texts) ≡ Some text
@@ -369,17 +367,17 @@ module _ (c : Certificate) (again : List (List ℕ)) (told : ToldNames) (files_r
       let names = length_push k.settings.data_files k.name in
       omega (arith, all, texts, names)
 
-  asked : IsAsked (record k.settings { task = CheckCertificate k.name }) ((k.texts ++ certificate_text c ∷ []) ++ k.tables) k.found.problem
-  asked = asked_again k.settings k.name k.texts k.tables (certificate_text c) k.found.problem k.found.solves as_many k.found.asked
+  asked : IsAsked (record k.settings { task = CheckCertificate k.name k.migrated }) ((k.texts ++ certificate_text c ∷ []) ++ k.tables) k.found.problem
+  asked = asked_again k.settings k.name k.migrated k.texts k.tables (certificate_text c) k.found.problem k.found.solves as_many k.found.asked
 
-  over_again : IsOver (record k.settings { task = CheckCertificate k.name }) ((k.texts ++ certificate_text c ∷ []) ++ k.tables)
-  over_again = declared_over (record k.settings { task = CheckCertificate k.name }) ((k.texts ++ certificate_text c ∷ []) ++ k.tables) k.found.problem asked
+  over_again : IsOver (record k.settings { task = CheckCertificate k.name k.migrated }) ((k.texts ++ certificate_text c ∷ []) ++ k.tables)
+  over_again = declared_over (record k.settings { task = CheckCertificate k.name k.migrated }) ((k.texts ++ certificate_text c ∷ []) ++ k.tables) k.found.problem asked
 
-  says : (P : Settings → List (List ℕ) → Type 0) → ((s : Settings) (ts : List (List ℕ)) → P s ts → IsOver s ts) → OfTexts again told P → P (record k.settings { task = CheckCertificate k.name }) ((k.texts ++ certificate_text c ∷ []) ++ k.tables)
-  says P ends of = holds_of again told (record k.settings { task = CheckCertificate k.name }) (k.texts ++ certificate_text c ∷ []) k.tables k.asks k.has k.tables_told over_again P ends of
+  says : (P : Settings → List (List ℕ) → Type 0) → ((s : Settings) (ts : List (List ℕ)) → P s ts → IsOver s ts) → OfTexts again told P → P (record k.settings { task = CheckCertificate k.name k.migrated }) ((k.texts ++ certificate_text c ∷ []) ++ k.tables)
+  says P ends of = holds_of again told (record k.settings { task = CheckCertificate k.name k.migrated }) (k.texts ++ certificate_text c ∷ []) k.tables k.asks k.has k.tables_told over_again P ends of
 
   -- what is said of the certificate's text is said of the text of c
-  of_text : (P : Problem → List ℕ → Type 0) → OfCertificate P (record k.settings { task = CheckCertificate k.name }) ((k.texts ++ certificate_text c ∷ []) ++ k.tables) → P k.found.problem (certificate_text c)
+  of_text : (P : Problem → List ℕ → Type 0) → OfCertificate P (record k.settings { task = CheckCertificate k.name k.migrated }) ((k.texts ++ certificate_text c ∷ []) ++ k.tables) → P k.found.problem (certificate_text c)
   of_text P h =
       let p : h.problem ≡ k.found.problem = declared_same h.problem k.found.problem (sym h.asked ∙ asked) in
       let stands : slice_get ((k.texts ++ certificate_text c ∷ []) ++ k.tables) (suc (length k.settings.data_files)) ≡ Some (certificate_text c) = subst (λ n. slice_get ((k.texts ++ certificate_text c ∷ []) ++ k.tables) n ≡ Some (certificate_text c)) as_many (behind_them k.texts k.tables (certificate_text c)) in
@@ -402,7 +400,7 @@ module _ (c : Certificate) (again : List (List ℕ)) (told : ToldNames) (files_r
       no_fault : (part : PartOf) (e : NoFit) → Accepting ≡ Fault part e → ⊥
       no_fault part e h = cc
 
-  overflow_where : (at : OverflowSite) (e : NoFit) → IsOverflow at e (record k.settings { task = CheckCertificate k.name }) ((k.texts ++ certificate_text c ∷ []) ++ k.tables) → ⊥
+  overflow_where : (at : OverflowSite) (e : NoFit) → IsOverflow at e (record k.settings { task = CheckCertificate k.name k.migrated }) ((k.texts ++ certificate_text c ∷ []) ++ k.tables) → ⊥
   overflow_where (AtNode wanted node) e h = h.solves
   overflow_where (InSubset members) e h = h.proved.solves
   overflow_where (InPart part) e h = overflows part e (of_text (IsCheckOverflow part e) h)
@@ -412,19 +410,19 @@ module _ (c : Certificate) (again : List (List ℕ)) (told : ToldNames) (files_r
   rechecked (Infeasible d) h = (says (IsProved d) (proved_over d) h.1).solves
   rechecked (Irreducible d w) h = (says (HasSubset d w) (subset_over d w) h).proved.solves
   rechecked (Unbounded d) h = (says (IsProved d) (proved_over d) h.1).solves
-  rechecked Translated h = check_translates k.name (says IsTranslated translated_over h).translates
-  rechecked Accepted h = tt
-  rechecked Usage h = no_usage again told (record k.settings { task = CheckCertificate k.name }) (k.texts ++ certificate_text c ∷ []) k.tables k.asks k.has k.tables_told over_again h
-  rechecked (Missing name r) h = not_missing again told (record k.settings { task = CheckCertificate k.name }) (k.texts ++ certificate_text c ∷ []) k.tables k.asks k.has k.tables_told over_again name r h
+  rechecked Translated h = check_translates k.name k.migrated (says IsTranslated translated_over h).translates
+  rechecked (Accepted d) h = tt
+  rechecked Usage h = no_usage again told (record k.settings { task = CheckCertificate k.name k.migrated }) (k.texts ++ certificate_text c ∷ []) k.tables k.asks k.has k.tables_told over_again h
+  rechecked (Missing name r) h = not_missing again told (record k.settings { task = CheckCertificate k.name k.migrated }) (k.texts ++ certificate_text c ∷ []) k.tables k.asks k.has k.tables_told over_again name r h
   rechecked (OpenFault name r) h = tt
   rechecked (ReadFault name r) h = tt
   rechecked (WriteFault target reached) h = tt
-  rechecked (TooLong name r) h = not_long again told (record k.settings { task = CheckCertificate k.name }) (k.texts ++ certificate_text c ∷ []) k.tables k.asks k.has k.tables_told over_again name r h
-  rechecked (BadText fault) h = not_refused again told (record k.settings { task = CheckCertificate k.name }) (k.texts ++ certificate_text c ∷ []) k.tables k.asks k.has k.tables_told over_again k.found.problem fault asked (says (IsRefused fault) (refused_over fault) h)
+  rechecked (TooLong name r) h = not_long again told (record k.settings { task = CheckCertificate k.name k.migrated }) (k.texts ++ certificate_text c ∷ []) k.tables k.asks k.has k.tables_told over_again name r h
+  rechecked (BadText fault) h = not_refused again told (record k.settings { task = CheckCertificate k.name k.migrated }) (k.texts ++ certificate_text c ∷ []) k.tables k.asks k.has k.tables_told over_again k.found.problem fault asked (says (IsRefused fault) (refused_over fault) h)
   rechecked (FaultBehindSolve fault d) h = (says (EndsBehind (Some fault) d) (behind_over (Some fault) d) h.1).proved.solves
   rechecked (BadCertificate fault) h = bad_text fault (of_text (IsNoCertificate fault) (says (OfCertificate (IsNoCertificate fault)) (certificate_over (IsNoCertificate fault)) h))
   rechecked NotLinear h = (says IsNotLinear not_linear_over h).solves
   rechecked (Overflow at e) h = overflow_where at e (says (IsOverflow at e) (overflow_over at e) h)
-  rechecked (Undecided limit) h = undecided_solves limit (record k.settings { task = CheckCertificate k.name }) ((k.texts ++ certificate_text c ∷ []) ++ k.tables) (says (IsUndecided limit) (undecided_over limit) h)
+  rechecked (Undecided limit) h = undecided_solves limit (record k.settings { task = CheckCertificate k.name k.migrated }) ((k.texts ++ certificate_text c ∷ []) ++ k.tables) (says (IsUndecided limit) (undecided_over limit) h)
   rechecked (Refused part) h = refused part (of_text (IsRefusedAt part) (says (OfCertificate (IsRefusedAt part)) (certificate_over (IsRefusedAt part)) h))
   rechecked (NoMemory reached) h = tt

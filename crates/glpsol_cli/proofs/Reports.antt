@@ -1,12 +1,12 @@
 -- What the checker's acceptance gives of a certificate: the parts that its report shows.
-use Rattle.std.proofs.Common.{◌≡◌, ℕ, suc, Bool, true, false, cond, not, ◌&&◌, ◌||◌, ◌==◌, List, [], ◌∷◌, length, Some, None, Option, refl, ap, subst, ◌∙◌}
+use Rattle.std.proofs.Common.{◌≡◌, ℕ, suc, Bool, true, false, cond, not, ◌&&◌, ◌||◌, ◌==◌, List, [], ◌∷◌, length, Some, None, Option, refl, sym, ap, subst, ◌∙◌}
 use Rattle.std.specs.Prelude.{Result, Ok, Err, IsOk, IsSome, IsSomeAnd, codes}
 use Rattle.rational.specs.Rational.{Rational, zero_ℚ, ◌*ℚ◌}
 use Rattle.milp.specs.Points.{sign_of}
 use Rattle.rational.specs.Compare.{is_less, is_whole}
 use Rattle.milp.specs.Problem.{Column, Row, Problem}
 use Rattle.verdicts.specs.Certificate.{Verdict, Optimal, Infeasible, Unbounded, Certificate}
-use Rattle.verdicts.specs.Proves.{Part, lies_above, lies_below, bound_for, meets_columns}
+use Rattle.verdicts.specs.Proves.{Part, Proves, lies_above, lies_below, bound_for, meets_columns}
 use Rattle.verdicts.specs.Proves as of
 use Rattle.fraction.specs.declared.frac.NoFit.{NoFit}
 use Rattle.instance.specs.Sums.{and_then, sum_answer, rows_answer}
@@ -15,13 +15,13 @@ use Rattle.cert_check.specs.Parts.{point_answer, value_answer, ray_rows_answer, 
 use Rattle.cert_check.specs.Outcome.{Outcome, Acceptance, Refusal, Fault, judged, outcome, trials, verdict_trials, value_trials, ray_trials, tree_trials, form_goal}
 use Rattle.gmpl_generate.specs.Solved.{RowsFit}
 use Rattle.solution_writer.specs.Subset.{subset_report}
-use Rattle.solution_writer.specs.Report.{IsShownPoint, HasParts, IsReportable, solved_report, verdict_report, optimal_at, unbounded_at, optimal_report, unbounded_report, translated_report, accepted_report}
+use Rattle.solution_writer.specs.Report.{IsShownPoint, HasParts, IsReportable, solved_report, verdict_report, optimal_at, unbounded_at, optimal_report, unbounded_report, translated_report}
 use Rattle.std.specs.Option.{option_map}
 use Rattle.command_line.specs.declared.settings.Settings.{Settings}
 use Rattle.command_line.specs.declared.settings.Task.{Task}
 use Rattle.glpsol_cli.specs.Pieces.{Piece}
 use Rattle.glpsol_cli.specs.Asked.{wants_subset}
-use Rattle.glpsol_cli.specs.Meaning.{found_pieces, lacks_subset, printed, solved_pieces, whole_report}
+use Rattle.glpsol_cli.specs.Meaning.{Declared, IsAsked, accepted_pieces, found_pieces, lacks_subset, printed, solved_pieces, whole_report}
 use Rattle.glpsol_cli.specs.Stages.{IsFinding, IsShown, reached_by}
 use Rattle.glpsol_cli.specs.declared.found.Finding.{Finding}
 use Rattle.glpsol_cli.specs.declared.found.Finding.TheVariants.{Size, Acceptance as AcceptanceFound, Verdict as VerdictFound, Subset as SubsetFound}
@@ -146,15 +146,18 @@ has_report p c h = report_there p c c.verdict h
 
 -- ---- what is found has pieces
 
-pub shown : (p : Problem) (s : Settings) (texts : List (List ℕ)) (f : Finding) → IsFinding p s texts f → IsShown s.task p f
-shown p s texts Size h = tt
-shown p s texts AcceptanceFound h = tt
-shown p s texts (VerdictFound c) h = (reportable p c h.2, h.3)
-shown p s texts (SubsetFound c w) h = h.infeasible
+pub declared_same : (p q : Problem) → Some (Declared p) ≡ Some (Declared q) → p ≡ q
+declared_same p q e = cc
+
+pub shown : (p : Problem) (s : Settings) (texts : List (List ℕ)) (f : Finding) → IsAsked s texts p → IsFinding p s texts f → IsShown s.task p f
+shown p s texts Size asked h = tt
+shown p s texts (AcceptanceFound c) asked h = subst (λ q. Proves q c) (declared_same h.problem p (sym h.asked ∙ asked)) h.holds.proves
+shown p s texts (VerdictFound c) asked h = (reportable p c h.2, h.3)
+shown p s texts (SubsetFound c w) asked h = h.infeasible
 
 pub shown_pieces : (task : Task) (p : Problem) (f : Finding) → IsShown task p f → (pieces : List Piece) × (found_pieces task p (reached_by f) ≡ Some pieces)
 shown_pieces task p Size h = (printed (translated_report p), refl)
-shown_pieces task p AcceptanceFound h = (printed accepted_report, refl)
+shown_pieces task p (AcceptanceFound c) h = (accepted_pieces task p c, refl)
 shown_pieces task p (VerdictFound c) h =
     let report = has_report p c h.0 in
     (solved_pieces task p c report.0, ap (λ lacks. option_map (solved_pieces task p c) (whole_report lacks p c)) h.1 ∙ ap (option_map (solved_pieces task p c)) report.1)

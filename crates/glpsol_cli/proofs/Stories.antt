@@ -41,7 +41,7 @@ once : (r : Reached) (P : Type 0) → P → OnceExecuted r P
 once Nothing P h = tt
 once Executed P h = h
 once Size P h = h
-once Acceptance P h = h
+once (Acceptance c) P h = h
 once (Verdict c) P h = h
 once (Subset c w) P h = h
 
@@ -49,7 +49,7 @@ once_also : (r : Reached) (P Q : Type 0) → (P → Q) → OnceExecuted r P → 
 once_also Nothing P Q f h = tt
 once_also Executed P Q f h = f h
 once_also Size P Q f h = f h
-once_also Acceptance P Q f h = f h
+once_also (Acceptance c) P Q f h = f h
 once_also (Verdict c) P Q f h = f h
 once_also (Subset c w) P Q f h = f h
 
@@ -59,7 +59,7 @@ cause_by told files_rose out_rose (Infeasible c) s texts h = h
 cause_by told files_rose out_rose (Irreducible c w) s texts h = h
 cause_by told files_rose out_rose (Unbounded c) s texts h = h
 cause_by told files_rose out_rose Translated s texts h = h
-cause_by told files_rose out_rose Accepted s texts h = h
+cause_by told files_rose out_rose (Accepted c) s texts h = h
 cause_by told files_rose out_rose Usage s texts h = h
 cause_by told files_rose out_rose (Missing name r) s texts h = absurd h
 cause_by told files_rose out_rose (OpenFault name r) s texts h = absurd h
@@ -80,7 +80,7 @@ pieces_also : (s : Settings) (texts : List (List ℕ)) (r : Reached) (P Q : List
 pieces_also s texts Nothing P Q f h = f [] h
 pieces_also s texts Executed P Q f h = record { meaning = h.meaning; means = h.means; has = f h.meaning.done h.has }
 pieces_also s texts Size P Q f h = record { meaning = h.meaning; means = h.means; problem = h.problem; end = h.end; found = h.found; are = h.are; has = f _ h.has }
-pieces_also s texts Acceptance P Q f h = record { meaning = h.meaning; means = h.means; problem = h.problem; end = h.end; found = h.found; are = h.are; has = f _ h.has }
+pieces_also s texts (Acceptance c) P Q f h = record { meaning = h.meaning; means = h.means; problem = h.problem; end = h.end; found = h.found; are = h.are; has = f _ h.has }
 pieces_also s texts (Verdict c) P Q f h = record { meaning = h.meaning; means = h.means; problem = h.problem; end = h.end; found = h.found; are = h.are; has = f _ h.has }
 pieces_also s texts (Subset c w) P Q f h = record { meaning = h.meaning; means = h.means; problem = h.problem; end = h.end; found = h.found; are = h.are; has = f _ h.has }
 
@@ -203,7 +203,7 @@ module _ (words : List (List ℕ)) (old new : Outside) (files_rose out_rose : Ty
   verdict_by (Irreducible c w) s texts h = irreducible words old.told c w right s texts h
   verdict_by (Unbounded c) s texts h = ray words old.told c right s texts h.0 h.1
   verdict_by Translated s texts h = tt
-  verdict_by Accepted s texts h = tt
+  verdict_by (Accepted c) s texts h = tt
   verdict_by Usage s texts h = tt
   verdict_by (Missing name r) s texts h = tt
   verdict_by (OpenFault name r) s texts h = tt

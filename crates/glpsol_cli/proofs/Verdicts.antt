@@ -36,8 +36,8 @@ module _ (words : List (List ℕ)) (told : ToldNames) (c : Certificate) (right :
   size_carried : Size ≡ VerdictReached c → ⊥
   size_carried e = cc
 
-  acceptance_carried : Acceptance ≡ VerdictReached c → ⊥
-  acceptance_carried e = cc
+  acceptance_carried : (d : Certificate) → Acceptance d ≡ VerdictReached c → ⊥
+  acceptance_carried d e = cc
 
   subset_carried : (d : Certificate) (w : FoundSubset) → SubsetReached d w ≡ VerdictReached c → ⊥
   subset_carried d w e = cc
@@ -49,7 +49,7 @@ module _ (words : List (List ℕ)) (told : ToldNames) (c : Certificate) (right :
   file_carried name P Nothing e h = nothing_carried e
   file_carried name P Executed e h = executed_carried e
   file_carried name P Size e h = h
-  file_carried name P Acceptance e h = h
+  file_carried name P (Acceptance d) e h = h
   file_carried name P (VerdictReached d) e h = h
   file_carried name P (SubsetReached d w) e h = h
 
@@ -62,7 +62,7 @@ module _ (words : List (List ℕ)) (told : ToldNames) (c : Certificate) (right :
   carried files_rose out_rose (Irreducible d w) e h = absurd (subset_carried d w e)
   carried files_rose out_rose (Unbounded d) e h = of_reached (VerdictReached d) e h.1
   carried files_rose out_rose Translated e h = absurd (size_carried e)
-  carried files_rose out_rose Accepted e h = absurd (acceptance_carried e)
+  carried files_rose out_rose (Accepted d) e h = absurd (acceptance_carried d e)
   carried files_rose out_rose Usage e h = absurd (nothing_carried e)
   carried files_rose out_rose (Missing name r) e h = absurd (file_carried name (λ now. (text : List ℕ) → Has now text → ⊥) r e h)
   carried files_rose out_rose (OpenFault name r) e h = absurd (file_carried name (λ now. files_rose) r e h)
@@ -127,8 +127,8 @@ module _ (words : List (List ℕ)) (told : ToldNames) (c : Certificate) (w : Fou
   size_differs : Size ≡ SubsetReached c w → ⊥
   size_differs e = cc
 
-  acceptance_differs : Acceptance ≡ SubsetReached c w → ⊥
-  acceptance_differs e = cc
+  acceptance_differs : (d : Certificate) → Acceptance d ≡ SubsetReached c w → ⊥
+  acceptance_differs d e = cc
 
   by_reached : (r : Reached) → r ≡ SubsetReached c w → IsReached words told r → OfTexts words told (IsIrreducibleSubset c w)
   by_reached r e h = of_texts words told (HasSubset c w) (IsIrreducibleSubset c w) irreducible (subst (IsReached words told) e h)
@@ -137,7 +137,7 @@ module _ (words : List (List ℕ)) (told : ToldNames) (c : Certificate) (w : Fou
   file_differs name P Nothing e h = nothing_differs e
   file_differs name P Executed e h = executed_differs e
   file_differs name P Size e h = h
-  file_differs name P Acceptance e h = h
+  file_differs name P (Acceptance d) e h = h
   file_differs name P (VerdictReached d) e h = h
   file_differs name P (SubsetReached d v) e h = h
 
@@ -147,7 +147,7 @@ module _ (words : List (List ℕ)) (told : ToldNames) (c : Certificate) (w : Fou
   is_irreducible files_rose out_rose (Irreducible d v) e h = by_reached (SubsetReached d v) e h
   is_irreducible files_rose out_rose (Unbounded d) e h = absurd (verdict_differs d e)
   is_irreducible files_rose out_rose Translated e h = absurd (size_differs e)
-  is_irreducible files_rose out_rose Accepted e h = absurd (acceptance_differs e)
+  is_irreducible files_rose out_rose (Accepted d) e h = absurd (acceptance_differs d e)
   is_irreducible files_rose out_rose Usage e h = absurd (nothing_differs e)
   is_irreducible files_rose out_rose (Missing name r) e h = absurd (file_differs name (λ now. (text : List ℕ) → Has now text → ⊥) r e h)
   is_irreducible files_rose out_rose (OpenFault name r) e h = absurd (file_differs name (λ now. files_rose) r e h)

@@ -21,7 +21,7 @@ use Rattle.command_line.specs.declared.settings.Outputs.{Outputs}
 use Rattle.command_line.specs.declared.settings.Settings.{Settings}
 use Rattle.command_line.specs.declared.settings.Task.{Task}
 use Rattle.command_line.specs.declared.settings.Task.TheVariants.{Solve, CheckCertificate}
-use Rattle.glpsol_cli.specs.Asked.{Solves, IsSolve, names_checked, names_read, wants_subset}
+use Rattle.glpsol_cli.specs.Asked.{Checks, Solves, IsSolve, names_checked, names_read, wants_subset}
 use Rattle.glpsol_cli.specs.Meaning.{Declared, Faulty, Wanting, IsAsked, asked_of, directed, end_of_ending, ends_in, file_piece, file_pieces, files_by, lacks_subset, made_in, relaxed, shown_by}
 use Rattle.glpsol_cli.specs.Cause.{IsProved, OfCertificate, IsNoCertificate, IsRefusedAt, IsCheckOverflow}
 use Rattle.glpsol_cli.specs.Stages.{IsFinding, IsRefuted, IsSolution, IsUnfound, IsUnsolved, IsExecution, IsExecutionOf, IsHalt, IsOfReading, IsOfReadingEnd, IsCheckStop, OfNext}
@@ -148,7 +148,7 @@ module _ (s : Settings) (texts : List (List ℕ)) (p : Problem) (asks : IsAsked 
 
     pub solution_found : (f : Finding) → IsSolution p wanted f → IsFinding p s texts f
     solution_found SizeFound h = absurd h
-    solution_found AcceptanceFound h = absurd h
+    solution_found (AcceptanceFound c) h = absurd h
     solution_found (VerdictFound c) h = (solves, h.0, h.1, subst (λ w. lacks_subset w c.verdict ≡ false) (sym wants) h.2)
     solution_found (SubsetFound c w) h = record {
       proved = record { problem = p; asked = asks; solves = solves; proves = h.0; accepted = h.1 };
@@ -166,11 +166,14 @@ wants_by task outputs e = ap wants_subset e
 
 -- ---- checking
 
+pub checks_by : (task : Task) (name : List ℕ) (migrated : Option (List ℕ)) → task ≡ CheckCertificate name migrated → names_checked task ≡ name ∷ []
+checks_by task name migrated e = ap names_checked e
+
 -- there is a text behind those of the data files
-pub one_behind : (s : Settings) (name : List ℕ) (count : ℕ) → s.task ≡ CheckCertificate name → length (names_read s) ≤ count → suc (length s.data_files) < count
+pub one_behind : (s : Settings) (name : List ℕ) (count : ℕ) → Checks s name → length (names_read s) ≤ count → suc (length s.data_files) < count
 one_behind s name count is h =
     let both = length-append s.data_files (names_checked s.task) in
-    let one : length (names_checked s.task) ≡ 1 = ap (λ t. length (names_checked t)) is in
+    let one : length (names_checked s.task) ≡ 1 = ap length is in
     omega (arith, h, both, one)
 
 text_at : {X : Type 0} (f : X → List ℕ) (xs : List X) (m : ℕ) (x : X) → m < length xs → x ≡ get_or xs m x → slice_get (map f xs) m ≡ Some (f x)
@@ -184,7 +187,7 @@ next_text_is f xs count x bytes within e is =
     let next : count + 1 ≡ suc count = omega arith in
     text_at f xs (suc count) x within (subst (λ k. x ≡ get_or xs k x) next e) ∙ ap Some (sym is)
 
-module _ (s : Settings) (texts : List (List ℕ)) (p : Problem) (name : List ℕ) (is : s.task ≡ CheckCertificate name) (asks : IsAsked s texts p) where
+module _ (s : Settings) (texts : List (List ℕ)) (p : Problem) (name : List ℕ) (is : Checks s name) (asks : IsAsked s texts p) where
   pub of_checked : (P : Problem → List ℕ → Type 0) → OfNext (P p) (length s.data_files) texts → OfCertificate P s texts
   of_checked P h = record { problem = p; asked = asks; name = name; checks = is; bytes = h.bytes; stands = h.stands; holds = h.holds }
 

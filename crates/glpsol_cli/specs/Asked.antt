@@ -17,7 +17,7 @@ ToldNames = List ℕ → Option (Option (List ℕ))
 abbrev pub IsSolve : Task → Type 0
 IsSolve (Solve outputs) = Unit {0}
 IsSolve Translate = ⊥
-IsSolve (CheckCertificate name) = ⊥
+IsSolve (CheckCertificate name migrated) = ⊥
 
 -- the settings ask for the solution of the problem
 abbrev pub Solves : Settings → Type 0
@@ -27,21 +27,23 @@ Solves s = IsSolve s.task
 abbrev pub Translates : Settings → Type 0
 Translates s = s.task ≡ Translate
 
--- they ask whether the certificate in this file proves its verdict for the problem
-abbrev pub Checks : Settings → List ℕ → Type 0
-Checks s name = s.task ≡ CheckCertificate name
-
 -- the files that are to be written, where the problem is to be solved
 abbrev pub outputs_of : Task → Option Outputs
 outputs_of (Solve outputs) = Some outputs
 outputs_of Translate = None
-outputs_of (CheckCertificate name) = None
+outputs_of (CheckCertificate name migrated) = None
+
+-- the file to which a certificate that is accepted is to be written in version 2
+abbrev pub migrated_file : Task → Option (List ℕ)
+migrated_file (Solve outputs) = None
+migrated_file Translate = None
+migrated_file (CheckCertificate name migrated) = migrated
 
 -- an irreducible infeasible subset is wanted where no point is feasible
 abbrev pub wants_subset : Task → Bool
 wants_subset (Solve outputs) = outputs.subset
 wants_subset Translate = false
-wants_subset (CheckCertificate name) = false
+wants_subset (CheckCertificate name migrated) = false
 
 -- ---- the files that are read
 
@@ -49,7 +51,11 @@ wants_subset (CheckCertificate name) = false
 abbrev pub names_checked : Task → List (List ℕ)
 names_checked (Solve outputs) = []
 names_checked Translate = []
-names_checked (CheckCertificate name) = name ∷ []
+names_checked (CheckCertificate name migrated) = name ∷ []
+
+-- they ask whether the certificate in this file proves its verdict for the problem
+abbrev pub Checks : Settings → List ℕ → Type 0
+Checks s name = names_checked s.task ≡ name ∷ []
 
 -- the names of the files that are read, in order: the model, the data files, and the certificate that is to be checked
 abbrev pub names_read : Settings → List (List ℕ)

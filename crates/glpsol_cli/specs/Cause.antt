@@ -145,11 +145,10 @@ pub record OfCertificate (P : Problem → List ℕ → Type 0) (s : Settings) (t
   pub stands : slice_get texts (suc (length s.data_files)) ≡ Some bytes
   pub holds : P problem bytes
 
--- the bytes are the text of a certificate that proves its verdict
-pub record IsAccepted (p : Problem) (bytes : List ℕ) : Type 0 where
-  pub certificate : Certificate
-  pub text : read_of bytes ≡ Ok certificate
-  pub proves : Proves p certificate
+-- the bytes are the text of c, which proves its verdict
+pub record IsAccepted (c : Certificate) (p : Problem) (bytes : List ℕ) : Type 0 where
+  pub text : read_of bytes ≡ Ok c
+  pub proves : Proves p c
 
 -- they are the text of one of which this part is the first that does not hold
 pub record IsRefusedAt (part : Part) (p : Problem) (bytes : List ℕ) : Type 0 where
@@ -218,7 +217,7 @@ abbrev pub IsReached : List (List ℕ) → ToldNames → Reached → Type 0
 IsReached words told Nothing = Unit {0}
 IsReached words told Executed = OfTexts words told (HasDone (λ done. Unit {0}))
 IsReached words told Size = OfTexts words told IsTranslated
-IsReached words told Acceptance = OfTexts words told (OfCertificate IsAccepted)
+IsReached words told (Acceptance c) = OfTexts words told (OfCertificate (IsAccepted c))
 IsReached words told (Verdict c) = OfTexts words told (IsProved c)
 IsReached words told (Subset c w) = OfTexts words told (HasSubset c w)
 
@@ -229,7 +228,7 @@ reached_of (Infeasible c) = Verdict c
 reached_of (Irreducible c w) = Subset c w
 reached_of (Unbounded c) = Verdict c
 reached_of Translated = Size
-reached_of Accepted = Acceptance
+reached_of (Accepted c) = Acceptance c
 reached_of Usage = Nothing
 reached_of (Missing name reached) = reached
 reached_of (OpenFault name reached) = reached
@@ -270,7 +269,7 @@ Cause words told files_rose out_rose (Infeasible c) = (c.verdict ≡ kind.Infeas
 Cause words told files_rose out_rose (Irreducible c w) = IsReached words told (Subset c w)
 Cause words told files_rose out_rose (Unbounded c) = (c.verdict ≡ kind.Unbounded) × IsReached words told (Verdict c)
 Cause words told files_rose out_rose Translated = IsReached words told Size
-Cause words told files_rose out_rose Accepted = IsReached words told Acceptance
+Cause words told files_rose out_rose (Accepted c) = IsReached words told (Acceptance c)
 Cause words told files_rose out_rose Usage = settings_of words ≡ None
 Cause words told files_rose out_rose (Missing name reached) = OfFile words told name reached (λ now. (text : List ℕ) → Has now text → ⊥)
 Cause words told files_rose out_rose (OpenFault name reached) = OfFile words told name reached (λ now. files_rose)

@@ -73,21 +73,22 @@ pub record IsComplete (words : List (List ℕ)) (told : ToldNames) (files_rose o
 
 -- the answer is that a certificate is accepted, or that the outside failed, or want of memory
 abbrev pub IsAcceptedOrFault : Answer → Type 0
-IsAcceptedOrFault Accepted = Unit {0}
+IsAcceptedOrFault (Accepted c) = Unit {0}
 IsAcceptedOrFault (OpenFault name reached) = Unit {0}
 IsAcceptedOrFault (ReadFault name reached) = Unit {0}
 IsAcceptedOrFault (WriteFault target reached) = Unit {0}
 IsAcceptedOrFault (NoMemory reached) = Unit {0}
 IsAcceptedOrFault answer = ⊥
 
--- The words ask for a check of c, whose text stands in a file; the rest of them, and the other texts, those of tables too, are those
--- of a run that found c.
+-- The words ask for a check of c, whose text stands in a file, and may ask for it in version 2; the rest of them, and the other texts,
+-- those of tables too, are those of a run that found c.
 pub record IsRecheck (c : Certificate) (again : List (List ℕ)) (told : ToldNames) : Type 0 where
   pub settings : Settings
   pub texts : List (List ℕ)
   pub tables : List (List ℕ)
   pub found : IsProved c settings (texts ++ tables)
   pub name : List ℕ
-  pub asks : settings_of again ≡ Some (record settings { task = CheckCertificate name })
+  pub migrated : Option (List ℕ)
+  pub asks : settings_of again ≡ Some (record settings { task = CheckCertificate name migrated })
   pub has : AreTold told (settings.model ∷ (settings.data_files ++ name ∷ [])) (texts ++ certificate_text c ∷ [])
-  pub tables_told : AreTablesTold told (record settings { task = CheckCertificate name }) (texts ++ certificate_text c ∷ []) tables
+  pub tables_told : AreTablesTold told (record settings { task = CheckCertificate name migrated }) (texts ++ certificate_text c ∷ []) tables

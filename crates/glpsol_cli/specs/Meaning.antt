@@ -6,8 +6,9 @@ use Rattle.rational.specs.Rational.{Rational}
 use Rattle.milp.specs.Problem.{Problem}
 use Rattle.milp.specs.declared.Direction.{Direction}
 use Rattle.instance.specs.Continuous.{without_integrality}
-use Rattle.verdicts.specs.Certificate.{Certificate, Verdict}
+use Rattle.verdicts.specs.Certificate.{Certificate, Verdict, Version, One, Two}
 use Rattle.verdicts.specs.Certificate as kind
+use Rattle.verdicts.specs.Migrated.{migrated}
 use Rattle.certificate.specs.Text.{certificate_text}
 use Rattle.gmpl_generate.specs.declared.fault.ModelFault.{ModelFault}
 use Rattle.gmpl_generate.specs.Running.{File as TableFile, Made}
@@ -25,7 +26,7 @@ use Rattle.command_line.specs.declared.settings.Task.{Task}
 use Rattle.solution_writer.specs.Report.{solved_report, translated_report, accepted_report}
 use Rattle.solution_writer.specs.Subset.{subset_report}
 use Rattle.solution_writer.specs.Solution.{raw_solution}
-use Rattle.glpsol_cli.specs.Asked.{names_checked, outputs_of, wants_subset}
+use Rattle.glpsol_cli.specs.Asked.{migrated_file, names_checked, outputs_of, wants_subset}
 use Rattle.glpsol_cli.specs.Pieces.{Piece}
 use Rattle.glpsol_cli.specs.declared.answer.Reached.{Reached}
 use Rattle.glpsol_cli.specs.declared.answer.Reached.TheVariants.{Nothing, Executed, Size, Acceptance, Verdict as VerdictReached, Subset as SubsetReached}
@@ -193,6 +194,18 @@ saved_pieces (Some outputs) p c report = saved_in outputs.report report ++ (save
 abbrev pub solved_pieces : Task → Problem → Certificate → List ℕ → List Piece
 solved_pieces task p c report = printed report ++ saved_pieces (outputs_of task) p c report
 
+-- a certificate of this version as one of version 2
+abbrev pub from_version : Version → Problem → Certificate → Certificate
+from_version One p c = migrated p c
+from_version Two p c = c
+
+abbrev pub in_version_two : Problem → Certificate → Certificate
+in_version_two p c = from_version c.version p c
+
+-- the report that a certificate is accepted on the output, and then the certificate to its file
+abbrev pub accepted_pieces : Task → Problem → Certificate → List Piece
+accepted_pieces task p c = printed accepted_report ++ saved_in (migrated_file task) (certificate_text (in_version_two p c))
+
 -- a report of this verdict lacks a subset, where one is wanted
 abbrev pub lacks_subset : Bool → Verdict → Bool
 lacks_subset wanted kind.Optimal = false
@@ -209,7 +222,7 @@ abbrev pub found_pieces : Task → Problem → Reached → Option (List Piece)
 found_pieces task p Nothing = Some []
 found_pieces task p Executed = Some []
 found_pieces task p Size = Some (printed (translated_report p))
-found_pieces task p Acceptance = Some (printed accepted_report)
+found_pieces task p (Acceptance c) = Some (accepted_pieces task p c)
 found_pieces task p (VerdictReached c) = option_map (solved_pieces task p c) (whole_report (lacks_subset (wants_subset task) c.verdict) p c)
 found_pieces task p (SubsetReached c w) = Some (solved_pieces task p c (subset_report p w.witnesses))
 
@@ -225,7 +238,7 @@ abbrev pub behind_of : (List Rational → Behind) → Reached → Behind
 behind_of behind Nothing = nothing_behind
 behind_of behind Executed = nothing_behind
 behind_of behind Size = nothing_behind
-behind_of behind Acceptance = nothing_behind
+behind_of behind (Acceptance c) = nothing_behind
 behind_of behind (VerdictReached c) = behind_at behind c.verdict c.point
 behind_of behind (SubsetReached c w) = nothing_behind
 

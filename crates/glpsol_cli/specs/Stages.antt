@@ -190,21 +190,21 @@ pub record IsOfReading (s : Settings) (r : Reading) (e : ExecutedHeld) : Type 0 
 
 abbrev pub IsFinding : Problem → Settings → List (List ℕ) → Finding → Type 0
 IsFinding p s texts Size = Translates s
-IsFinding p s texts Acceptance = OfCertificate IsAccepted s texts
+IsFinding p s texts (Acceptance c) = OfCertificate (IsAccepted c) s texts
 IsFinding p s texts (VerdictFound c) = Solves s × Proves p c × (outcome (trials p c) ≡ Accepting) × (lacks_subset (wants_subset s.task) c.verdict ≡ false)
 IsFinding p s texts (SubsetFound c w) = HasSubset c w s texts
 
 -- what is found of a problem that is to be solved, with a subset, if one is wanted, where no point is feasible
 abbrev pub IsSolution : Problem → Bool → Finding → Type 0
 IsSolution p wanted Size = ⊥
-IsSolution p wanted Acceptance = ⊥
+IsSolution p wanted (Acceptance c) = ⊥
 IsSolution p wanted (VerdictFound c) = Proves p c × (outcome (trials p c) ≡ Accepting) × (lacks_subset wanted c.verdict ≡ false)
 IsSolution p wanted (SubsetFound c w) = Proves p c × (outcome (trials p c) ≡ Accepting) × (c.verdict ≡ kind.Infeasible) × (wanted ≡ true) × IsSubsetOf p w × IsByWeights c w
 
 -- what a finding is as a part of an answer
 abbrev pub reached_by : Finding → Reached
 reached_by Size = SizeReached
-reached_by Acceptance = AcceptanceReached
+reached_by (Acceptance c) = AcceptanceReached c
 reached_by (VerdictFound c) = VerdictReached c
 reached_by (SubsetFound c w) = SubsetReached c w
 
@@ -351,7 +351,7 @@ stop_answer StopNoMemory = NoMemory Nothing
 -- the report of what is found has what it shows
 abbrev pub IsShown : Task → Problem → Finding → Type 0
 IsShown task p Size = Unit {0}
-IsShown task p Acceptance = Unit {0}
+IsShown task p (Acceptance c) = Proves p c
 IsShown task p (VerdictFound c) = IsReportable p c × (lacks_subset (wants_subset task) c.verdict ≡ false)
 IsShown task p (SubsetFound c w) = c.verdict ≡ kind.Infeasible
 
@@ -534,7 +534,7 @@ abbrev pub LeftIn : Settings → List (List ℕ) → Reached → (List Piece →
 LeftIn s texts Nothing P = ⊥
 LeftIn s texts Executed P = P []
 LeftIn s texts SizeReached P = HasLeft SizeReached P s texts
-LeftIn s texts AcceptanceReached P = HasLeft AcceptanceReached P s texts
+LeftIn s texts (AcceptanceReached c) P = HasLeft (AcceptanceReached c) P s texts
 LeftIn s texts (VerdictReached c) P = HasLeft (VerdictReached c) P s texts
 LeftIn s texts (SubsetReached c w) P = HasLeft (SubsetReached c w) P s texts
 

@@ -43,7 +43,7 @@ abbrev pub OfFile : List (List ℕ) → ToldNames → List ℕ → Reached → (
 OfFile words told name Nothing P = IsInTurn words told name × P (told name)
 OfFile words told name Executed P = OfTexts words told (IsTableInTurn told name P)
 OfFile words told name Size P = ⊥
-OfFile words told name Acceptance P = ⊥
+OfFile words told name (Acceptance c) P = ⊥
 OfFile words told name (VerdictReached c) P = ⊥
 OfFile words told name (SubsetReached c w) P = ⊥
 
@@ -52,6 +52,6 @@ abbrev pub OfPieces : List (List ℕ) → ToldNames → Reached → (List Piece 
 OfPieces words told Nothing P = P []
 OfPieces words told Executed P = OfTexts words told (HasDone P)
 OfPieces words told Size P = OfTexts words told (HasFound Size P)
-OfPieces words told Acceptance P = OfTexts words told (HasFound Acceptance P)
+OfPieces words told (Acceptance c) P = OfTexts words told (HasFound (Acceptance c) P)
 OfPieces words told (VerdictReached c) P = OfTexts words told (HasFound (VerdictReached c) P)
 OfPieces words told (SubsetReached c w) P = OfTexts words told (HasFound (SubsetReached c w) P)

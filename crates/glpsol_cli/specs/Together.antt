@@ -19,7 +19,7 @@ abbrev pub ReachedIn : Settings → List (List ℕ) → Reached → Type 0
 ReachedIn s texts Nothing = Unit {0}
 ReachedIn s texts Executed = HasDone (λ done. Unit {0}) s texts
 ReachedIn s texts SizeReached = IsTranslated s texts
-ReachedIn s texts AcceptanceReached = OfCertificate IsAccepted s texts
+ReachedIn s texts (AcceptanceReached c) = OfCertificate (IsAccepted c) s texts
 ReachedIn s texts (VerdictReached c) = IsProved c s texts
 ReachedIn s texts (SubsetReached c w) = HasSubset c w s texts
 
@@ -30,7 +30,7 @@ CauseIn s texts files_rose out_rose (Infeasible c) = (c.verdict ≡ kind.Infeasi
 CauseIn s texts files_rose out_rose (Irreducible c w) = HasSubset c w s texts
 CauseIn s texts files_rose out_rose (Unbounded c) = (c.verdict ≡ kind.Unbounded) × IsProved c s texts
 CauseIn s texts files_rose out_rose Translated = IsTranslated s texts
-CauseIn s texts files_rose out_rose Accepted = OfCertificate IsAccepted s texts
+CauseIn s texts files_rose out_rose (Accepted c) = OfCertificate (IsAccepted c) s texts
 CauseIn s texts files_rose out_rose Usage = ⊥
 CauseIn s texts files_rose out_rose (Missing name reached) = ⊥
 CauseIn s texts files_rose out_rose (OpenFault name reached) = ⊥
@@ -51,7 +51,7 @@ abbrev pub PiecesIn : Settings → List (List ℕ) → Reached → (List Piece �
 PiecesIn s texts Nothing P = P []
 PiecesIn s texts Executed P = HasDone P s texts
 PiecesIn s texts SizeReached P = HasFound SizeReached P s texts
-PiecesIn s texts AcceptanceReached P = HasFound AcceptanceReached P s texts
+PiecesIn s texts (AcceptanceReached c) P = HasFound (AcceptanceReached c) P s texts
 PiecesIn s texts (VerdictReached c) P = HasFound (VerdictReached c) P s texts
 PiecesIn s texts (SubsetReached c w) P = HasFound (SubsetReached c w) P s texts
 
@@ -84,7 +84,7 @@ abbrev pub OnceExecuted : Reached → Type 0 → Type 0
 OnceExecuted Nothing P = Unit {0}
 OnceExecuted Executed P = P
 OnceExecuted SizeReached P = P
-OnceExecuted AcceptanceReached P = P
+OnceExecuted (AcceptanceReached c) P = P
 OnceExecuted (VerdictReached c) P = P
 OnceExecuted (SubsetReached c w) P = P
 

@@ -70,8 +70,8 @@ pub enum Reached {
     Executed,
     /// The size of the problem is found, which was asked for.
     Size,
-    /// The certificate that was to be checked proves its verdict.
-    Acceptance,
+    /// This is the certificate that was to be checked, and it proves its verdict.
+    Acceptance(Boxed<Certificate>),
     /// This certificate proves its verdict, and the checker accepts it.
     Verdict(Boxed<Certificate>),
     /// The certificate proves by the weights of this irreducible infeasible subset that no point is feasible, and the checker accepts it.
@@ -92,8 +92,8 @@ pub enum Answer {
     Unbounded(Boxed<Certificate>),
     /// The problem was read, and its size written.
     Translated,
-    /// The certificate that was to be checked proves its verdict, and this was written.
-    Accepted,
+    /// This is the certificate that was to be checked, it proves its verdict, and all was written.
+    Accepted(Boxed<Certificate>),
     /// The words are no command.
     Usage,
     /// There is no file of this name, which is to be read after this was reached: of the command's files nothing, of a table's the
@@ -161,7 +161,7 @@ impl Answer {
             | Answer::Irreducible(..)
             | Answer::Unbounded(_)
             | Answer::Translated
-            | Answer::Accepted => 0,
+            | Answer::Accepted(_) => 0,
             Answer::Usage
             | Answer::Missing { .. }
             | Answer::OpenFault { .. }

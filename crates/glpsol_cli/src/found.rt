@@ -12,8 +12,8 @@ use sqlite_items::Boxed;
 pub enum Finding {
     // the problem's size
     Size,
-    // the certificate that was to be checked proves its verdict
-    Acceptance,
+    // this is the certificate that was to be checked, and it proves its verdict
+    Acceptance(Boxed<Certificate>),
     // this certificate proves its verdict
     Verdict(Boxed<Certificate>),
     // the certificate proves that no point is feasible, by the weights of this irreducible infeasible subset
@@ -27,7 +27,7 @@ impl Finding {
     {
         match self {
             Finding::Size => Reached::Size,
-            Finding::Acceptance => Reached::Acceptance,
+            Finding::Acceptance(certificate) => Reached::Acceptance(certificate),
             Finding::Verdict(certificate) => Reached::Verdict(certificate),
             Finding::Subset(certificate, subset) => Reached::Subset(certificate, subset),
         }

@@ -95,8 +95,8 @@ fn add_names(alloc: Global, names: &mut Vec<Name>, more: &[Name]) -> Result<(), 
 fn add_checked(alloc: Global, names: &mut Vec<Name>, task: &Task) -> Result<(), AllocError>
     ensures { OnOk result (names.new.items ≡ names.old.items ++ names_checked task.now) }
 {
-    if let Task::CheckCertificate(name) = task {
-        names.push(name.copy(alloc)?)?;
+    if let Task::CheckCertificate { certificate, .. } = task {
+        names.push(certificate.copy(alloc)?)?;
     }
     Ok(())
 }

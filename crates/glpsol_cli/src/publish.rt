@@ -1,21 +1,23 @@
 // What is found is written: the report, and then the files that the task names.
 ghost use Rattle.std.specs.Prelude.{◌≡◌, ◌≤◌, ◌++◌, List, ℕ, false, IfOk, IfErr, OnOk, Some, string_bytes};
 ghost use Rattle.verdicts.specs.Certificate.{Infeasible as is_infeasible};
+ghost use Rattle.verdicts.specs.Proves.{Proves};
 ghost use Rattle.std.specs.Option.{option_map};
 ghost use Rattle.outside.specs.Causes.{Rose};
 ghost use Rattle.solution_writer.specs.Report.{IsReportable, solved_report};
 ghost use Rattle.solution_writer.specs.Solution.{raw_solution};
 ghost use Rattle.certificate.specs.Text.{certificate_text};
-ghost use Rattle.glpsol_cli.specs.Asked.{outputs_of, wants_subset};
-ghost use Rattle.glpsol_cli.specs.Meaning.{found_pieces, lacks_subset, printed, saved_in, saved_pieces, solved_pieces};
+ghost use Rattle.glpsol_cli.specs.Asked.{migrated_file, outputs_of, wants_subset};
+ghost use Rattle.glpsol_cli.specs.Meaning.{accepted_pieces, found_pieces, in_version_two, lacks_subset, printed, saved_in, saved_pieces, solved_pieces};
 ghost use Rattle.glpsol_cli.specs.Stages.{reached_by, piece_of, pieces_of, IsShown, EndsPiece, EndsWriting, HasFailed, IsPublished};
 
 use crate::Target;
 use crate::found::Finding;
-use certificate::{Certificate, text};
+use certificate::{Certificate, Version, text};
 use command_line::{Outputs, Task};
 use infeasible_subset::Subset;
 use instance::{Instance, Name};
+use migration::migrate;
 use outside::{Sink, Store, Trouble, write_all, write_file};
 use solution_writer::{
     accepted_report, raw_solution, solved_report, subset_report, translated_report,
@@ -75,12 +77,32 @@ fn pieces(
 {
     match finding {
         Finding::Size => output(alloc, &translated_report(alloc, problem)?),
-        Finding::Acceptance => output(alloc, &accepted_report(alloc)?),
+        Finding::Acceptance(certificate) => accepted(alloc, task, problem, certificate.get()),
         Finding::Verdict(certificate) => solved(alloc, task, problem, certificate.get()),
         Finding::Subset(certificate, subset) => {
             with_subset(alloc, task, problem, certificate.get(), subset.get())
         }
     }
+}
+
+// The report that a certificate is accepted on the output, and then the certificate in version 2 to the file that the task names.
+fn accepted(
+    alloc: Global,
+    task: &Task,
+    problem: &Instance,
+    certificate: &Certificate,
+) -> Result<Vec<Piece>, AllocError>
+    requires { Proves problem.now certificate.now }
+    ensures { IfOk result (λ pieces. pieces_of pieces.items ≡ accepted_pieces task.now problem.now certificate.now) }
+{
+    let mut pieces = output(alloc, &accepted_report(alloc)?)?;
+    match task {
+        Task::CheckCertificate { migrated, .. } => {
+            add_in_version_two(alloc, &mut pieces, migrated, problem, certificate)?;
+        }
+        Task::Solve(_) | Task::Translate => {}
+    }
+    Ok(pieces)
 }
 
 // The report of a certificate on the output, and then the files that the task names.
@@ -131,7 +153,7 @@ fn add_files(
 {
     match task {
         Task::Solve(outputs) => add_outputs(alloc, pieces, outputs, problem, certificate, report),
-        Task::Translate | Task::CheckCertificate(_) => Ok(()),
+        Task::Translate | Task::CheckCertificate { .. } => Ok(()),
     }
 }
 
@@ -196,6 +218,39 @@ fn add_certificate(
     match file {
         Some(name) => add_file(alloc, pieces, name, text(alloc, certificate)?),
         None => Ok(()),
+    }
+}
+
+fn add_in_version_two(
+    alloc: Global,
+    pieces: &mut Vec<Piece>,
+    file: &Option<Name>,
+    problem: &Instance,
+    certificate: &Certificate,
+) -> Result<(), AllocError>
+    requires { Proves problem.now certificate.now }
+    ensures { OnOk result (pieces_of pieces.new.items ≡ pieces_of pieces.old.items ++ saved_in file.now (certificate_text (in_version_two problem.now certificate.now))) }
+{
+    match file {
+        Some(name) => {
+            let text = text_in_version_two(alloc, problem, certificate)?;
+            add_file(alloc, pieces, name, text)
+        }
+        None => Ok(()),
+    }
+}
+
+fn text_in_version_two(
+    alloc: Global,
+    problem: &Instance,
+    certificate: &Certificate,
+) -> Result<Vec<u8>, AllocError>
+    requires { Proves problem.now certificate.now }
+    ensures { IfOk result (λ text. text.items ≡ certificate_text (in_version_two problem.now certificate.now)) }
+{
+    match certificate.version() {
+        Version::One => text(alloc, &migrate(alloc, problem, certificate)?),
+        Version::Two => text(alloc, certificate),
     }
 }
 

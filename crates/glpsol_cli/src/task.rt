@@ -92,7 +92,7 @@ fn from_report<S: Store, O: Sink>(
 {
     match finding {
         Finding::Size => Answer::Translated,
-        Finding::Acceptance => Answer::Accepted,
+        Finding::Acceptance(certificate) => Answer::Accepted(certificate),
         Finding::Verdict(certificate) => {
             from_verdict(alloc, inputs, problem, later, certificate, files, out)
         }

@@ -66,7 +66,7 @@ fn line(alloc: Global, answer: &Answer) -> Result<String, AllocError>
         | Answer::Irreducible(..)
         | Answer::Unbounded(_)
         | Answer::Translated
-        | Answer::Accepted => Ok(String::new(alloc)),
+        | Answer::Accepted(_) => Ok(String::new(alloc)),
         Answer::Usage => fault_line(alloc, &Fault::Usage),
         Answer::Missing { name, .. } => fault_line(alloc, &Fault::Missing(name)),
         Answer::OpenFault { name, .. } => fault_line(alloc, &Fault::OpenFault(name)),

@@ -1,10 +1,12 @@
 // What the words ask for is worked out: the problem is measured or solved, or a certificate checked against it.
-ghost use Rattle.std.specs.Prelude.{◌≡◌, ◌<◌, ◌≤◌, suc, length, true, IfOk, IfErr, OnOk, map};
+ghost use Rattle.std.specs.Prelude.{◌≡◌, ◌<◌, ◌≤◌, suc, length, true, Ok, IfOk, IfErr, map};
+ghost use Rattle.milp.specs.Problem.{Problem};
 ghost use Rattle.verdicts.specs.Proves.{Proves};
 ghost use Rattle.verdicts.specs.Certificate.{Infeasible as is_infeasible};
 ghost use Rattle.branch_search.specs.Plain.{NoneInteger, IsPlainCertificate};
 ghost use Rattle.branch_search.specs.WholeFaults.{IsFault};
 ghost use Rattle.infeasible_subset.specs.Faults.{IsFault as IsSubsetFault};
+ghost use Rattle.certificate_reader.specs.Reading.{read_of};
 ghost use Rattle.cert_check.specs.Outcome.{Acceptance, outcome, trials};
 ghost use Rattle.glpsol_cli.specs.Asked.{names_read};
 ghost use Rattle.glpsol_cli.specs.Meaning.{IsAsked};
@@ -35,10 +37,10 @@ pub fn finding(alloc: Global, problem: &Instance, inputs: &Inputs) -> Result<Fin
     match &settings.task {
         Task::Solve(outputs) => solution(alloc, problem, settings, outputs.subset),
         Task::Translate => Ok(Finding::Size),
-        Task::CheckCertificate(_) => {
+        Task::CheckCertificate { .. } => {
             let count = settings.data_files.as_slice().len();
             match accept_behind(alloc, problem, count, &inputs.texts) {
-                Ok(()) => Ok(Finding::Acceptance),
+                Ok(certificate) => Ok(Finding::Acceptance(certificate)),
                 Err(stop) => Err(Unfound::Check(stop)),
             }
         }
@@ -191,33 +193,51 @@ fn solved(
     }
 }
 
-// The text behind the model's and so many others is that of a certificate that proves its verdict.
+// The certificate whose text stands behind the model's and so many others, where it proves its verdict.
 fn accept_behind(
     alloc: Global,
     problem: &Instance,
     count: usize,
     texts: &[Vec<u8>],
-) -> Result<(), CheckStop>
+) -> Result<Boxed<Certificate>, CheckStop>
     requires { suc count < length texts.now }
-    ensures accepted { OnOk result (OfNext (IsAccepted problem.now) count (map (λ text. text.items) texts.now)) }
+    ensures accepted { IfOk result (λ c. OfNext (IsAccepted c problem.now) count (map (λ text. text.items) texts.now)) }
     ensures stop { IfErr result (λ stop. OfNext (λ bytes. IsCheckStop problem.now bytes stop) count (map (λ text. text.items) texts.now)) }
 {
     accept(alloc, problem, &texts[count + 1])
 }
 
-// The text is that of a certificate that proves its verdict.
-fn accept(alloc: Global, problem: &Instance, text: &[u8]) -> Result<(), CheckStop>
-    ensures accepted { OnOk result (IsAccepted problem.now text.now) }
+// The certificate with this text, where it proves its verdict.
+fn accept(
+    alloc: Global,
+    problem: &Instance,
+    text: &[u8],
+) -> Result<Boxed<Certificate>, CheckStop>
+    ensures accepted { IfOk result (λ c. IsAccepted c problem.now text.now) }
     ensures stop { IfErr result (IsCheckStop problem.now text.now) }
 {
-    let certificate = match certificate_reader::read(alloc, text) {
+    let certificate = match kept_certificate(alloc, text) {
         Ok(certificate) => certificate,
-        Err(CertError::Fault(fault)) => return Err(CheckStop::BadText(fault)),
-        Err(CertError::NoMemory) => return Err(CheckStop::NoMemory),
+        Err(stop) => return Err(stop),
     };
-    match check(alloc, problem, &certificate) {
-        Ok(Checked::Accepted) => Ok(()),
+    match check(alloc, problem, certificate.get()) {
+        Ok(Checked::Accepted) => Ok(certificate),
         Ok(Checked::Refused(part)) => Err(CheckStop::Refused(part)),
         Err(fault) => Err(CheckStop::NoFit(fault)),
+    }
+}
+
+// The certificate with this text.
+fn kept_certificate(alloc: Global, text: &[u8]) -> Result<Boxed<Certificate>, CheckStop>
+    ensures certificate { IfOk result (λ c. read_of text.now ≡ Ok c) }
+    ensures stop { (problem : Problem) → IfErr result (IsCheckStop problem text.now) }
+{
+    match certificate_reader::read(alloc, text) {
+        Ok(certificate) => match Boxed::new(alloc, certificate) {
+            Ok(certificate) => Ok(certificate),
+            Err(_) => Err(CheckStop::NoMemory),
+        },
+        Err(CertError::Fault(fault)) => Err(CheckStop::BadText(fault)),
+        Err(CertError::NoMemory) => Err(CheckStop::NoMemory),
     }
 }

@@ -26,6 +26,22 @@ fn certificates_are_checked(rt: HostRuntime) -> Result<(), Fail> {
     check(&rt, rt.alloc(), &Subject::Answers, CHECKED)
 }
 
+// A certificate that is accepted goes to the file y in version 2: a branch, bounds of the column's own, a ray; one of version 2 as it
+// is. One that is not accepted makes no file.
+const MIGRATED: &str = "\
+0 ACCEPTED$ <- cert 2$size 1 1$verdict infeasible$derived 0$tree$split 0 1:1$empty r1:1 s1:3$empty r1:-1 s1:3$end$ <- --lp f --checkcert c --cert y <- min$ x$st$ 1 <= 3 x <= 2$general$ x$end$ <- cert 1$size 1 1$verdict infeasible$derived 0$tree$branch 1 0$empty r1:1 c1:-3$empty r1:-1 c1:3$end$
+0 ACCEPTED$ <- cert 2$size 0 1$verdict optimal$value 2$point 2$derived 0$tree$bound c1:1$end$ <- --freemps f --cert y --checkcert c <- @ <- cert 1$size 0 1$verdict optimal$value 2$point 2$derived 0$tree$bound c1:1$end$
+0 ACCEPTED$ <- cert 2$size 0 1$verdict unbounded$point 0$ray 1$end$ <- --lp f --checkcert c --cert=y <- max$ x$st$end$ <- cert 1$size 0 1$verdict unbounded$point 0$ray 1$end$
+0 ACCEPTED$ <- cert 2$size 1 2$verdict infeasible$derived 0$tree$split 0 1:1 2:-1$empty r1:1 s1:2$empty r1:-1 s1:2$end$ <- --lp f --checkcert c --cert y <- min$ x$st$ 2 x - 2 y = 1$general$ x y$end$ <- cert 2$size 1 2$verdict infeasible$derived 0$tree$split 0 1:1 2:-1$empty r1:1 s1:2$empty r1:-1 s1:2$end$
+6 refused: node 1$ <- none <- --freemps f --checkcert c --cert y <- @ <- cert 1$size 0 1$verdict optimal$value 2$point 2$derived 0$tree$bound c1:-1$end$
+2 certificate fault: line 8: Unended$ <- none <- --freemps f --checkcert c --cert y <- @ <- cert 1$size 0 1$verdict optimal$value 2$point 2$derived 0$tree$
+";
+
+#[test]
+fn accepted_certificates_are_migrated(rt: HostRuntime) -> Result<(), Fail> {
+    check(&rt, rt.alloc(), &Subject::WrittenFiles, MIGRATED)
+}
+
 // The report and the certificate go to their files, in pieces of seven bytes.
 #[test]
 fn the_files_are_written(rt: HostRuntime) -> Result<(), Fail> {

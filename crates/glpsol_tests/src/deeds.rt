@@ -63,6 +63,15 @@ reads c <- cert 1$size 2 2$verdict optimal$value 13/5$point 7/5 6/5$derived 0$tr
 writes out <- ACCEPTED$
 ";
 
+const A_MIGRATION: &str = "\
+--lp f --checkcert c --cert n
+reads f <- min$ x$st$ 1 <= 3 x <= 2$general$ x$end$
+reads c <- cert 1$size 1 1$verdict infeasible$derived 0$tree$branch 1 0$empty r1:1 c1:-3$empty r1:-1 c1:3$end$
+lies n <- what was there before$
+writes out <- ACCEPTED$
+writes n <- cert 2$size 1 1$verdict infeasible$derived 0$tree$split 0 1:1$empty r1:1 s1:3$empty r1:-1 s1:3$end$
+";
+
 /// The words of a command, and then its deeds, a line for each.
 pub(crate) fn command(name: &str) -> &'static str {
     match name {
@@ -70,6 +79,7 @@ pub(crate) fn command(name: &str) -> &'static str {
         "to the output" => TO_THE_OUTPUT,
         "a solution" => A_SOLUTION,
         "a table" => A_TABLE,
+        "a migration" => A_MIGRATION,
         _ => A_CHECK,
     }
 }

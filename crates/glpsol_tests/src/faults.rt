@@ -39,6 +39,8 @@ const FAILING_CALLS: &str = "\
 3 runs <- a table with the output by pieces
 9 runs <- a check with the files by pieces
 2 runs <- a check with the output by pieces
+12 runs <- a migration with the files by pieces
+2 runs <- a migration with the output by pieces
 ";
 
 #[test]

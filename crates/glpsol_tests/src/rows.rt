@@ -9,7 +9,7 @@ use std::thread::Threads;
 
 /// How a table's rows are found. A row of `Answers` and of `RoundTrips` has, parted by ` <- `, the status and what is printed, then the
 /// words, and then the texts of the files f, c and d, where there are such files; what doesn't end a line is the beginning of what is
-/// printed. In `RoundTrips` the certificate that the program writes for a row whose status is 0, it accepts. In `Subsets`
+/// printed. In `RoundTrips` the certificate that the program writes for a row whose status is 0, it accepts, and in version 2 too. In `Subsets`
 /// lines are printed up to the third word, so that the numbers of points are left out.
 #[derive(Drop)]
 pub(crate) enum Subject {

@@ -9,6 +9,9 @@ use std::thread::Threads;
 pub(crate) const MODEL: &str =
     "NAME t$ROWS$ N cost$COLUMNS$ x cost 1$BOUNDS$ LO b x 2$ UP b x 5$ENDATA$";
 
+// What the program says to a certificate that proves its verdict.
+const ACCEPTED: &str = "0 ACCEPTED\n";
+
 /// The status with which words end.
 pub(crate) fn status<T: Threads + Sync>(
     rt: &T,
@@ -72,8 +75,8 @@ pub(crate) fn model_alone(alloc: Global, at_most: usize) -> Result<MemStore, All
     Ok(files)
 }
 
-// The files f, c and d, as many of them as the row has texts.
-fn add_files(alloc: Global, files: &mut MemStore, rows: &str) -> Result<(), AllocError> {
+/// The files f, c and d, as many of them as the row has texts.
+pub(crate) fn add_files(alloc: Global, files: &mut MemStore, rows: &str) -> Result<(), AllocError> {
     for (name, text) in ["f", "c", "d"].iter().zip(rows.split(" <- ")) {
         add_file(alloc, files, name, text)?;
     }
@@ -150,7 +153,7 @@ fn push_words(text: &mut String, line: &str) -> Result<(), AllocError> {
     Ok(())
 }
 
-// What the program says to the certificate that it writes for words on a text.
+// What the program says to the certificate that it writes for words on a text, and then to the same one in version 2.
 fn round_trip<T: Threads + Sync>(
     rt: &T,
     alloc: Global,
@@ -162,8 +165,13 @@ fn round_trip<T: Threads + Sync>(
     files.add("f", text.as_bytes())?;
     let with_certificate = format!(in alloc; "{words} --cert c")?;
     let _report = outcome(rt, alloc, with_certificate.as_str(), &mut files)?;
-    let with_check = format!(in alloc; "{words} --checkcert c")?;
-    outcome(rt, alloc, with_check.as_str(), &mut files)
+    let with_check = format!(in alloc; "{words} --checkcert c --cert n")?;
+    let found = outcome(rt, alloc, with_check.as_str(), &mut files)?;
+    if found.as_str() != ACCEPTED {
+        return Ok(found);
+    }
+    let with_second_check = format!(in alloc; "{words} --checkcert n")?;
+    outcome(rt, alloc, with_second_check.as_str(), &mut files)
 }
 
 /// For a row whose status is 0: the answer that it has, where the program accepts the certificate that it writes, and else what it says
@@ -179,7 +187,7 @@ pub(crate) fn round_trip_of_row<T: Threads + Sync>(
         return want.to_string(alloc);
     }
     let found = round_trip(rt, alloc, words, text)?;
-    if found.as_str() == "0 ACCEPTED\n" {
+    if found.as_str() == ACCEPTED {
         return want.to_string(alloc);
     }
     Ok(found)

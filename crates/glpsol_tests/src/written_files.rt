@@ -1,6 +1,6 @@
 // Runs that write to a file of memory, as rows of tables say them.
 use crate::rows::split;
-use crate::runs::{outcome, with_marks, written};
+use crate::runs::{add_files, outcome, with_marks};
 use outside::MemStore;
 use std::alloc::{AllocError, Global};
 use std::thread::Threads;
@@ -22,17 +22,12 @@ fn found_and_held<T: Threads + Sync>(
     held: &str,
     given: &str,
 ) -> Result<String, AllocError> {
-    let (words, text) = split(given);
+    let (words, texts) = split(given);
     let mut files = MemStore::new(alloc, Vec::new(alloc), 4096);
-    add_model(alloc, &mut files, text)?;
+    add_files(alloc, &mut files, texts)?;
     let found = outcome(rt, alloc, words, &mut files)?;
     let file = file_text(alloc, &files)?;
     beside_file(alloc, found.as_str(), file.as_str(), held)
-}
-
-fn add_model(alloc: Global, files: &mut MemStore, text: &str) -> Result<(), AllocError> {
-    let text = written(alloc, text)?;
-    files.add("f", text.as_bytes())
 }
 
 fn beside_file(alloc: Global, found: &str, file: &str, held: &str) -> Result<String, AllocError> {
@@ -45,7 +40,7 @@ fn beside_file(alloc: Global, found: &str, file: &str, held: &str) -> Result<Str
 }
 
 /// A row has, parted by ` <- `, the status with what is printed, what file y holds then (`none`, where there is none), the
-/// words, and the text of the file f.
+/// words, and the texts of the files f, c and d, as many of them as there are.
 pub(crate) fn written_of_row<T: Threads + Sync>(
     rt: &T,
     alloc: Global,

@@ -1,5 +1,5 @@
 -- Steps over the weights of a leaf's columns.
-use Rattle.std.proofs.Common.{◌≡◌, ◌∙◌, ℕ, zero, suc, ◌+◌, ◌<◌, ◌≤◌, List, [], ◌∷◌, ◌++◌, length, take, drop, get_or, append_assoc, append-nil, take-suc, drop_of_length-le, true, false, Option, Some, None, refl, sym, ap, subst, add-one, arith}
+use Rattle.std.proofs.Common.{◌≡◌, ◌∙◌, ℕ, zero, suc, ◌+◌, ◌<◌, ◌≤◌, List, [], ◌∷◌, ◌++◌, length, take, drop, get_or, append_assoc, append-nil, take-suc, true, Option, Some, None, refl, sym, ap, subst, add-one, arith}
 use Rattle.std.specs.Prelude.{nat_lt}
 use Rattle.milp.specs.Problem.{Problem}
 use Rattle.verdicts.specs.Certificate.{Item, Side}
@@ -30,14 +30,6 @@ passed is i j k all l e before inv =
     let more : take (suc k) is ≡ take k is ++ j ∷ [] = take-suc is k j l ∙ ap (λ x. take k is ++ x ∷ []) (sym e) in
     let first : placed i (drop k is) ≡ j ∷ placed i (drop (suc k) is) = ap (placed i) (more_taken is k j l e) ∙ (rw before refl) in
     ap (λ xs. xs ++ placed i (drop (suc k) is)) more ∙ append_assoc (take k is) (j ∷ []) (placed i (drop (suc k) is)) ∙ sym (ap (λ xs. take k is ++ xs) first) ∙ inv
-
-pub put_here : (is : List Item) (i j : Item) (k : ℕ) (all : List Item) → k < length is → j ≡ get_or is k j → nat_lt j.index i.index ≡ false → take k is ++ placed i (drop k is) ≡ all → take k is ++ i ∷ drop k is ≡ all
-put_here is i j k all l e behind inv =
-    let first : placed i (drop k is) ≡ i ∷ drop k is = ap (placed i) (more_taken is k j l e) ∙ (rw behind refl) ∙ ap (λ xs. i ∷ xs) (sym (more_taken is k j l e)) in
-    sym (ap (λ xs. take k is ++ xs) first) ∙ inv
-
-pub put_last : (is : List Item) (i : Item) (k : ℕ) (all : List Item) → length is ≤ k → take k is ++ placed i (drop k is) ≡ all → take k is ++ i ∷ drop k is ≡ all
-put_last is i k all l inv = let none : drop k is ≡ [] = drop_of_length-le is l in rw none (rw none at inv)
 
 -- ---- weights of columns' own bounds
 

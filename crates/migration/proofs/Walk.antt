@@ -75,12 +75,3 @@ at_root side p nodes j here found result all is e inv = ap (option_map (λ at. l
         go d true = refl
         go High false = refl
         go Low false = refl
-
--- a place that is found is that of a split which is known
-pub own_within : (side : Side) (p : Problem) (j most : ℕ) (found : Option Tightest) (result : Option ℕ) → result ≡ option_and_then (λ t. if tightens side (bound_on side p [] j) t.at then Some t.place else None) found → IfSome found (λ t. t.place ≤ most) → IfSome result (λ at. at ≤ most)
-own_within side p j most None result e h = rw e tt
-own_within side p j most (Some t) result e h = rw e (go (tightens side (bound_on side p [] j) t.at))
-  where
-    go : (u : Bool) → IfSome (if u then Some t.place else None) (λ at. at ≤ most)
-    go true = h
-    go false = tt

@@ -105,7 +105,13 @@ fn push_task(text: &mut String, task: &Task) -> Result<(), AllocError> {
             push_subset(text, outputs.subset)
         }
         Task::Translate => text.push_str(", translate"),
-        Task::CheckCertificate(file) => write!(text, ", check {}", file.as_str()),
+        Task::CheckCertificate {
+            certificate,
+            migrated,
+        } => {
+            write!(text, ", check {}", certificate.as_str())?;
+            push_file(text, ", cert ", migrated)
+        }
     }
 }
 

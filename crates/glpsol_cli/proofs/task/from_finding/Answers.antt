@@ -4,12 +4,13 @@ use Rattle.glpsol_cli.specs.Pieces.{Outside}
 use Rattle.glpsol_cli.specs.Stages.{texts_in}
 use Rattle.glpsol_cli.proofs.Reports.{shown}
 use Rattle.glpsol_cli.proofs.Writing.{failed_within}
-use Rattle.glpsol_cli.proofs.Carried.{reported_written, unreported_cause, unreported_written}
+use Rattle.glpsol_cli.proofs.Carried.{reported_written, subject_asked, unreported_cause, unreported_written}
 use Rattle.glpsol_cli.proofs.task.from_finding.Goals as goal
 
 pub publish-published-requires : goal.publish-published-requires
 publish-published-requires g c =
-    rw c.get.ensures (shown c.args.problem.now c.args.inputs.now.settings (texts_in c.args.inputs.now) c.args.finding c.requires.found)
+    let asked = subject_asked c.args.inputs.now.settings (texts_in c.args.inputs.now) c.args.problem.now c.args.later c.requires.subject in
+    rw c.get.ensures (shown c.args.problem.now c.args.inputs.now.settings (texts_in c.args.inputs.now) c.args.finding asked c.requires.found)
 
 pub returns-in-Ok-clause-written : goal.returns-in-Ok-clause-written
 returns-in-Ok-clause-written g c =

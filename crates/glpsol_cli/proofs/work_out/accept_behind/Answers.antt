@@ -1,7 +1,7 @@
 use Rattle.std.proofs.Common.{map}
 use Rattle.glpsol_cli.specs.Cause.{IsAccepted}
 use Rattle.glpsol_cli.specs.Stages.{IsCheckStop, OfNext}
-use Rattle.glpsol_cli.proofs.Follow.{err_also, on_ok_also}
+use Rattle.glpsol_cli.proofs.Follow.{err_also, ok_also}
 use Rattle.glpsol_cli.proofs.Works.{next_text_is}
 use Rattle.glpsol_cli.proofs.work_out.accept_behind.Goals as goal
 
@@ -9,7 +9,7 @@ pub returns-clause-accepted : goal.returns-clause-accepted
 returns-clause-accepted c =
     let texts = map (λ text. text.items) c.args.texts.now in
     let stands = next_text_is (λ text. text.items) c.args.texts.now c.args.count c.index-texts-count.result c.deref.result.now c.requires c.index-texts-count.is c.deref.ensures.value in
-    on_ok_also c.accept.result (IsAccepted c.args.problem.now c.deref.result.now) (OfNext (IsAccepted c.args.problem.now) c.args.count texts) (λ h. record { bytes = c.deref.result.now; stands = stands; holds = h }) c.accept.ensures.accepted
+    ok_also c.accept.result (λ d. IsAccepted d c.args.problem.now c.deref.result.now) (λ d. OfNext (IsAccepted d c.args.problem.now) c.args.count texts) (λ d h. record { bytes = c.deref.result.now; stands = stands; holds = h }) c.accept.ensures.accepted
 
 pub returns-clause-stop : goal.returns-clause-stop
 returns-clause-stop c =

@@ -3,7 +3,7 @@ use Rattle.std.proofs.lemmas.List.{length-map}
 use Rattle.glpsol_cli.specs.Cause.{IsAccepted}
 use Rattle.glpsol_cli.specs.Stages.{IsCheckStop, IsFinding, IsSolution, IsUnfound, IsUnsolved, OfNext, texts_in}
 use Rattle.glpsol_cli.proofs.Follow.{err_also, ok_also}
-use Rattle.glpsol_cli.proofs.Works.{one_behind, unsolved, solution_found, solves_by, wants_by, of_checked, unchecked}
+use Rattle.glpsol_cli.proofs.Works.{checks_by, one_behind, unsolved, solution_found, solves_by, wants_by, of_checked, unchecked}
 use Rattle.glpsol_cli.proofs.work_out.finding.Goals as goal
 
 pub returns-in-Solve-clause-fault : goal.returns-in-Solve-clause-fault
@@ -25,14 +25,14 @@ returns-in-Solve-clause-finding c =
 pub returns-in-Ok-clause-finding : goal.returns-in-Ok-clause-finding
 returns-in-Ok-clause-finding c =
     let inputs = c.args.inputs.now in
-    of_checked inputs.settings (texts_in inputs) c.args.problem.now c.in-CheckCertificate.field-0 (rw c.get-settings.ensures at c.in-CheckCertificate.is) c.requires.asked IsAccepted
-    (subst (λ names. OfNext (IsAccepted c.args.problem.now) (length names) (texts_in inputs)) (rw c.get-settings.ensures at c.as_slice-count.ensures)
-    (subst (λ texts. OfNext (IsAccepted c.args.problem.now) (length c.as_slice-count.result.now) (map (λ text. text.items) texts)) c.deref.ensures.value c.in-Ok.ensures.accepted))
+    of_checked inputs.settings (texts_in inputs) c.args.problem.now c.in-CheckCertificate.certificate (checks_by inputs.settings.task c.in-CheckCertificate.certificate c.in-CheckCertificate.migrated (rw c.get-settings.ensures at c.in-CheckCertificate.is)) c.requires.asked (IsAccepted c.in-Ok.certificate)
+    (subst (λ names. OfNext (IsAccepted c.in-Ok.certificate c.args.problem.now) (length names) (texts_in inputs)) (rw c.get-settings.ensures at c.as_slice-count.ensures)
+    (subst (λ texts. OfNext (IsAccepted c.in-Ok.certificate c.args.problem.now) (length c.as_slice-count.result.now) (map (λ text. text.items) texts)) c.deref.ensures.value c.in-Ok.ensures.accepted))
 
 pub returns-in-Err-clause-fault : goal.returns-in-Err-clause-fault
 returns-in-Err-clause-fault c =
     let inputs = c.args.inputs.now in
-    unchecked inputs.settings (texts_in inputs) c.args.problem.now c.in-CheckCertificate.field-0 (rw c.get-settings.ensures at c.in-CheckCertificate.is) c.requires.asked c.in-Err.stop
+    unchecked inputs.settings (texts_in inputs) c.args.problem.now c.in-CheckCertificate.certificate (checks_by inputs.settings.task c.in-CheckCertificate.certificate c.in-CheckCertificate.migrated (rw c.get-settings.ensures at c.in-CheckCertificate.is)) c.requires.asked c.in-Err.stop
     (subst (λ names. OfNext (λ bytes. IsCheckStop c.args.problem.now bytes c.in-Err.stop) (length names) (texts_in inputs)) (rw c.get-settings.ensures at c.as_slice-count.ensures)
     (subst (λ texts. OfNext (λ bytes. IsCheckStop c.args.problem.now bytes c.in-Err.stop) (length c.as_slice-count.result.now) (map (λ text. text.items) texts)) c.deref.ensures.value c.in-Err.ensures.stop))
 
@@ -42,4 +42,4 @@ accept_behind-requires c =
     subst (λ texts. suc (length c.as_slice-count.result.now) < length texts) (sym c.deref.ensures.value)
     (subst (λ names. suc (length names) < length inputs.texts.items) (sym (rw c.get-settings.ensures at c.as_slice-count.ensures))
     (subst (λ n. suc (length inputs.settings.data_files) < n) (length-map inputs.texts.items (λ text. text.items))
-    (one_behind inputs.settings c.in-CheckCertificate.field-0 (length (texts_in inputs)) (rw c.get-settings.ensures at c.in-CheckCertificate.is) c.requires.enough)))
+    (one_behind inputs.settings c.in-CheckCertificate.certificate (length (texts_in inputs)) (checks_by inputs.settings.task c.in-CheckCertificate.certificate c.in-CheckCertificate.migrated (rw c.get-settings.ensures at c.in-CheckCertificate.is)) c.requires.enough)))
