@@ -3,7 +3,6 @@
 
 mod certificates;
 mod columns;
-mod copies;
 mod nodes;
 mod sources;
 mod splits;

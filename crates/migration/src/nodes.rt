@@ -7,7 +7,6 @@ ghost use Rattle.certificate.specs.Ways.{way};
 ghost use Rattle.certificate.specs.Written.{is_tree, IsOfOne};
 
 use crate::columns::own_columns;
-use crate::copies::copy_split;
 use crate::splits::split_weights;
 use certificate::{LeafWeights, Tree, TreeNode, Weights};
 use instance::Instance;
@@ -62,7 +61,7 @@ fn migrated_node(
     ensures { IfOk result (λ made. node_of made ≡ migrated_node problem.now (way tree.now place) (node_of node.now)) }
 {
     match node {
-        TreeNode::Branch(split) => Ok(TreeNode::Branch(copy_split(alloc, split)?)),
+        TreeNode::Branch(split) => Ok(TreeNode::Branch(split.copy(alloc)?)),
         TreeNode::Empty(weights) => Ok(TreeNode::Empty(named(
             alloc,
             problem,
