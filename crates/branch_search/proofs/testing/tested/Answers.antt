@@ -16,7 +16,7 @@ optimal-requires-clause-passes c =
 pub optimal-requires-clause-relaxed : goal.optimal-requires-clause-relaxed
 optimal-requires-clause-relaxed c =
     let f = c.args.found in
-    c.optimal_points.ensures.tested c.args.problem.now c.args.cuts.now c.args.path.now f.point c.args.weights c.requires.point
+    c.optimal_points.ensures.tested c.args.problem.now c.args.cuts.now c.args.path.now f.point c.args.weights c.is_of_columns.ensures c.requires.point
     (own_test c.args.problem.now c.args.cuts.now c.args.path.now f.point c.args.weights c.in-Ok.values.form c.shows_none_better.result (Ok true) c.in-Ok.ensures.form c.shows_none_better.ensures (c.in-Ok-true.is ∙ ap Ok c.in-Ok-true.field-0-test))
 
 pub returns-in-Ok-false : goal.returns-in-Ok-false
