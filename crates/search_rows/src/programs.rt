@@ -119,7 +119,8 @@ fn optimum_words(
     let root = SplitsTaken::new(alloc);
     let path = Path::below(alloc, &root)?;
     let cuts = DerivedRows::new(alloc);
-    match is_optimal(problem, &cuts, &root, &path, &found.point, &found.weights) {
+    let weights = path.named(alloc, problem, &found.weights)?;
+    match is_optimal(alloc, problem, &cuts, &root, &path, &found.point, &weights) {
         Ok(true) => numbers_of(alloc, &found.point),
         _ => "not shown".to_string(alloc),
     }
