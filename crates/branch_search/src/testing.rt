@@ -87,6 +87,7 @@ fn tested(
         Err(fault) => return Verdict::NoFit(fault),
     };
     optimal_points();
+    path.is_of_columns();
     match path.shows_none_better(alloc, problem, cuts, &weights, values.form) {
         Err(fault) => Verdict::NoFit(fault),
         Ok(false) => Verdict::Failed,

@@ -17,7 +17,7 @@ use certificate::{DerivedRows, LeafWeights, Weights};
 use fraction::{Frac, NoFit};
 use instance::{Instance, signed};
 use search_node::{Basis, Node, Site, SplitsTaken, Stuck};
-use search_tree::{Hint, Path, is_node_point, optimal_points};
+use search_tree::{Hint, Path, is_node_point, named_leaves, optimal_points};
 use simplex::{Best, Dictionary, Endless, Relaxed, relax};
 use std::alloc::{AllocError, Global};
 
@@ -335,6 +335,7 @@ fn infeasible(
     ensures { IfOk result (IsTreatment problem.now cuts.now pivot_limit (sides_of node.now.splits) best.now) }
 {
     let named = path.named(alloc, problem, weights)?;
+    named_leaves();
     match path.shows_no_point(alloc, problem, cuts, &named) {
         Ok(true) => Ok(Treatment::Refuted(named)),
         Ok(false) => unreachable!(),
@@ -367,6 +368,7 @@ fn optimal(
         told: None,
     };
     optimal_points();
+    named_leaves();
     match test_optimum(alloc, problem, cuts, path, best, optimum, true)? {
         Verdict::Passed(treatment) => Ok(treatment),
         Verdict::Failed => unreachable!(),

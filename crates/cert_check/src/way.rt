@@ -107,8 +107,10 @@ impl<'t> Way<'t> {
         ensures { result ≡ record { nodes = tree.now; place = place } }
     {
         let mut way = Way::root(alloc, tree);
-        while way.place < place {
+        let mut at = 0;
+        while at < place {
             way.advance();
+            at += 1;
         }
         way
     }

@@ -34,6 +34,7 @@ pub fn is_optimal(
     ensures fault { IfErr result (IsOptimumFault problem.now cuts.now splits.now point.now weights.now) }
 {
     optimal_points();
+    path.is_of_columns();
     if !is_node_point(problem, cuts, splits, point)? {
         return Ok(false);
     }

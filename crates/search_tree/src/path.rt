@@ -11,6 +11,7 @@ ghost use Rattle.cert_check.specs.Parts.{node_answer};
 ghost use Rattle.search_node.specs.Sides.{sides_of};
 ghost use Rattle.search_tree.specs.Work.{node_setting};
 ghost use Rattle.search_tree.specs.Paths.{last_sides};
+ghost use Rattle.search_tree.specs.Points.{AreOfColumns};
 
 use cert_check::{lower_at, makes_column, shows_no_point, shows_none_better, upper_at};
 use certificate::{ColumnSplit, DerivedRows, LeafWeights, Side, Tree, TreeNode, Weights};
@@ -31,10 +32,13 @@ impl Model for Path {
     ghost use Rattle.std.specs.Prelude.{List};
     ghost use Rattle.verdicts.specs.Certificate.{Side as SideOf};
     ghost use Rattle.search_tree.specs.Paths.{last_sides};
+    ghost use Rattle.search_tree.specs.Points.{AreOfColumns};
 
     ghost Value = { List SideOf };
 
     ghost view = { λ p. last_sides p.tree };
+
+    ghost invariant = { λ p. AreOfColumns (last_sides p.tree) };
 }
 
 impl Path {
@@ -68,8 +72,16 @@ impl Path {
         ensures { IfOk result (λ path. path ≡ side_of split side ∷ self) }
     {
         let mut tree = self.tree;
+        let _column = split.column();
         turn(alloc, &mut tree, split, side)?;
         Ok(Path { tree })
+    }
+
+    /// The splits on the way are of columns.
+    pub fn is_of_columns(&self)
+        ensures { AreOfColumns self.now }
+    {
+        let _nodes = self.tree.as_slice();
     }
 
     /// The weights as a certificate has them at the node: where a split on the way gives the bound that the weight of a

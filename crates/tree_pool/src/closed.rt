@@ -7,7 +7,7 @@ ghost use Rattle.tree_pool.specs.Ledger.{closed_in, closed_slots, are_closed};
 
 use crate::kind::held;
 use crate::refs::NodeRef;
-use certificate::{LeafWeights, Tree, TreeNode};
+use certificate::{Tree, TreeNode};
 use search_tree::{Entry, Leaf, Slot};
 use std::alloc::{AllocError, Global};
 
@@ -72,19 +72,10 @@ fn leaf_closed(alloc: Global, leaf: &Leaf) -> Result<Option<TreeNode>, AllocErro
     ensures { IfOk result (λ o. option_map node_of o ≡ closed_node leaf.now) }
 {
     match leaf {
-        Leaf::Refuted(weights) => Ok(Some(TreeNode::Empty(leaf_weights(alloc, weights)?))),
-        Leaf::Bounded(weights) => Ok(Some(TreeNode::Bound(leaf_weights(alloc, weights)?))),
+        Leaf::Refuted(weights) => Ok(Some(TreeNode::Empty(weights.copy(alloc)?))),
+        Leaf::Bounded(weights) => Ok(Some(TreeNode::Bound(weights.copy(alloc)?))),
         _ => Ok(None),
     }
-}
-
-// The same weights.
-fn leaf_weights(alloc: Global, weights: &LeafWeights) -> Result<LeafWeights, AllocError>
-    ensures { IfOk result (λ w. w ≡ weights.now) }
-{
-    let splits = weights.splits().copy(alloc)?;
-    let weights = weights.weights().copy(alloc)?;
-    Ok(LeafWeights::new(weights, splits))
 }
 
 // Each leaf is closed.
