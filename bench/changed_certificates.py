@@ -5,11 +5,12 @@ usage: bench/changed_certificates.py [--ours PATH] [--changes N] [--from SEED]
 
 Twenty problems: those of examples/ in free MPS, six with certificates written by hand (three of version 1 with derived rows, three of
 version 2: a tree, derived rows, a split on a combination), and random ones of up to five columns and rows, at least half of them with a
-tree of several nodes. Each good certificate is changed so many times (1,000), one to three times at once: a digit or a sign, less often
-the kind of a weight, and a line dropped, doubled or moved. The two checkers are to say the same of each text (that it is no
-certificate, which part does not hold, or that it is accepted; where the program says that a number does not fit, the other may say
-anything), and what is accepted has the verdict and the value that are true. It tells where that fails, and its status is then 1. PATH
-is the program; else it is the one that ./glpsol builds.
+tree of several nodes. What the program writes is of version 2; every second of its certificates is turned into one of version 1. Each
+good certificate is changed so many times (1,000), one to three times at once: a digit or a sign, less often the kind of a weight, and a
+line dropped, doubled or moved. The two checkers are to say the same of each text (that it is no certificate, which part does not hold,
+or that it is accepted; where the program says that a number does not fit, the other may say anything), and what is accepted has the
+verdict and the value that are true. It tells where that fails, and its status is then 1. PATH is the program; else it is the one that
+./glpsol builds.
 """
 import argparse
 import collections
@@ -60,6 +61,27 @@ BY_HAND = {
         "derive -1 2:-1\nsplit 1 2:1\nlow 1\nhigh 3 r2:-1 d1:2\ntree\nbound d2:1\nend\n",
     ),
 }
+
+
+def in_version_1(text):
+    """A certificate that the program wrote, in version 1: its splits are of one column each, and their weights become weights of columns."""
+    head, line, tree = text.partition("tree\n")
+    made, ways = ["cert 1\n" + head.partition("\n")[2] + line], [[]]
+    for node in tree.split("\n")[:-2]:
+        word, *items = node.split(" ")
+        way = ways.pop()
+        if word == "split":
+            column = items[1].partition(":")[0]
+            made.append(f"branch {column} {items[0]}\n")
+            ways += [[*way, f"c{column}:"], [*way, f"c{column}:-"]]  # the low side comes first
+        else:
+            of_columns = [way[int(item[1:].partition(":")[0]) - 1] + item.partition(":")[2] if item[0] == "s" else item for item in items]
+            made.append(" ".join([word, *sorted(of_columns, key=place_in_line)]) + "\n")
+    return "".join(made) + ("end\n" if line else "")
+
+
+def place_in_line(item):
+    return "rcd".index(item[0]), int(item[1:].partition(":")[0]), ":-" in item
 
 
 def random_problem(seed):
@@ -176,6 +198,7 @@ def main():
                 with open(file, encoding="utf-8") as it:
                     good = it.read()
                 os.remove(file)
+                good = in_version_1(good) if tried % 2 else good
                 is_single = name.startswith("random") and len(good.partition("tree\n")[2].split("\n")) < 4
                 single += is_single
                 if is_single and single > 4:

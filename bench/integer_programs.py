@@ -132,7 +132,7 @@ class Solvers:
         limit = ["--nodlim", str(self.asked.nodlim)] if self.asked.nodlim is not None else []
         seconds, text = self.run([self.asked.ours, *reads, path, *limit, "--cert", self.certificate])
         objective = re.match(r"OPTIMAL\nobjective \S+ (\S+)", text)
-        splits = len(re.findall(r"^branch ", text_in(self.certificate), re.M))
+        splits = len(re.findall(r"^split ", text_in(self.certificate).partition("\ntree\n")[2], re.M))
         nodes = 2 * splits + 1 if os.path.exists(self.certificate) else None
         verdict = (text.split("\n")[0] or "none").replace("UNDECIDED ", "no ")
         return Found(seconds, verdict, Fraction(objective.group(1)) if objective else None, nodes)

@@ -36,21 +36,37 @@ used_sum-nonzero : (s : System) (v : ℕ) (a y : Rational) → UsesBound s v a y
 used_sum-nonzero s v a y h = nonzero_cases a (λ e z. ap (used_sum s v) e ∙ sym (ap (λ t. t *ℚ y) z ∙ Q.zero-mul y))
     (λ e n. ap (used_sum s v) e ∙ Q.add-zero _ ∙ ap (λ t. a *ℚ t) (ap (λ o. unwrap_or o zero_ℚ) (h n)))
 
+-- weights on variables, of which each uses a bound that is y there: their terms, and what these come to
+module _ (p : Problem) (ds : List Derived) (sides : List Side) (a y : ℕ → Rational)
+    (uses : (v : ℕ) → v < size (system_of p ds sides) → UsesBound (system_of p ds sides) v (a v) (y v)) where
+  pub weights_there_at : terms p ds sides [] (weights_of p ds (λ v. nonzero (a v))) ≡ Some (all_terms p ds sides (λ v. nonzero (a v)))
+  weights_there_at = terms_are p ds sides (λ v. nonzero (a v)) (λ v h. there (system_of p ds sides) v (a v) (y v) (uses v h))
+
+  pub weights_sum_at : (z : ℕ → Rational) → Satisfies (system_of p ds sides) z → value_at z (combined (all_terms p ds sides (λ v. nonzero (a v)))) ≡ sum_below (size (system_of p ds sides)) (λ v. a v *ℚ z v)
+  weights_sum_at z h =
+      terms_value p ds sides (λ v. nonzero (a v)) z h
+      ∙ sum_alike (size (system_of p ds sides)) (λ v. list_sum (nonzero (a v)) *ℚ z v) (λ v. a v *ℚ z v) (λ v k. ap (λ t. t *ℚ z v) (list_sum-nonzero (a v)))
+
+  pub bounds_sum_at : combined_bound (all_terms p ds sides (λ v. nonzero (a v))) ≡ sum_below (size (system_of p ds sides)) (λ v. a v *ℚ y v)
+  bounds_sum_at =
+      terms_bound p ds sides (λ v. nonzero (a v))
+      ∙ sum_alike (size (system_of p ds sides)) (λ v. used_sum (system_of p ds sides) v (nonzero (a v))) (λ v. a v *ℚ y v) (λ v k. used_sum-nonzero (system_of p ds sides) v (a v) (y v) (uses v k))
+
+-- the same, where the weights are the coefficients of a form
 module _ (p : Problem) (ds : List Derived) (sides : List Side) (a : ℕ → Rational) (form : List Entry) (y : ℕ → Rational)
     (below : AllBelow (size (system_of p ds sides)) form)
     (same : (v : ℕ) → v < size (system_of p ds sides) → coefficient_of form v ≡ a v)
     (uses : (v : ℕ) → v < size (system_of p ds sides) → UsesBound (system_of p ds sides) v (a v) (y v)) where
-  pub weights_there : terms p ds sides [] (weights_of p ds (λ v. nonzero (a v))) ≡ Some (all_terms p ds sides (λ v. nonzero (a v)))
-  weights_there = terms_are p ds sides (λ v. nonzero (a v)) (λ v h. there (system_of p ds sides) v (a v) (y v) (uses v h))
-
-  pub weights_value : (z : ℕ → Rational) → Satisfies (system_of p ds sides) z → value_at z (combined (all_terms p ds sides (λ v. nonzero (a v)))) ≡ value_at z form
-  weights_value z h =
-      terms_value p ds sides (λ v. nonzero (a v)) z h
-      ∙ sum_alike (size (system_of p ds sides)) (λ v. list_sum (nonzero (a v)) *ℚ z v) (λ v. coefficient_of form v *ℚ z v) (λ v k. ap (λ t. t *ℚ z v) (list_sum-nonzero (a v) ∙ sym (same v k)))
+  by_column : (z : ℕ → Rational) → sum_below (size (system_of p ds sides)) (λ v. a v *ℚ z v) ≡ value_at z form
+  by_column z =
+      sum_alike (size (system_of p ds sides)) (λ v. a v *ℚ z v) (λ v. coefficient_of form v *ℚ z v) (λ v k. ap (λ t. t *ℚ z v) (sym (same v k)))
       ∙ sym (value_by_column (size (system_of p ds sides)) z form below)
 
+  pub weights_there : terms p ds sides [] (weights_of p ds (λ v. nonzero (a v))) ≡ Some (all_terms p ds sides (λ v. nonzero (a v)))
+  weights_there = weights_there_at p ds sides a y uses
+
+  pub weights_value : (z : ℕ → Rational) → Satisfies (system_of p ds sides) z → value_at z (combined (all_terms p ds sides (λ v. nonzero (a v)))) ≡ value_at z form
+  weights_value z h = weights_sum_at p ds sides a y uses z h ∙ by_column z
+
   pub weights_bound : combined_bound (all_terms p ds sides (λ v. nonzero (a v))) ≡ value_at y form
-  weights_bound =
-      terms_bound p ds sides (λ v. nonzero (a v))
-      ∙ sum_alike (size (system_of p ds sides)) (λ v. used_sum (system_of p ds sides) v (nonzero (a v))) (λ v. coefficient_of form v *ℚ y v) (λ v k. used_sum-nonzero (system_of p ds sides) v (a v) (y v) (uses v k) ∙ ap (λ t. t *ℚ y v) (sym (same v k)))
-      ∙ sym (value_by_column (size (system_of p ds sides)) y form below)
+  weights_bound = bounds_sum_at p ds sides a y uses ∙ by_column y

@@ -16,7 +16,7 @@ pub use Rattle.basis.proofs.Lists.{length-numbers, numbers-below, slice_get_left
 pub use Rattle.basis.proofs.NodeSystems.{derived_form, length-columns, node_size, row_form}
 pub use Rattle.basis.proofs.NodeTerms.{derived-lower, row-lower, row-upper}
 -- tests of numbers against bounds
-pub use Rattle.basis.proofs.Order.{above_some, below_some, le_or_less, neg_above, neg_below, not_le, not_less, signs_of, zero_numerator}
+pub use Rattle.basis.proofs.Order.{above_some, below_some, le_or_less, neg_above, neg_below, nonzero_cases, not_le, not_less, signs_of, zero_numerator}
 pub use Rattle.basis.proofs.Bounds.{none_outside_inside, resting_inside}
 -- what the end of a run shows of its node
 pub use Rattle.basis.proofs.Blocked.{infeasible_shows, refutes_leaf}
@@ -25,3 +25,10 @@ pub use Rattle.basis.proofs.Ends.{optimal_point, optimal_weights_show, unbounded
 -- base numbers, and operations on site numbers
 pub use Rattle.basis.proofs.NumberFacts.{infeasible_weights_base, optimal_point_base, optimal_weights_base, pair_within, run_within_node, unbounded_point_base, unbounded_ray_base}
 pub use Rattle.basis.proofs.Operations.{node_operation}
+-- weights on variables: their terms, with their form and their bound
+pub use Rattle.basis.proofs.NodeTerms.{all_terms, terms_are, terms_value, terms_bound, terms_below}
+pub use Rattle.basis.proofs.FormWeights.{UsesBound, sum_alike, weights_there_at, weights_sum_at, bounds_sum_at}
+pub use Rattle.basis.proofs.Forms.{same_forms}
+pub use Rattle.basis.proofs.NodeSystems.{is_system}
+pub use Rattle.basis.proofs.Coefs.{unit_self, unit_other}
+pub use Rattle.basis.proofs.Values.{value-unit, below-append, below-scaled}

@@ -71,18 +71,21 @@ items_base P f first i (suc count) h = append_base P (items_at i (f first)) (ite
 nonzero_base : (P : Rational → Type 0) (a : Rational) → P a → AllOf P (nonzero a)
 nonzero_base P a h = nonzero_cases a (λ e z. subst (AllOf P) (sym e) tt) (λ e n. subst (AllOf P) (sym e) (h, tt))
 
-pub weights_base : (p : Problem) (ds : List Derived) (sides : List Side) (f : ℕ → List Rational) → ((v : ℕ) → AllOf (IsNodeBase p ds sides) (f v)) → AreNodeWeights p ds sides (weights_of p ds f)
-weights_base p ds sides f h = record {
+pub weights_base : (p : Problem) (ds : List Derived) (sides : List Side) (f : ℕ → List Rational) → ((v : ℕ) → AllOf (IsNodeBase p ds sides) (f v)) → ((v : ℕ) → AllOf (λ a. IsNodeBase p ds sides (neg_ℚ a)) (f v)) → AreNodeWeights p ds sides (weights_of p ds f)
+weights_base p ds sides f h k = record {
   rows = items_base (IsNodeBase p ds sides) f (length p.columns) 0 (length p.rows) h;
   columns = items_base (IsNodeBase p ds sides) f 0 0 (length p.columns) h;
   derived = items_base (IsNodeBase p ds sides) f (length p.columns + length p.rows) 0 (length ds) h;
+  minus_columns = items_base (λ a. IsNodeBase p ds sides (neg_ℚ a)) f 0 0 (length p.columns) k;
 }
 
 pub optimal_weights_base : (p : Problem) (ds : List Derived) (sides : List Side) (x : List Rational) (w : Weights) (b : List Place) (d : Dictionary) → IsOptimalRelaxation p ds sides x w b d → AreNodeWeights p ds sides w
 optimal_weights_base p ds sides x w b d h =
     let P : Weights → Type 0 = AreNodeWeights p ds sides in
-    subst P (sym h.weights) (weights_base p ds sides (optimal_weights d) (λ v. nonzero_base (IsNodeBase p ds sides) (gain_of d v)
-    (IsNodeBase.of_run (coefficient (of_objective b h.is_optimal.before d v h.is_optimal.is_run h.is_optimal.is_dictionary refl)))))
+    let gain : (v : ℕ) → IsCoefficient (system_of p ds sides) (gain_of d v) = λ v. of_objective b h.is_optimal.before d v h.is_optimal.is_run h.is_optimal.is_dictionary refl in
+    subst P (sym h.weights) (weights_base p ds sides (optimal_weights d)
+    (λ v. nonzero_base (IsNodeBase p ds sides) (gain_of d v) (IsNodeBase.of_run (coefficient (gain v))))
+    (λ v. nonzero_base (λ a. IsNodeBase p ds sides (neg_ℚ a)) (gain_of d v) (IsNodeBase.of_run (minus_coefficient (gain_of d v) (gain v) refl))))
 
 -- a weight of a row, and minus it
 row_weight_base : (s : System) (integer : ℕ → Bool) (b : List Place) (before : List (List Place)) (d : Dictionary) (r v : ℕ) → IsRun s b before → IsDictionary s b d → IsBasic b r
@@ -103,6 +106,17 @@ blocking_base p ds sides b before d r AtLower h k basic v = nonzero_base (IsNode
 blocking_base p ds sides b before d r AtUpper h k basic v = nonzero_base (IsNodeBase p ds sides) (neg_ℚ (row_weight d r v)) (IsNodeBase.of_run ((row_weight_base (system_of p ds sides) (integer_at p) b before d r v h k basic).1))
 blocking_base p ds sides b before d r AtZero h k basic v = tt
 
+minus_blocking_base : (p : Problem) (ds : List Derived) (sides : List Side) (b : List Place) (before : List (List Place)) (d : Dictionary) (r : ℕ) (place : Place) → IsRun (system_of p ds sides) b before → IsDictionary (system_of p ds sides) b d → IsBasic b r
+    → (v : ℕ) → AllOf (λ a. IsNodeBase p ds sides (neg_ℚ a)) (blocking_weights d r place v)
+minus_blocking_base p ds sides b before d r Basic h k basic v = tt
+minus_blocking_base p ds sides b before d r AtLower h k basic v =
+    nonzero_base (λ a. IsNodeBase p ds sides (neg_ℚ a)) (row_weight d r v) (IsNodeBase.of_run ((row_weight_base (system_of p ds sides) (integer_at p) b before d r v h k basic).1))
+minus_blocking_base p ds sides b before d r AtUpper h k basic v =
+    let P : Rational → Type 0 = IsNodeBase p ds sides in
+    nonzero_base (λ a. IsNodeBase p ds sides (neg_ℚ a)) (neg_ℚ (row_weight d r v))
+    (subst P (sym (Q.neg_neg (row_weight d r v))) (IsNodeBase.of_run ((row_weight_base (system_of p ds sides) (integer_at p) b before d r v h k basic).0)))
+minus_blocking_base p ds sides b before d r AtZero h k basic v = tt
+
 contradiction_base : (p : Problem) (ds : List Derived) (sides : List Side) (u v : ℕ) → AllOf (IsNodeBase p ds sides) (contradiction_weights u v)
 contradiction_base p ds sides u v = go (v == u)
   where
@@ -110,13 +124,21 @@ contradiction_base p ds sides u v = go (v == u)
     go true = (IsNodeBase.of_run (one_number refl), (IsNodeBase.of_run (minus_one refl), tt))
     go false = tt
 
+minus_contradiction_base : (p : Problem) (ds : List Derived) (sides : List Side) (u v : ℕ) → AllOf (λ a. IsNodeBase p ds sides (neg_ℚ a)) (contradiction_weights u v)
+minus_contradiction_base p ds sides u v = go (v == u)
+  where
+    go : (t : Bool) → AllOf (λ a. IsNodeBase p ds sides (neg_ℚ a)) (cond t (one_ℚ ∷ whole (negsuc 0) ∷ []) [])
+    go true = (IsNodeBase.of_run (minus_one (sym (neg_whole (pos 1)))), (IsNodeBase.of_run (one_number (sym (neg_whole (negsuc 0)))), tt))
+    go false = tt
+
 pub infeasible_weights_base : (p : Problem) (ds : List Derived) (sides : List Side) (w : Weights) → IsInfeasibleRelaxation p ds sides w → AreNodeWeights p ds sides w
 infeasible_weights_base p ds sides w (contradiction u h e) =
     let P : Weights → Type 0 = AreNodeWeights p ds sides in
-    subst P (sym e) (weights_base p ds sides (contradiction_weights u) (contradiction_base p ds sides u))
+    subst P (sym e) (weights_base p ds sides (contradiction_weights u) (contradiction_base p ds sides u) (minus_contradiction_base p ds sides u))
 infeasible_weights_base p ds sides w (blocked b d x r place h e) =
     let P : Weights → Type 0 = AreNodeWeights p ds sides in
-    subst P (sym e) (weights_base p ds sides (blocking_weights d r place) (blocking_base p ds sides b h.before d r place h.is_run h.is_dictionary h.first_outside.holds.basic))
+    let basic : IsBasic b r = h.first_outside.holds.basic in
+    subst P (sym e) (weights_base p ds sides (blocking_weights d r place) (blocking_base p ds sides b h.before d r place h.is_run h.is_dictionary basic) (minus_blocking_base p ds sides b h.before d r place h.is_run h.is_dictionary basic))
 
 -- ---- rays
 

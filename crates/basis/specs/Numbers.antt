@@ -5,7 +5,8 @@ use Rattle.milp.specs.Form.{Entry}
 use Rattle.milp.specs.Problem.{Column, Problem}
 use Rattle.verdicts.specs.Certificate.{Item, Side, Low, High, Weights, Derived}
 use Rattle.verdicts.specs.WeightedSums.{Weighted, coefficient_of}
-use Rattle.verdicts.specs.Proves.{terms}
+use Rattle.verdicts.specs.Proves.{side_form, side_bound, terms}
+use Rattle.verdicts.specs.Migrated.{named}
 use Rattle.basis.specs.System.{System, size, lower_of, upper_of}
 use Rattle.basis.specs.Dictionary.{IsBasic, Dictionary, IsDictionary, rate_of, gain_of, IsBasicPoint}
 use Rattle.basis.specs.Bland.{IsRun}
@@ -133,7 +134,7 @@ abbrev pub at_of : Side → ℤ
 at_of (Low s) = s.at
 at_of (High s) = s.at
 
--- a number of the problem itself, or of a split
+-- a number of the problem itself, or of a split: where it is, the whole number above, or one of the inequality of the side taken
 pub data IsProblemNumber (p : Problem) (sides : List Side) (a : Rational) : Type 0 where
   of_objective : (i : ℕ) (e : Entry) → slice_get p.objective i ≡ Some e → a ≡ e.coefficient → IsProblemNumber p sides a
   of_constant : a ≡ p.constant → IsProblemNumber p sides a
@@ -141,18 +142,21 @@ pub data IsProblemNumber (p : Problem) (sides : List Side) (a : Rational) : Type
   of_column_upper : (j : ℕ) (c : Column) → slice_get p.columns j ≡ Some c → c.upper ≡ Some a → IsProblemNumber p sides a
   of_split : (k : ℕ) (side : Side) → slice_get sides k ≡ Some side → a ≡ whole (at_of side) → IsProblemNumber p sides a
   of_split_above : (k : ℕ) (side : Side) → slice_get sides k ≡ Some side → a ≡ whole (at_of side +ℤ pos 1) → IsProblemNumber p sides a
+  of_side_form : (k : ℕ) (side : Side) (i : ℕ) (e : Entry) → slice_get sides k ≡ Some side → slice_get (side_form side) i ≡ Some e → a ≡ e.coefficient → IsProblemNumber p sides a
+  of_side_bound : (k : ℕ) (side : Side) → slice_get sides k ≡ Some side → a ≡ side_bound side → IsProblemNumber p sides a
 
 pub data IsNodeBase (p : Problem) (ds : List Derived) (sides : List Side) (a : Rational) : Type 0 where
   of_problem : IsProblemNumber p sides a → IsNodeBase p ds sides a
   of_run : IsRunBase (system_of p ds sides) (integer_at p) a → IsNodeBase p ds sides a
 
--- the products that are summed along the problem's objective, or along a list of weights: with a column's coefficients, or with the bounds
+-- the products that are summed along the problem's objective, or along the weights that a certificate has of a node's weights, which
+-- name the splits on the way: with a column's coefficients, or with the bounds
 pub data IsNodeProducts (p : Problem) (ds : List Derived) (sides : List Side) (numbers : List Rational) : Type 0 where
   of_run : IsRunProducts (system_of p ds sides) (integer_at p) numbers → IsNodeProducts p ds sides numbers
   along_objective : (x : ℕ → Rational) → IsPointOrRay (system_of p ds sides) (integer_at p) x → numbers ≡ products_of p.objective x → IsNodeProducts p ds sides numbers
-  along_coefficients : (w : Weights) (ts : List Weighted) (j : ℕ) → IsNodeWeights p ds sides w → terms p ds sides [] w ≡ Some ts
+  along_coefficients : (w : Weights) (ts : List Weighted) (j : ℕ) → IsNodeWeights p ds sides w → terms p ds [] sides (named p sides w) ≡ Some ts
       → numbers ≡ map (λ (t : Weighted). t.weight *ℚ coefficient_of t.form j) ts → IsNodeProducts p ds sides numbers
-  along_bounds : (w : Weights) (ts : List Weighted) → IsNodeWeights p ds sides w → terms p ds sides [] w ≡ Some ts
+  along_bounds : (w : Weights) (ts : List Weighted) → IsNodeWeights p ds sides w → terms p ds [] sides (named p sides w) ≡ Some ts
       → numbers ≡ map (λ (t : Weighted). t.weight *ℚ t.bound) ts → IsNodeProducts p ds sides numbers
 
 -- the numbers of a node: those of the problem and its splits, and of the run of its system
@@ -169,8 +173,9 @@ abbrev pub AllWeights : (Rational → Type 0) → List Item → Type 0
 AllWeights P [] = Unit {0}
 AllWeights P (i ∷ rest) = P i.weight × AllWeights P rest
 
--- all the weights are base numbers of the node
+-- all the weights are base numbers of the node, and the negatives of those of columns too, which are weights of splits
 pub record AreNodeWeights (p : Problem) (ds : List Derived) (sides : List Side) (w : Weights) : Type 0 where
   pub rows : AllWeights (IsNodeBase p ds sides) w.rows
   pub columns : AllWeights (IsNodeBase p ds sides) w.columns
   pub derived : AllWeights (IsNodeBase p ds sides) w.derived
+  pub minus_columns : AllWeights (λ a. IsNodeBase p ds sides (neg_ℚ a)) w.columns

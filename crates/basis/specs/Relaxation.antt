@@ -4,7 +4,7 @@ use Rattle.rational.specs.Rational.{Rational, zero_ℚ, ◌*ℚ◌, ◌<ℚ◌}
 use Rattle.milp.specs.Form.{sum_at}
 use Rattle.milp.specs.Problem.{Problem}
 use Rattle.milp.specs.Points.{sign_of}
-use Rattle.verdicts.specs.Certificate.{One, Side, Weights, Derived, Verdict, Unbounded, TreeNode, Certificate}
+use Rattle.verdicts.specs.Certificate.{Two, Side, Weights, Derived, Verdict, Unbounded, TreeNode, Certificate}
 use Rattle.verdicts.specs.WeightedSums.{scaled, Weighted, combined, combined_bound}
 use Rattle.verdicts.specs.Proves.{same_form, terms}
 use Rattle.basis.specs.System.{System, AreBoundsInOrder, AllInside}
@@ -91,7 +91,7 @@ pub record ShowsInfeasible (p : Problem) (ds : List Derived) (sides : List Side)
 -- a certificate without derived rows, whose tree is one leaf
 abbrev pub leaf_certificate : Problem → Verdict → Option Rational → Option (List Rational) → TreeNode → Certificate
 leaf_certificate p verdict value point leaf = record {
-  version = One;
+  version = Two;
   rows = length p.rows;
   columns = length p.columns;
   verdict = verdict;
@@ -105,7 +105,7 @@ leaf_certificate p verdict value point leaf = record {
 -- a certificate of a point and a ray
 abbrev pub point_certificate : Problem → List Rational → List Rational → Certificate
 point_certificate p x ray = record {
-  version = One;
+  version = Two;
   rows = length p.rows;
   columns = length p.columns;
   verdict = Unbounded;

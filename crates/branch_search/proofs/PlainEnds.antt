@@ -4,7 +4,7 @@ use Rattle.rational.specs.Rational.{Rational}
 use Rattle.fraction.specs.declared.frac.NoFit.{NoFit}
 use Rattle.milp.specs.Problem.{Column, Problem}
 use Rattle.milp.specs.Points.{Feasible, IsImprovingRay, objective_value}
-use Rattle.verdicts.specs.Certificate.{One, Weights, Derived, TreeNode, Empty, Bound, Verdict, Optimal, Infeasible, Unbounded, Certificate}
+use Rattle.verdicts.specs.Certificate.{Two, Weights, Derived, TreeNode, Empty, Bound, Verdict, Optimal, Infeasible, Unbounded, Certificate}
 use Rattle.verdicts.specs.Proves.{is_integer, node_passes}
 use Rattle.verdicts.proofs.Laws.{leaf_empty}
 use Rattle.certificate.specs.Written.{split_column}
@@ -33,7 +33,7 @@ not_integer (Some c) h e = let never : true ≡ false = sym e ∙ h in cc
 -- the certificate of these parts
 abbrev made_of : Problem → List Derived → Option (List Rational) → Tree → Certificate
 made_of p ds best t = record {
-  version = One;
+  version = Two;
   rows = length p.rows;
   columns = length p.columns;
   verdict = verdict_of best;
@@ -44,13 +44,13 @@ made_of p ds best t = record {
   tree = nodes_of t;
 }
 
-passing : (p : Problem) (goal : Option Rational) (node : TreeNode) → NodePasses p goal [] [] node → node_passes p One goal [] [] node ≡ true
-passing p goal node h = let P : Result Bool NoFit → Type 0 = λ r. IfOk r (λ b. b ≡ node_passes p One goal [] [] node) in sym (subst P h (node_ok p One goal [] [] node))
+passing : (p : Problem) (goal : Option Rational) (node : TreeNode) → NodePasses p goal [] [] node → node_passes p Two goal [] [] node ≡ true
+passing p goal node h = let P : Result Bool NoFit → Type 0 = λ r. IfOk r (λ b. b ≡ node_passes p Two goal [] [] node) in sym (subst P h (node_ok p Two goal [] [] node))
 
 -- no feasible point is refuted
 refuted : (p : Problem) (best : Option (List Rational)) (w : Weights) → IfSome best (λ x. Feasible p x × HasSums p x) → NodePasses p (option_map (objective_value p) best) [] [] (Empty w) → IsPlainCertificate p (made_of p [] best (AtLeaf (Refuted w)))
 refuted p None w best h = IsPlainCertificate.infeasible w refl
-refuted p (Some x) w best h = absurd (leaf_empty p One (Some (objective_value p x)) [] [] w x (passing p (Some (objective_value p x)) (Empty w) h) best.0.relaxed tt (λ k. tt))
+refuted p (Some x) w best h = absurd (leaf_empty p Two (Some (objective_value p x)) [] [] w x (passing p (Some (objective_value p x)) (Empty w) h) best.0.relaxed tt (λ k. tt))
 
 bounded : (p : Problem) (best : Option (List Rational)) (w : Weights) → IfSome best (λ x. Feasible p x × HasSums p x) → NodePasses p (option_map (objective_value p) best) [] [] (Bound w) → IsPlainCertificate p (made_of p [] best (AtLeaf (Bounded w)))
 bounded p None w best h = cc

@@ -9,14 +9,15 @@ use Rattle.milp.specs.Form.{number_at}
 use Rattle.milp.specs.Problem.{Problem}
 use Rattle.milp.specs.Points.{objective_value, sign_of}
 use Rattle.milp.specs.declared.Direction.{Direction}
-use Rattle.verdicts.specs.Certificate.{One, Side, Split, Weights, Derived, TreeNode, Empty, Bound}
+use Rattle.verdicts.specs.Certificate.{Two, Side, Split, Weights, Derived, TreeNode, Empty, Bound}
 use Rattle.verdicts.specs.Proves.{node_passes}
+use Rattle.verdicts.specs.Migrated.{named}
 use Rattle.certificate.specs.Written.{column_split}
 use Rattle.basis.specs.Node.{system_of, IsOverColumns}
 use Rattle.basis.specs.Dictionary.{Dictionary}
 use Rattle.basis.specs.Relaxation.{IsOptimalRelaxation, IsInfeasibleRelaxation}
 use Rattle.basis.specs.declared.Place.{Place}
-use Rattle.basis.proofs.Laws.{unbounded_point, unbounded_ray, optimal_passes, optimal_weights_show, infeasible_shows, refutes_leaf}
+use Rattle.basis.proofs.Laws.{unbounded_point, unbounded_ray, optimal_weights_show, infeasible_shows}
 use Rattle.cert_check.specs.Parts.{node_answer}
 use Rattle.cert_check.specs.Outcome.{form_goal}
 use Rattle.cert_check.proofs.Laws.{node_ok}
@@ -30,6 +31,7 @@ use Rattle.simplex.specs.declared.answers.Relaxed.{Relaxed}
 use Rattle.simplex.specs.declared.answers.Relaxed.TheVariants.{Infeasible, Unbounded}
 use Rattle.simplex.specs.declared.answers.Endless.{Endless}
 use Rattle.search_tree.specs.Work.{node_setting, IsWorkFault}
+use Rattle.search_tree.specs.Named.{EmptyIsNamed, BoundIsNamed}
 use Rattle.search_tree.specs.Pinned.{IsPinned}
 use Rattle.search_tree.specs.Nodes.{IsRelaxedOptimum, IsHonestSplit, Beats}
 use Rattle.search_tree.specs.Kept.{IsNoBetter}
@@ -81,14 +83,20 @@ stuck_fault p ds node limit r stuck site fault e f g h =
 -- ---- tests that don't fail
 
 -- a test that passes by the rule does not fail
-not_failing : (p : Problem) (goal : Option Rational) (ds : List Derived) (sides : List Side) (node : TreeNode) → node_passes p One goal ds sides node ≡ true → node_answer (node_setting p ds sides) (form_goal p goal) node ≡ Ok false → ⊥
+not_failing : (p : Problem) (goal : Option Rational) (ds : List Derived) (sides : List Side) (node : TreeNode) → node_passes p Two goal ds sides node ≡ true → node_answer (node_setting p ds sides) (form_goal p goal) node ≡ Ok false → ⊥
 not_failing p goal ds sides node h e =
-    let P : Result Bool Operation → Type 0 = λ r. IfOk r (λ b. b ≡ node_passes p One goal ds sides node) in
-    let never : false ≡ true = subst P e (node_ok p One goal ds sides node) ∙ h in
+    let P : Result Bool Operation → Type 0 = λ r. IfOk r (λ b. b ≡ node_passes p Two goal ds sides node) in
+    let never : false ≡ true = subst P e (node_ok p Two goal ds sides node) ∙ h in
     cc
 
-pub refuted : (p : Problem) (ds : List Derived) (sides : List Side) (w : Weights) → IsOverColumns p ds sides → IsInfeasibleRelaxation p ds sides w → node_answer (node_setting p ds sides) None (Empty w) ≡ Ok false → ⊥
-refuted p ds sides w over h = not_failing p None ds sides (Empty w) (refutes_leaf p ds sides w (infeasible_shows p ds sides w over h))
+pub refuted : EmptyIsNamed → (p : Problem) (ds : List Derived) (sides : List Side) (w : Weights) → IsOverColumns p ds sides → IsInfeasibleRelaxation p ds sides w → node_answer (node_setting p ds sides) None (Empty (named p sides w)) ≡ Ok false → ⊥
+refuted law p ds sides w over h = not_failing p None ds sides (Empty (named p sides w)) (law p None ds sides w (infeasible_shows p ds sides w over h))
+
+-- the test of weights that name the splits of the path
+pub at_node : (p : Problem) (ds : List Derived) (path there : List Side) (w made : Weights) (r : Result Bool Operation) → path ≡ there → made ≡ named p path w → r ≡ node_answer (node_setting p ds path) None (Empty made) → r ≡ node_answer (node_setting p ds there) None (Empty (named p there w))
+at_node p ds path there w made r e f h =
+    let P : List Side → Type 0 = λ sides. r ≡ node_answer (node_setting p ds sides) None (Empty (named p sides w)) in
+    subst P e (h ∙ ap (λ v. node_answer (node_setting p ds path) None (Empty v)) f)
 
 -- ---- splits
 
@@ -110,11 +118,11 @@ passed_at p ds path there best x w basic t treatment e f h limit =
     let A : List Side → Type 0 = λ sides. IsTreatment p ds limit sides best treatment in
     subst A e (subst P f h limit)
 
-pub never_failed : (p : Problem) (ds : List Derived) (path there : List Side) (best : Option Rational) (x : List Rational) (w : Weights) (b : List Place) (d : Dictionary) (basic : Bool) (t : Verdict) → path ≡ there → t ≡ Failed → IsVerdict p ds path best x w basic t → IsOverColumns p ds there → IsOptimalRelaxation p ds there x w b d → ⊥
-never_failed p ds path there best x w b d basic t e f h over found =
+pub never_failed : BoundIsNamed → (p : Problem) (ds : List Derived) (path there : List Side) (best : Option Rational) (x : List Rational) (w : Weights) (b : List Place) (d : Dictionary) (basic : Bool) (t : Verdict) → path ≡ there → t ≡ Failed → IsVerdict p ds path best x w basic t → IsOverColumns p ds there → IsOptimalRelaxation p ds there x w b d → ⊥
+never_failed law p ds path there best x w b d basic t e f h over found =
     let P : Verdict → Type 0 = λ u. IsVerdict p ds path best x w basic u in
-    let A : List Side → Type 0 = λ sides. node_answer (node_setting p ds sides) (form_goal p (Some (objective_value p x))) (Bound w) ≡ Ok false in
-    not_failing p (Some (objective_value p x)) ds there (Bound w) (optimal_passes p ds there x w (optimal_weights_show p ds there x w b d over found)) (subst A e (subst P f h))
+    let A : List Side → Type 0 = λ sides. node_answer (node_setting p ds sides) (form_goal p (Some (objective_value p x))) (Bound (named p sides w)) ≡ Ok false in
+    not_failing p (Some (objective_value p x)) ds there (Bound (named p there w)) (law p ds there x w (optimal_weights_show p ds there x w b d over found)) (subst A e (subst P f h))
 
 pub fault_at : (p : Problem) (ds : List Derived) (path there : List Side) (best : Option Rational) (x : List Rational) (w : Weights) (b : List Place) (d : Dictionary) (basic : Bool) (t : Verdict) (fault : Operation) → path ≡ there → t ≡ NoFit fault → IsVerdict p ds path best x w basic t → IsOptimalRelaxation p ds there x w b d → IsWorkFault p ds there fault
 fault_at p ds path there best x w b d basic t fault e f h found =

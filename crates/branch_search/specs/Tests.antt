@@ -6,6 +6,7 @@ use Rattle.milp.specs.Points.{objective_value}
 use Rattle.fraction.specs.declared.frac.NoFit.{NoFit as Operation}
 use Rattle.instance.specs.Sums.{value_answer, meets_answer}
 use Rattle.verdicts.specs.Certificate.{Side, Weights, Derived, Bound}
+use Rattle.verdicts.specs.Migrated.{named}
 use Rattle.cert_check.specs.Parts.{node_answer}
 use Rattle.cert_check.specs.Outcome.{form_goal}
 use Rattle.basis.specs.Node.{system_of}
@@ -19,15 +20,16 @@ use Rattle.branch_search.specs.declared.testing.Verdict.TheVariants.{Passed, Fai
 abbrev pub AllPinned : Problem → List Derived → List Side → List Rational → Type 0
 AllPinned p ds sides x = (j : ℕ) → j < length p.columns → IsPinned (system_of p ds sides) x j
 
--- an operation that does not fit: of the value of the point, of the test of the weights, or of the test of the point
+-- an operation that does not fit: of the value of the point, of the test of the weights, which name the splits on the way, or of the
+-- test of the point
 pub data IsTestFault (p : Problem) (ds : List Derived) (sides : List Side) (x : List Rational) (w : Weights) (e : Operation) : Type 0 where
   of_value : value_answer p x ≡ Err e → IsTestFault p ds sides x w e
-  of_weights : node_answer (node_setting p ds sides) (form_goal p (Some (objective_value p x))) (Bound w) ≡ Err e → IsTestFault p ds sides x w e
+  of_weights : node_answer (node_setting p ds sides) (form_goal p (Some (objective_value p x))) (Bound (named p sides w)) ≡ Err e → IsTestFault p ds sides x w e
   of_point : meets_answer p x ≡ Err e → IsTestFault p ds sides x w e
 
 -- what a test tells of a point, of which it may be known that it is that of a basis
 abbrev pub IsVerdict : Problem → List Derived → List Side → Option Rational → List Rational → Weights → Bool → Verdict → Type 0
 IsVerdict p ds sides best x w basic (Passed t) = (limit : ℕ) → IsTreatment p ds limit sides best t
-IsVerdict p ds sides best x w basic Failed = node_answer (node_setting p ds sides) (form_goal p (Some (objective_value p x))) (Bound w) ≡ Ok false
+IsVerdict p ds sides best x w basic Failed = node_answer (node_setting p ds sides) (form_goal p (Some (objective_value p x))) (Bound (named p sides w)) ≡ Ok false
 IsVerdict p ds sides best x w basic NotTold = basic ≡ false
 IsVerdict p ds sides best x w basic (NoFit e) = IsTestFault p ds sides x w e

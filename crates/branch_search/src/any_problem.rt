@@ -1,5 +1,6 @@
 // The verdict of a problem.
 ghost use Rattle.std.specs.Prelude.{◌≡◌, IfOk, IfErr};
+ghost use Rattle.verdicts.specs.Certificate.{Two};
 ghost use Rattle.verdicts.specs.Proves.{Proves};
 ghost use Rattle.cert_check.specs.Outcome.{Acceptance, outcome, trials};
 ghost use Rattle.branch_search.specs.Plain.{NoneInteger, IsPlainCertificate};
@@ -13,8 +14,8 @@ use certificate::Certificate;
 use instance::Instance;
 use std::alloc::Global;
 
-/// The verdict of a problem, with its certificate, which proves it and which the checker accepts. Each search makes at most
-/// `split_limit` splits, and at each node the simplex method, where nothing else decides, takes at most `pivot_limit` steps.
+/// The verdict of a problem, with its certificate of version 2, which proves it and which the checker accepts. Each search
+/// makes at most `split_limit` splits, and at each node the simplex method, where nothing else decides, takes at most `pivot_limit` steps.
 ///
 /// Where no column is integer, the search is of one node, and the certificate has no derived row and one leaf at most.
 ///
@@ -31,6 +32,7 @@ pub fn solve(
 ) -> Result<Certificate, VerdictFault>
     ensures proves { IfOk result (λ c. Proves problem.now c) }
     ensures accepted { IfOk result (λ c. outcome (trials problem.now c) ≡ Acceptance) }
+    ensures version { IfOk result (λ c. c.version ≡ Two) }
     ensures plain { NoneInteger problem.now.columns → IfOk result (λ c. IsPlainCertificate problem.now c) }
     ensures fault { IfErr result (IsFault problem.now split_limit pivot_limit) }
     ensures unlimited { pivot_limit ≡ 0 → IfErr result IsNotByPivots }

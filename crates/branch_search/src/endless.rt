@@ -1,5 +1,6 @@
 // Problems that a ray improves: unbounded with a feasible point, and infeasible without one.
 ghost use Rattle.std.specs.Prelude.{◌≡◌, [], length, IfOk, IfErr};
+ghost use Rattle.verdicts.specs.Certificate.{Two};
 ghost use Rattle.verdicts.specs.Proves.{Proves};
 ghost use Rattle.basis.specs.Relaxation.{point_certificate};
 ghost use Rattle.cert_check.specs.Outcome.{Acceptance, outcome, trials};
@@ -29,6 +30,7 @@ pub(crate) fn beyond(
     requires { IsEndlessAt problem.now [] split_limit ray }
     ensures proves { IfOk result (λ c. Proves problem.now c) }
     ensures accepted { IfOk result (λ c. outcome (trials problem.now c) ≡ Acceptance) }
+    ensures version { IfOk result (λ c. c.version ≡ Two) }
     ensures plain { NoneInteger problem.now.columns → IfOk result (λ c. IsPlainCertificate problem.now c) }
     ensures fault { IfErr result (IsFault problem.now split_limit pivot_limit) }
 {
@@ -50,6 +52,7 @@ fn at_once(
     requires ray { IsEndlessAt problem.now [] split_limit ray }
     ensures proves { IfOk result (λ c. Proves problem.now c) }
     ensures accepted { IfOk result (λ c. outcome (trials problem.now c) ≡ Acceptance) }
+    ensures version { IfOk result (λ c. c.version ≡ Two) }
     ensures plain { NoneInteger problem.now.columns → IfOk result (λ c. IsPlainCertificate problem.now c) }
     ensures fault { IfErr result (IsAfterSearch problem.now split_limit) }
 {
@@ -68,6 +71,7 @@ fn searched(
     requires { IsEndlessAt problem.now [] split_limit ray }
     ensures proves { IfOk result (λ c. Proves problem.now c) }
     ensures accepted { IfOk result (λ c. outcome (trials problem.now c) ≡ Acceptance) }
+    ensures version { IfOk result (λ c. c.version ≡ Two) }
     ensures plain { NoneInteger problem.now.columns → IfOk result (λ c. IsPlainCertificate problem.now c) }
     ensures fault { IfErr result (IsFault problem.now split_limit pivot_limit) }
 {
@@ -91,10 +95,12 @@ fn decided(
 ) -> Result<Certificate, VerdictFault>
     requires proves { Proves (without_objective problem.now) certificate }
     requires accepted { outcome (trials (without_objective problem.now) certificate) ≡ Acceptance }
+    requires version { certificate.version ≡ Two }
     requires plain { NoneInteger problem.now.columns → IsPlainCertificate (without_objective problem.now) certificate }
     requires ray { IsEndlessAt problem.now [] split_limit ray }
     ensures proves { IfOk result (λ c. Proves problem.now c) }
     ensures accepted { IfOk result (λ c. outcome (trials problem.now c) ≡ Acceptance) }
+    ensures version { IfOk result (λ c. c.version ≡ Two) }
     ensures plain { NoneInteger problem.now.columns → IfOk result (λ c. IsPlainCertificate problem.now c) }
     ensures fault { IfErr result (IsAfterSearch problem.now split_limit) }
 {
@@ -117,6 +123,7 @@ fn improved(
     requires ray { IsEndlessAt problem.now [] split_limit ray }
     ensures proves { IfOk result (λ c. Proves problem.now c) }
     ensures accepted { IfOk result (λ c. outcome (trials problem.now c) ≡ Acceptance) }
+    ensures version { IfOk result (λ c. c.version ≡ Two) }
     ensures plain { NoneInteger problem.now.columns → IfOk result (λ c. IsPlainCertificate problem.now c) }
     ensures fault { IfErr result (IsAfterSearch problem.now split_limit) }
 {
@@ -141,6 +148,7 @@ fn checked(
     requires ray { IsEndlessAt problem.now [] split_limit ray }
     ensures proves { IfOk result (λ c. Proves problem.now c) }
     ensures accepted { IfOk result (λ c. outcome (trials problem.now c) ≡ Acceptance) }
+    ensures version { IfOk result (λ c. c.version ≡ Two) }
     ensures plain { NoneInteger problem.now.columns → IfOk result (λ c. IsPlainCertificate problem.now c) }
     ensures fault { IfErr result (IsAfterSearch problem.now split_limit) }
 {
@@ -165,5 +173,5 @@ fn of_ray(alloc: Global, problem: &Instance, point: Point, ray: Point) -> Certif
     problem.keeps_its_limits();
     let columns = problem.columns().len() as u32;
     let rows = problem.rows().len() as u32;
-    Certificate::unbounded(alloc, Version::One, rows, columns, point, ray)
+    Certificate::unbounded(alloc, Version::Two, rows, columns, point, ray)
 }

@@ -6,6 +6,7 @@ ghost use Rattle.milp.specs.Form.{sum_at};
 ghost use Rattle.milp.specs.Points.{AreWhole, objective_value, sign_of};
 ghost use Rattle.instance.specs.Sums.{value_answer};
 ghost use Rattle.verdicts.specs.Certificate.{Bound};
+ghost use Rattle.verdicts.specs.Migrated.{named};
 ghost use Rattle.basis.specs.Node.{system_of, IsOverColumns, IsNodePoint};
 ghost use Rattle.search_tree.specs.Nodes.{NodePasses, IsRelaxedOptimum, Beats};
 ghost use Rattle.search_tree.specs.Pinned.{IsPinned};
@@ -15,11 +16,12 @@ ghost use Rattle.branch_search.specs.Fractions.{IsFraction};
 
 use crate::treatment::{Found, Fractional, Treatment};
 use candidate::ProposedOptimum;
-use certificate::{ColumnSplit, DerivedRows, WholeNumber};
+use certificate::{ColumnSplit, DerivedRows, LeafWeights, WholeNumber};
 use fraction::{Frac, NoFit};
 use instance::{Column, Instance, Point, meets, signed};
 use milp::Direction;
 use search_tree::{Path, bounded_leaves, form_value, optimal_points, shows_told};
+use std::alloc::{AllocError, Global};
 
 /// What comes of a test.
 #[derive(Drop)]
@@ -41,20 +43,43 @@ struct Values {
     objective: Frac,
 }
 
-/// The test of a point of the node's relaxation and of its weights, and what becomes of the node where they pass: it has
-/// none better than the best, the point is a better one, or the node is to be split. A node is split only where what rests at
-/// the point tells the column's number: so it is where the point is `basic`, that of a basis, and else by a test of its own.
+/// The test of a point of the node's relaxation and of its weights, which name the splits on the way for it, and what becomes
+/// of the node where they pass: it has none better than the best, the point is a better one, or the node is to be split. A
+/// node is split only where what rests at the point tells the column's number: so it is where the point is `basic`, that of a
+/// basis, and else by a test of its own.
 pub(crate) fn test_optimum(
+    alloc: Global,
     problem: &Instance,
     cuts: &DerivedRows,
     path: &Path,
     best: &Option<Frac>,
     found: ProposedOptimum,
     basic: bool,
+) -> Result<Verdict, AllocError>
+    requires over { IsOverColumns problem.now cuts.now path.now }
+    requires point { IsNodePoint problem.now cuts.now path.now found.point }
+    requires basic { basic ≡ true → AllPinned problem.now cuts.now path.now found.point }
+    ensures { IfOk result (IsVerdict problem.now cuts.now path.now best.now found.point found.weights basic) }
+{
+    let weights = path.named(alloc, problem, &found.weights)?;
+    Ok(tested(alloc, problem, cuts, path, best, found, weights, basic))
+}
+
+// The test of the weights that name the splits.
+fn tested(
+    alloc: Global,
+    problem: &Instance,
+    cuts: &DerivedRows,
+    path: &Path,
+    best: &Option<Frac>,
+    found: ProposedOptimum,
+    weights: LeafWeights,
+    basic: bool,
 ) -> Verdict
     requires over { IsOverColumns problem.now cuts.now path.now }
     requires point { IsNodePoint problem.now cuts.now path.now found.point }
     requires basic { basic ≡ true → AllPinned problem.now cuts.now path.now found.point }
+    requires named { weights ≡ named problem.now path.now found.weights }
     ensures { IsVerdict problem.now cuts.now path.now best.now found.point found.weights basic result }
 {
     let values = match values_at(problem, &found.point) {
@@ -62,10 +87,20 @@ pub(crate) fn test_optimum(
         Err(fault) => return Verdict::NoFit(fault),
     };
     optimal_points();
-    match path.shows_none_better(problem, cuts, &found.weights, values.form) {
+    path.is_of_columns();
+    match path.shows_none_better(alloc, problem, cuts, &weights, values.form) {
         Err(fault) => Verdict::NoFit(fault),
         Ok(false) => Verdict::Failed,
-        Ok(true) => optimal(problem, cuts, path, best, values.objective, found, basic),
+        Ok(true) => optimal(
+            problem,
+            cuts,
+            path,
+            best,
+            values.objective,
+            found,
+            weights,
+            basic,
+        ),
     }
 }
 
@@ -89,10 +124,11 @@ fn optimal(
     best: &Option<Frac>,
     objective: Frac,
     found: ProposedOptimum,
+    weights: LeafWeights,
     basic: bool,
 ) -> Verdict
     requires relaxed { IsRelaxedOptimum problem.now cuts.now path.now found.point }
-    requires passes { NodePasses problem.now (Some (objective_value problem.now found.point)) cuts.now path.now (Bound found.weights) }
+    requires passes { NodePasses problem.now (Some (objective_value problem.now found.point)) cuts.now path.now (Bound weights) }
     requires value { objective ≡ objective_value problem.now found.point }
     requires sum { value_answer problem.now found.point ≡ Ok objective }
     requires over { IsOverColumns problem.now cuts.now path.now }
@@ -101,11 +137,11 @@ fn optimal(
 {
     bounded_leaves();
     if !is_better(problem.direction(), objective, best) {
-        return Verdict::Passed(Treatment::Bounded(found.weights));
+        return Verdict::Passed(Treatment::Bounded(weights));
     }
     match fraction(problem.columns(), &found.point, found.column) {
         Some(j) => told(problem, cuts, path, best, objective, found, basic, j),
-        None => whole(problem, cuts, path, best, objective, found, basic),
+        None => whole(problem, cuts, path, best, objective, found, weights, basic),
     }
 }
 
@@ -127,10 +163,11 @@ fn whole(
     best: &Option<Frac>,
     objective: Frac,
     found: ProposedOptimum,
+    weights: LeafWeights,
     basic: bool,
 ) -> Verdict
     requires relaxed { IsRelaxedOptimum problem.now cuts.now path.now found.point }
-    requires passes { NodePasses problem.now (Some (objective_value problem.now found.point)) cuts.now path.now (Bound found.weights) }
+    requires passes { NodePasses problem.now (Some (objective_value problem.now found.point)) cuts.now path.now (Bound weights) }
     requires value { objective ≡ objective_value problem.now found.point }
     requires sum { value_answer problem.now found.point ≡ Ok objective }
     requires whole { AreWhole problem.now found.point }
@@ -143,7 +180,7 @@ fn whole(
         Ok(true) => Verdict::Passed(Treatment::Feasible(Found {
             point: found.point,
             value: objective,
-            weights: found.weights,
+            weights,
         })),
     }
 }

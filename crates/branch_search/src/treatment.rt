@@ -1,6 +1,6 @@
 // What becomes of a node.
 
-use certificate::{ColumnSplit, Weights};
+use certificate::{ColumnSplit, LeafWeights};
 use fraction::{Frac, NoFit};
 use instance::Point;
 use search_node::{Bases, Basis};
@@ -11,7 +11,7 @@ use simplex::Endless;
 pub struct Found {
     pub point: Point,
     pub value: Frac,
-    pub weights: Weights,
+    pub weights: LeafWeights,
 }
 
 /// A split of an integer column whose number at an optimal point of the node's relaxation is not whole, the value of this
@@ -23,13 +23,14 @@ pub struct Fractional {
     pub basis: Basis,
 }
 
-/// What becomes of a node, given the best value so far.
+/// What becomes of a node, given the best value so far. Weights are those of a certificate's leaf, which name the splits on
+/// the way.
 #[derive(Drop)]
 pub enum Treatment {
     /// It has no point, as the weights show.
-    Refuted(Weights),
+    Refuted(LeafWeights),
     /// It has no point that is better than the best, as the weights show.
-    Bounded(Weights),
+    Bounded(LeafWeights),
     /// An optimal point of its relaxation is feasible.
     Feasible(Found),
     /// It is to be split.

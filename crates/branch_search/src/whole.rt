@@ -1,5 +1,6 @@
 // The whole search.
 ghost use Rattle.std.specs.Prelude.{◌≡◌, [], IfOk, IfErr};
+ghost use Rattle.verdicts.specs.Certificate.{Two};
 ghost use Rattle.verdicts.specs.Proves.{Proves};
 ghost use Rattle.cert_check.specs.Outcome.{Acceptance, outcome, trials};
 ghost use Rattle.search_tree.specs.Finished.{IsFinished};
@@ -20,7 +21,7 @@ use std::alloc::Global;
 use tree_pool::Board;
 
 /// The verdict of a problem by a search over its integer columns, with its certificate, which proves it and which the
-/// checker accepts; where no column is integer, it has no derived row and one leaf at most. The search makes at most
+/// checker accepts, in version 2; where no column is integer, it has no derived row and one leaf at most. The search makes at most
 /// `split_limit` splits, and at each node Bland's run, where nothing else decides, takes at most `pivot_limit` steps.
 ///
 /// A fault tells an operation of the work at a node that does not fit, or a run that is too long, each on an honest way;
@@ -33,6 +34,7 @@ pub fn search(
 ) -> Result<Certificate, SearchFault>
     ensures proves { IfOk result (λ c. Proves problem.now c) }
     ensures accepted { IfOk result (λ c. outcome (trials problem.now c) ≡ Acceptance) }
+    ensures version { IfOk result (λ c. c.version ≡ Two) }
     ensures plain { NoneInteger problem.now.columns → IfOk result (λ c. IsPlainCertificate problem.now c) }
     ensures fault { IfErr result (IsFault problem.now [] split_limit pivot_limit) }
 {
@@ -113,6 +115,7 @@ fn ended(alloc: Global, board: Board) -> Result<Certificate, SearchFault>
     requires cuts { board.cuts ≡ [] }
     ensures proves { IfOk result (λ c. Proves board.problem c) }
     ensures accepted { IfOk result (λ c. outcome (trials board.problem c) ≡ Acceptance) }
+    ensures version { IfOk result (λ c. c.version ≡ Two) }
     ensures plain { NoneInteger board.problem.columns → IfOk result (λ c. IsPlainCertificate board.problem c) }
     ensures fault { IfErr result (IsFault board.problem board.cuts board.split_limit board.pivot_limit) }
 {

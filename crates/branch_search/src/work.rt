@@ -13,11 +13,11 @@ use crate::testing::{Verdict, test_optimum};
 use crate::treatment::Treatment;
 use candidate::{Candidate, ProposedOptimum, ProposedRay, Proposer};
 use cert_check::is_improving_ray;
-use certificate::{DerivedRows, Weights};
+use certificate::{DerivedRows, LeafWeights, Weights};
 use fraction::{Frac, NoFit};
 use instance::{Instance, signed};
 use search_node::{Basis, Node, Site, SplitsTaken, Stuck};
-use search_tree::{Hint, Path, is_node_point, optimal_points};
+use search_tree::{Hint, Path, is_node_point, named_leaves, optimal_points};
 use simplex::{Best, Dictionary, Endless, Relaxed, relax};
 use std::alloc::{AllocError, Global};
 
@@ -69,59 +69,89 @@ pub fn treat_with(
     ensures { IfOk result (IsTreatment problem.now cuts.now pivot_limit (sides_of node.now.splits) best.now) }
 {
     let path = Path::below(alloc, &node.splits)?;
-    match proposed(problem, cuts, &node.splits, &path, best, candidate) {
+    treat_at(
+        alloc,
+        problem,
+        cuts,
+        node,
+        &path,
+        best,
+        pivot_limit,
+        candidate,
+    )
+}
+
+// The same at the node's path.
+fn treat_at(
+    alloc: Global,
+    problem: &Instance,
+    cuts: &DerivedRows,
+    node: &Node,
+    path: &Path,
+    best: &Option<Frac>,
+    pivot_limit: u32,
+    candidate: Option<Candidate>,
+) -> Result<Treatment, AllocError>
+    requires columns { IsOverColumns problem.now cuts.now (sides_of node.now.splits) }
+    requires path { path.now ≡ sides_of node.now.splits }
+    ensures { IfOk result (IsTreatment problem.now cuts.now pivot_limit (sides_of node.now.splits) best.now) }
+{
+    match proposed(alloc, problem, cuts, &node.splits, path, best, candidate)? {
         Some(treatment) => Ok(treatment),
-        None => relaxed(alloc, problem, cuts, node, &path, best, pivot_limit),
+        None => relaxed(alloc, problem, cuts, node, path, best, pivot_limit),
     }
 }
 
-// What is proposed, where its tests pass.
+// What is proposed, where its tests pass. Weights name the splits on the way before they are tested.
 fn proposed(
+    alloc: Global,
     problem: &Instance,
     cuts: &DerivedRows,
     splits: &SplitsTaken,
     path: &Path,
     best: &Option<Frac>,
     candidate: Option<Candidate>,
-) -> Option<Treatment>
+) -> Result<Option<Treatment>, AllocError>
     requires columns { IsOverColumns problem.now cuts.now (sides_of splits.now) }
     requires path { path.now ≡ sides_of splits.now }
-    ensures { IfSome result (λ t. (limit : ℕ) → IsTreatment problem.now cuts.now limit (sides_of splits.now) best.now t) }
+    ensures { IfOk result (λ o. IfSome o (λ t. (limit : ℕ) → IsTreatment problem.now cuts.now limit (sides_of splits.now) best.now t)) }
 {
     match candidate {
-        None => None,
-        Some(Candidate::Unbounded(endless)) => proposed_ray(problem, cuts, splits, endless),
+        None => Ok(None),
+        Some(Candidate::Unbounded(endless)) => Ok(proposed_ray(problem, cuts, splits, endless)),
         Some(Candidate::Bounded(weights)) => {
-            proposed_bound(problem, cuts, splits, path, best, weights)
+            proposed_bound(alloc, problem, cuts, splits, path, best, &weights)
         }
         Some(Candidate::Infeasible(weights)) => {
-            proposed_weights(problem, cuts, splits, path, best, weights)
+            proposed_weights(alloc, problem, cuts, splits, path, best, &weights)
         }
         Some(Candidate::Optimal(found)) => {
-            proposed_optimum(problem, cuts, splits, path, best, found)
+            proposed_optimum(alloc, problem, cuts, splits, path, best, found)
         }
     }
 }
 
 // The weights are to show that the node has no point that is better than the best.
 fn proposed_bound(
+    alloc: Global,
     problem: &Instance,
     cuts: &DerivedRows,
     splits: &SplitsTaken,
     path: &Path,
     best: &Option<Frac>,
-    weights: Weights,
-) -> Option<Treatment>
+    weights: &Weights,
+) -> Result<Option<Treatment>, AllocError>
     requires { path.now ≡ sides_of splits.now }
-    ensures { IfSome result (λ t. (limit : ℕ) → IsTreatment problem.now cuts.now limit (sides_of splits.now) best.now t) }
+    ensures { IfOk result (λ o. IfSome o (λ t. (limit : ℕ) → IsTreatment problem.now cuts.now limit (sides_of splits.now) best.now t)) }
 {
     match *best {
-        None => None,
+        None => Ok(None),
         Some(best) => {
-            if shows_bound(problem, cuts, path, best, &weights) {
-                Some(Treatment::Bounded(weights))
+            let named = path.named(alloc, problem, weights)?;
+            if shows_bound(alloc, problem, cuts, path, best, &named) {
+                Ok(Some(Treatment::Bounded(named)))
             } else {
-                None
+                Ok(None)
             }
         }
     }
@@ -129,36 +159,39 @@ fn proposed_bound(
 
 // Whether the weights show that the node has no point that is better than this value; not where an operation does not fit.
 fn shows_bound(
+    alloc: Global,
     problem: &Instance,
     cuts: &DerivedRows,
     path: &Path,
     best: Frac,
-    weights: &Weights,
+    weights: &LeafWeights,
 ) -> bool
     ensures { result ≡ true → NodePasses problem.now (Some best) cuts.now path.now (Bound weights.now) }
 {
     match best.sub(problem.constant()) {
-        Ok(form) => passes(path.shows_none_better(problem, cuts, weights, form)),
+        Ok(form) => passes(path.shows_none_better(alloc, problem, cuts, weights, form)),
         Err(_) => false,
     }
 }
 
 // The weights are to show that the node has no point.
 fn proposed_weights(
+    alloc: Global,
     problem: &Instance,
     cuts: &DerivedRows,
     splits: &SplitsTaken,
     path: &Path,
     best: &Option<Frac>,
-    weights: Weights,
-) -> Option<Treatment>
+    weights: &Weights,
+) -> Result<Option<Treatment>, AllocError>
     requires { path.now ≡ sides_of splits.now }
-    ensures { IfSome result (λ t. (limit : ℕ) → IsTreatment problem.now cuts.now limit (sides_of splits.now) best.now t) }
+    ensures { IfOk result (λ o. IfSome o (λ t. (limit : ℕ) → IsTreatment problem.now cuts.now limit (sides_of splits.now) best.now t)) }
 {
-    if passes(path.shows_no_point(problem, cuts, &weights)) {
-        Some(Treatment::Refuted(weights))
+    let named = path.named(alloc, problem, weights)?;
+    if passes(path.shows_no_point(alloc, problem, cuts, &named)) {
+        Ok(Some(Treatment::Refuted(named)))
     } else {
-        None
+        Ok(None)
     }
 }
 
@@ -195,43 +228,45 @@ fn passes(answer: Result<bool, NoFit>) -> bool
 
 // The point is to be an optimal one of the node's relaxation.
 fn proposed_optimum(
+    alloc: Global,
     problem: &Instance,
     cuts: &DerivedRows,
     splits: &SplitsTaken,
     path: &Path,
     best: &Option<Frac>,
     found: ProposedOptimum,
-) -> Option<Treatment>
+) -> Result<Option<Treatment>, AllocError>
     requires columns { IsOverColumns problem.now cuts.now (sides_of splits.now) }
     requires path { path.now ≡ sides_of splits.now }
-    ensures { IfSome result (λ t. (limit : ℕ) → IsTreatment problem.now cuts.now limit (sides_of splits.now) best.now t) }
+    ensures { IfOk result (λ o. IfSome o (λ t. (limit : ℕ) → IsTreatment problem.now cuts.now limit (sides_of splits.now) best.now t)) }
 {
     if passes(is_node_point(problem, cuts, splits, &found.point)) {
-        proposed_point(problem, cuts, splits, path, best, found)
+        proposed_point(alloc, problem, cuts, splits, path, best, found)
     } else {
-        None
+        Ok(None)
     }
 }
 
 // The point is one of the node's relaxation.
 fn proposed_point(
+    alloc: Global,
     problem: &Instance,
     cuts: &DerivedRows,
     splits: &SplitsTaken,
     path: &Path,
     best: &Option<Frac>,
     found: ProposedOptimum,
-) -> Option<Treatment>
+) -> Result<Option<Treatment>, AllocError>
     requires columns { IsOverColumns problem.now cuts.now (sides_of splits.now) }
     requires path { path.now ≡ sides_of splits.now }
     requires point { IsNodePoint problem.now cuts.now (sides_of splits.now) found.point }
-    ensures { IfSome result (λ t. (limit : ℕ) → IsTreatment problem.now cuts.now limit (sides_of splits.now) best.now t) }
+    ensures { IfOk result (λ o. IfSome o (λ t. (limit : ℕ) → IsTreatment problem.now cuts.now limit (sides_of splits.now) best.now t)) }
 {
-    match test_optimum(problem, cuts, path, best, found, false) {
-        Verdict::Passed(treatment) => Some(treatment),
-        Verdict::NotTold => None,
-        Verdict::Failed => None,
-        Verdict::NoFit(_) => None,
+    match test_optimum(alloc, problem, cuts, path, best, found, false)? {
+        Verdict::Passed(treatment) => Ok(Some(treatment)),
+        Verdict::NotTold => Ok(None),
+        Verdict::Failed => Ok(None),
+        Verdict::NoFit(_) => Ok(None),
     }
 }
 
@@ -250,15 +285,16 @@ fn relaxed(
     ensures { IfOk result (IsTreatment problem.now cuts.now pivot_limit (sides_of node.now.splits) best.now) }
 {
     match relax(alloc, problem, node, cuts, pivot_limit) {
-        Ok(Relaxed::Infeasible(weights)) => Ok(infeasible(
+        Ok(Relaxed::Infeasible(weights)) => infeasible(
+            alloc,
             problem,
             cuts,
             node,
             path,
             best,
             pivot_limit,
-            weights,
-        )),
+            &weights,
+        ),
         Ok(Relaxed::Optimal(found)) => optimal(
             alloc,
             problem,
@@ -284,23 +320,26 @@ fn fault_at(site: Site) -> NoFit
 
 // The relaxation has no point.
 fn infeasible(
+    alloc: Global,
     problem: &Instance,
     cuts: &DerivedRows,
     node: &Node,
     path: &Path,
     best: &Option<Frac>,
     pivot_limit: u32,
-    weights: Weights,
-) -> Treatment
+    weights: &Weights,
+) -> Result<Treatment, AllocError>
     requires columns { IsOverColumns problem.now cuts.now (sides_of node.now.splits) }
     requires path { path.now ≡ sides_of node.now.splits }
-    requires infeasible { IsInfeasibleRelaxation problem.now cuts.now (sides_of node.now.splits) weights }
-    ensures { IsTreatment problem.now cuts.now pivot_limit (sides_of node.now.splits) best.now result }
+    requires infeasible { IsInfeasibleRelaxation problem.now cuts.now (sides_of node.now.splits) weights.now }
+    ensures { IfOk result (IsTreatment problem.now cuts.now pivot_limit (sides_of node.now.splits) best.now) }
 {
-    match path.shows_no_point(problem, cuts, &weights) {
-        Ok(true) => Treatment::Refuted(weights),
+    let named = path.named(alloc, problem, weights)?;
+    named_leaves();
+    match path.shows_no_point(alloc, problem, cuts, &named) {
+        Ok(true) => Ok(Treatment::Refuted(named)),
         Ok(false) => unreachable!(),
-        Err(fault) => Treatment::NotFitting(fault),
+        Err(fault) => Ok(Treatment::NotFitting(fault)),
     }
 }
 
@@ -329,7 +368,8 @@ fn optimal(
         told: None,
     };
     optimal_points();
-    match test_optimum(problem, cuts, path, best, optimum, true) {
+    named_leaves();
+    match test_optimum(alloc, problem, cuts, path, best, optimum, true)? {
         Verdict::Passed(treatment) => Ok(treatment),
         Verdict::Failed => unreachable!(),
         Verdict::NotTold => unreachable!(),

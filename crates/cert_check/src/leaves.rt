@@ -3,7 +3,7 @@ ghost use Rattle.std.specs.Prelude.{◌≡◌, ◌≤◌, [], ◌∷◌, length,
 ghost use Rattle.rational.specs.Rational.{one_ℚ};
 ghost use Rattle.verdicts.specs.Proves.{same_form};
 ghost use Rattle.cert_check.specs.Made.{made_form};
-ghost use Rattle.verdicts.specs.Certificate.{One, Empty, Bound};
+ghost use Rattle.verdicts.specs.Certificate.{One, Two, Empty, Bound};
 ghost use Rattle.certificate.specs.Ways.{way};
 ghost use Rattle.cert_check.specs.Parts.{node_answer};
 
@@ -13,46 +13,50 @@ use crate::named::Named;
 use crate::nodes::{bound_passes, empty_passes};
 use crate::setting::Setting;
 use crate::way::Way;
-use certificate::{Derived, Tree, Version, Weights};
+use certificate::{Derived, LeafWeights, Tree, Version, Weights};
 use fraction::{Frac, NoFit};
 use instance::{Entry, Instance};
+use std::alloc::Global;
 
 /// Whether the weights show that no point is under the splits on the way to a place of a tree: the test of a leaf without
-/// points that stands there, or the first operation on the way that does not fit. Memory is taken as in `check`.
+/// points that stands there in version 2, or the first operation on the way that does not fit. Memory is taken as in
+/// `check`.
 pub fn shows_no_point(
+    alloc: Global,
     problem: &Instance,
     derived: &[Derived],
     tree: &Tree,
     place: usize,
-    weights: &Weights,
+    weights: &LeafWeights,
 ) -> Result<bool, NoFit>
     requires { place ≤ length tree.now }
-    ensures { result ≡ node_answer (record { version = One; problem = problem.now; derived = derived.now; sides = way tree.now place }) None (Empty weights.now) }
+    ensures { result ≡ node_answer (record { version = Two; problem = problem.now; derived = derived.now; sides = way tree.now place }) None (Empty weights.now) }
 {
     let problem = ByColumn::new(problem);
-    let way = Way::at(tree, place);
-    let setting = Setting::of_node(Version::One, &problem, derived, &way);
-    empty_passes(&setting, &Named::without_splits(weights))
+    let way = Way::to(alloc, tree, place);
+    let setting = Setting::of_node(Version::Two, &problem, derived, &way);
+    empty_passes(&setting, &Named::of_leaf(weights))
 }
 
 /// Whether the weights show that no point there has a better value of the objective's form than this one: the test of a
-/// leaf without better points that stands there, or the first operation on the way that does not fit. Memory is taken as
-/// in `check`.
+/// leaf without better points that stands there in version 2, or the first operation on the way that does not fit. Memory
+/// is taken as in `check`.
 pub fn shows_none_better(
+    alloc: Global,
     problem: &Instance,
     derived: &[Derived],
     tree: &Tree,
     place: usize,
-    weights: &Weights,
+    weights: &LeafWeights,
     value: Frac,
 ) -> Result<bool, NoFit>
     requires { place ≤ length tree.now }
-    ensures { result ≡ node_answer (record { version = One; problem = problem.now; derived = derived.now; sides = way tree.now place }) (Some value) (Bound weights.now) }
+    ensures { result ≡ node_answer (record { version = Two; problem = problem.now; derived = derived.now; sides = way tree.now place }) (Some value) (Bound weights.now) }
 {
     let problem = ByColumn::new(problem);
-    let way = Way::at(tree, place);
-    let setting = Setting::of_node(Version::One, &problem, derived, &way);
-    bound_passes(&setting, &Named::without_splits(weights), value)
+    let way = Way::to(alloc, tree, place);
+    let setting = Setting::of_node(Version::Two, &problem, derived, &way);
+    bound_passes(&setting, &Named::of_leaf(weights), value)
 }
 
 /// Whether the weights make a column alone: the rows, columns and derived rows that they name, each times its weight, have

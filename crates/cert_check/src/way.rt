@@ -101,6 +101,20 @@ impl<'t> Way<'t> {
         }
     }
 
+    // A place, with the turns on the way to it where there is memory for them.
+    pub(crate) fn to(alloc: Global, tree: &'t Tree, place: usize) -> Self
+        requires { place ≤ length tree.now }
+        ensures { result ≡ record { nodes = tree.now; place = place } }
+    {
+        let mut way = Way::root(alloc, tree);
+        let mut at = 0;
+        while at < place {
+            way.advance();
+            at += 1;
+        }
+        way
+    }
+
     // On to the next place. Where there is no memory for a turn, none are kept from there on.
     pub(crate) fn advance(&mut self)
         requires { self.old.place < length self.old.nodes }

@@ -1,5 +1,5 @@
 // Derived rows, and what shows them.
-ghost use Rattle.std.specs.Prelude.{◌≡◌, ◌<◌, ◌≤◌, [], ◌∷◌, ◌++◌, length, IsTrue, OnOk, OnErr, IfErr};
+ghost use Rattle.std.specs.Prelude.{◌≡◌, ◌<◌, ◌≤◌, [], ◌∷◌, ◌++◌, length, IsTrue, IfOk, OnOk, OnErr, IfErr};
 ghost use Rattle.std.specs.List.{AllByRecursion};
 ghost use Rattle.fraction.specs.Fits.{fits};
 ghost use Rattle.instance.specs.WellFormed.{are_entries};
@@ -10,7 +10,7 @@ use crate::whole::parts_fit;
 use crate::{Weights, WholeNumber};
 use fraction::Frac;
 use instance::{Entries, Entry};
-use std::alloc::{AllocFailed, Global};
+use std::alloc::{AllocError, AllocFailed, Global};
 use std::marker::Model;
 
 /// Two cases that cover every feasible point: the form is at most `at` (the low side) or at least `at + 1` (the high
@@ -63,6 +63,17 @@ impl FormSplit {
             high,
             high_weights,
         }
+    }
+
+    /// The same split.
+    pub fn copy(&self, alloc: Global) -> Result<Self, AllocError>
+        ensures { IfOk result (λ copy. copy ≡ self.now) }
+    {
+        let at = self.at();
+        let form = self.form.copy(alloc)?;
+        let low_weights = self.low_weights.copy(alloc)?;
+        let high_weights = self.high_weights.copy(alloc)?;
+        Ok(FormSplit::new(at, form, self.low, low_weights, self.high, high_weights))
     }
 
     /// Where the cases part. All of the split has a text.
@@ -118,6 +129,18 @@ pub enum Proof {
     BySplit(FormSplit),
 }
 
+impl Proof {
+    /// The same proof.
+    pub fn copy(&self, alloc: Global) -> Result<Self, AllocError>
+        ensures { IfOk result (λ copy. proof_of copy ≡ proof_of self.now) }
+    {
+        match self {
+            Proof::Plain(weights) => Ok(Proof::Plain(weights.copy(alloc)?)),
+            Proof::BySplit(split) => Ok(Proof::BySplit(split.copy(alloc)?)),
+        }
+    }
+}
+
 // What shows a derived row has a text.
 fn proof_has_text(proof: &Proof)
     ensures { IsProof (proof_of proof.now) }
@@ -171,6 +194,16 @@ impl Derived {
         entries_fit(form.as_slice());
         proof_has_text(&proof);
         Derived { bound, form, proof }
+    }
+
+    /// The same derived row.
+    pub fn copy(&self, alloc: Global) -> Result<Self, AllocError>
+        ensures { IfOk result (λ copy. copy ≡ self.now) }
+    {
+        let bound = self.bound();
+        let form = self.form.copy(alloc)?;
+        let proof = self.proof.copy(alloc)?;
+        Ok(Derived::new(bound, form, proof))
     }
 
     /// What the form is at least. All of the row has a text.
@@ -234,6 +267,19 @@ impl DerivedRows {
     {
         let _bound = row.bound();
         self.rows.push(row)
+    }
+
+    /// The same derived rows.
+    pub fn copy(&self, alloc: Global) -> Result<Self, AllocError>
+        ensures { IfOk result (λ copy. copy ≡ self.now) }
+    {
+        let mut copy = DerivedRows::new(alloc);
+        let rows = self.as_slice();
+        for row in rows {
+            let row = row.copy(alloc)?;
+            copy.push(row)?;
+        }
+        Ok(copy)
     }
 
     /// The derived rows, for reading. All of them have a text.

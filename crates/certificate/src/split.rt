@@ -40,6 +40,14 @@ impl Split {
         Split { form, at }
     }
 
+    /// The same split.
+    pub fn copy(&self, alloc: Global) -> Result<Self, AllocError>
+        ensures { IfOk result (λ copy. copy ≡ self.now) }
+    {
+        let form = self.form().copy(alloc)?;
+        Ok(Split::new(form, self.at))
+    }
+
     /// The form whose value decides the case. The split has a text.
     pub fn form(&self) -> &Entries
         ensures form { result.now ≡ self.now.form }

@@ -198,6 +198,15 @@ impl LeafWeights {
         LeafWeights::new(weights, Items::new(alloc))
     }
 
+    /// The same weights.
+    pub fn copy(&self, alloc: Global) -> Result<Self, AllocError>
+        ensures { IfOk result (λ copy. copy ≡ self.now) }
+    {
+        let weights = self.weights.copy(alloc)?;
+        let splits = self.splits.copy(alloc)?;
+        Ok(LeafWeights::new(weights, splits))
+    }
+
     /// The weights of rows, columns and derived rows.
     pub fn weights(&self) -> &Weights
         ensures { result.now ≡ record { rows = self.now.rows; columns = self.now.columns; derived = self.now.derived; splits = [] } }

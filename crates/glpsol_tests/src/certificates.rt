@@ -52,7 +52,7 @@ fn the_files_are_written(rt: HostRuntime) -> Result<(), Fail> {
     let report = b"OPTIMAL\nobjective cost 2\ncolumn x 2\n";
     assert!(rt; files.bytes("r") == Some(report.as_slice()));
     let certificate =
-        b"cert 1\nsize 0 1\nverdict optimal\nvalue 2\npoint 2\nderived 0\ntree\nbound c1:1\nend\n";
+        b"cert 2\nsize 0 1\nverdict optimal\nvalue 2\npoint 2\nderived 0\ntree\nbound c1:1\nend\n";
     assert!(rt; files.bytes("c") == Some(certificate.as_slice()));
     Ok(())
 }

@@ -20,7 +20,7 @@ shows y <- a$
 writes out <- OPTIMAL$objective z 3$column x 3$row z 3$
 writes r <- OPTIMAL$objective z 3$column x 3$row z 3$
 writes w <- s OPTIMAL 1 1 3$i 1 3$j 1 3$e$
-writes c <- cert 1$size 1 1$verdict optimal$value 3$point 3$derived 0$tree$bound c1:1$end$
+writes c <- cert 2$size 1 1$verdict optimal$value 3$point 3$derived 0$tree$bound c1:1$end$
 writes p <- j,x$5,3$
 writes y <- a$b$
 ";
@@ -45,7 +45,7 @@ reads f <- max$ x + y$st$ 2 x + y <= 4$ x + 3 y <= 5$end$
 writes out <- OPTIMAL$objective obj 13/5$column x 7/5$column y 6/5$row r.1 4$row r.2 5$
 writes o <- OPTIMAL$objective obj 13/5$column x 7/5$column y 6/5$row r.1 4$row r.2 5$
 writes w <- s OPTIMAL 2 2 13/5$i 1 4$i 2 5$j 1 7/5$j 2 6/5$e$
-writes c <- cert 1$size 2 2$verdict optimal$value 13/5$point 7/5 6/5$derived 0$tree$bound r1:-2/5 r2:-1/5$end$
+writes c <- cert 2$size 2 2$verdict optimal$value 13/5$point 7/5 6/5$derived 0$tree$bound r1:-2/5 r2:-1/5$end$
 ";
 
 const A_TABLE: &str = "\

@@ -35,6 +35,18 @@ fn their_certificates_are_accepted(rt: HostRuntime) -> Result<(), Fail> {
     check(&rt, rt.alloc(), &Subject::RoundTrips, INTEGER)
 }
 
+// A certificate with a split that the weights of both leaves use, in place of the bounds of its column, and one with a leaf that is bounded
+// by its side; by hand.
+const WRITTEN: &str = "\
+0 INFEASIBLE$ <- cert 2$size 1 1$verdict infeasible$derived 0$tree$split 0 1:1$empty r1:1 s1:3$empty r1:-1 s1:3$end$ <- --lp f --cert y <- min$ x$st$ 1 <= 3 x <= 2$general$ x$end$
+0 OPTIMAL$objective obj 1$column x 1$row r.1 2$ <- cert 2$size 1 1$verdict optimal$value 1$point 1$derived 0$tree$split 1 1:1$bound s1:1$empty r1:-1 s1:2$end$ <- --lp f --cert y <- max$ x$st$ 2 x <= 3$general$ x$end$
+";
+
+#[test]
+fn trees_are_written(rt: HostRuntime) -> Result<(), Fail> {
+    check(&rt, rt.alloc(), &Subject::WrittenFiles, WRITTEN)
+}
+
 // Whole numbers that no split of a column finds, refuted by a derived row, and by a split of a form; a tree of one split; and derived
 // rows that rest on others.
 const CHECKED: &str = "\

@@ -24,9 +24,9 @@ fn members_of_subsets(rt: HostRuntime) -> Result<(), Fail> {
 // The certificate is of the subset's weights: of an empty row whose bounds contradict one another each, of which one is needed; and of two
 // rows and a bound of a column. Without the option the first one has weights of both bounds.
 const CERTIFICATES: &str = "\
-0 INFEASIBLE$iis 1$row r.1 lower 0$ <- cert 1$size 2 1$verdict infeasible$derived 0$tree$empty r1:1$end$ <- --lp f --iis --cert y <- min$ x$st$ 3 <= x - x <= 2$ x >= 1$end$
-0 INFEASIBLE$ <- cert 1$size 2 1$verdict infeasible$derived 0$tree$empty r1:1 r1:-1$end$ <- --lp f --cert y <- min$ x$st$ 3 <= x - x <= 2$ x >= 1$end$
-0 INFEASIBLE$iis 3$row r.1 upper 2 0$row r.2 lower 1 0$column y lower 3/2 -1/2$ <- cert 1$size 2 2$verdict infeasible$derived 0$tree$empty r1:-1 r2:1 c2:2$end$ <- --lp f --iis --cert y <- min$ x$st$ x + y <= 1$ x - y >= 2$end$
+0 INFEASIBLE$iis 1$row r.1 lower 0$ <- cert 2$size 2 1$verdict infeasible$derived 0$tree$empty r1:1$end$ <- --lp f --iis --cert y <- min$ x$st$ 3 <= x - x <= 2$ x >= 1$end$
+0 INFEASIBLE$ <- cert 2$size 2 1$verdict infeasible$derived 0$tree$empty r1:1 r1:-1$end$ <- --lp f --cert y <- min$ x$st$ 3 <= x - x <= 2$ x >= 1$end$
+0 INFEASIBLE$iis 3$row r.1 upper 2 0$row r.2 lower 1 0$column y lower 3/2 -1/2$ <- cert 2$size 2 2$verdict infeasible$derived 0$tree$empty r1:-1 r2:1 c2:2$end$ <- --lp f --iis --cert y <- min$ x$st$ x + y <= 1$ x - y >= 2$end$
 ";
 
 #[test]

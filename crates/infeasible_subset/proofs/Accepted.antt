@@ -9,7 +9,7 @@ use Rattle.fraction.specs.declared.frac.NoFit.{NoFit}
 use Rattle.milp.specs.Form.{Entry}
 use Rattle.milp.specs.Problem.{Column, Row, Problem}
 use Rattle.instance.specs.Sums.{and_then, form_of}
-use Rattle.verdicts.specs.Certificate.{One, Infeasible, Item, Weights, Empty, Certificate}
+use Rattle.verdicts.specs.Certificate.{Two, Infeasible, Item, Weights, Empty, Certificate}
 use Rattle.verdicts.specs.Proves.{Proves, lower_under, upper_under, node_passes}
 use Rattle.basis.specs.Relaxation.{leaf_certificate}
 use Rattle.cert_check.specs.Sums.{and_also, row_bound, are_there, all_there, with_bound, with_bounds, bound_sum, Product, item_products, weight_products, with_products, are_forms}
@@ -20,16 +20,11 @@ use Rattle.cert_check.proofs.Laws.{check_accepted, node_ok}
 use Rattle.search_tree.specs.Work.{node_setting}
 use Rattle.infeasible_subset.specs.Members.{Side, Member, OfRow, OfColumn}
 use Rattle.infeasible_subset.specs.Subsets.{sub_columns, sub, row_used, column_used, AllUse, UsesOnly, Refutes, AreAccepted}
-use Rattle.infeasible_subset.proofs.NoSplits.{refuting_without_splits}
 use Rattle.infeasible_subset.proofs.Subsets.{row_or_none, get_row, column_or_none, get_column, used_bound, trial_refutes}
 
 -- weights that are accepted refute the problem
 pub refuted : (p : Problem) (w : Weights) → AreAccepted p w → Refutes p w
-refuted p w h = let P : Result Bool NoFit → Type 0 = λ r. IfOk r (λ b. b ≡ node_passes p One None [] [] (Empty w)) in record { passes = sym (subst P h.passes (node_ok p One None [] [] (Empty w))) }
-
--- accepted weights of a leaf name no split, since there is none on the way to it
-pub without_splits : (p : Problem) (w : Weights) → AreAccepted p w → AreAccepted p (record { rows = w.rows; columns = w.columns; derived = w.derived; splits = [] })
-without_splits p w h = let P : List Item → Type 0 = λ is. AreAccepted p (record { rows = w.rows; columns = w.columns; derived = w.derived; splits = is }) in subst P (refuting_without_splits p w (refuted p w h).passes) h
+refuted p w h = let P : Result Bool NoFit → Type 0 = λ r. IfOk r (λ b. b ≡ node_passes p Two None [] [] (Empty w)) in record { passes = sym (subst P h.passes (node_ok p Two None [] [] (Empty w))) }
 
 -- ---- the bounds that weights use, in the problem with fewer bounds
 

@@ -2,7 +2,6 @@ mod Building
 mod Lists
 mod Subsets
 mod There
-mod NoSplits
 mod Accepted
 mod OneByOne
 mod Treated

@@ -6,7 +6,7 @@ use Rattle.milp.specs.Form.{Entry, number_at, sum_at}
 use Rattle.milp.specs.Problem.{Column, Row, Problem}
 use Rattle.milp.specs.Points.{IsWithin, IsWhole, Feasible}
 use Rattle.verdicts.specs.WeightedSums.{Weighted}
-use Rattle.verdicts.specs.Certificate.{One, Item, Weights}
+use Rattle.verdicts.specs.Certificate.{Two, Item, Weights}
 use Rattle.verdicts.specs.Proves.{term, bound_used, row_term, column_term, joined, gathered, terms, refutes}
 use Rattle.verdicts.proofs.Laws.{leaf_empty}
 use Rattle.infeasible_subset.specs.Members.{Side, Lower, Upper, Member, OfRow, OfColumn, same_member}
@@ -111,7 +111,7 @@ pub refuted_with : (p : Problem) (keep : Member → Bool) (w : Weights) → Uses
 refuted_with p keep w h r = record { passes = rw (column_count (λ j s. keep (OfColumn j s)) p.columns, terms_same p keep w h) r.passes }
 
 pub none_meets : (p : Problem) (w : Weights) → Refutes p w → (x : List Rational) → ¬ (Feasible p x)
-none_meets p w r x f = leaf_empty p One None [] [] w x r.passes f.relaxed tt (λ k. tt)
+none_meets p w r x f = leaf_empty p Two None [] [] w x r.passes f.relaxed tt (λ k. tt)
 
 -- ---- without one more
 

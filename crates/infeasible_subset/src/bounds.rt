@@ -5,7 +5,7 @@ ghost use Rattle.infeasible_subset.specs.Subsets.{side_used, row_used, column_us
 ghost use Rattle.infeasible_subset.specs.Listed.{if_there, row_bounds, column_bounds, all_bounds};
 
 use crate::{Member, Side};
-use certificate::{Item, Weights};
+use certificate::{Item, LeafWeights};
 use fraction::Frac;
 use instance::{Column, Instance, Row};
 use std::alloc::{AllocError, Global};
@@ -66,12 +66,13 @@ fn add(members: &mut Vec<Member>, bound: Option<Frac>, member: Member) -> Result
 }
 
 /// The bounds that weights use, by rows and then by columns.
-pub(crate) fn used(alloc: Global, weights: &Weights) -> Result<Vec<Member>, AllocError>
+pub(crate) fn used(alloc: Global, weights: &LeafWeights) -> Result<Vec<Member>, AllocError>
     ensures { IfOk result (λ members. members.items ≡ map row_used weights.now.rows ++ map column_used weights.now.columns) }
 {
     let mut members = Vec::new(alloc);
-    add_rows_used(&mut members, weights.rows().as_slice())?;
-    add_columns_used(&mut members, weights.columns().as_slice())?;
+    let used = weights.weights();
+    add_rows_used(&mut members, used.rows().as_slice())?;
+    add_columns_used(&mut members, used.columns().as_slice())?;
     Ok(members)
 }
 

@@ -7,7 +7,7 @@ ghost use Rattle.search_tree.specs.Nodes.{NodePasses};
 ghost use Rattle.branch_search.specs.Plain.{NoneInteger, IsPlainCertificate};
 ghost use Rattle.infeasible_subset.specs.Subsets.{AreAccepted};
 
-use certificate::{Certificate, LeafWeights, TreeNode, Weights};
+use certificate::{Certificate, LeafWeights, TreeNode};
 use instance::Instance;
 use std::alloc::{AllocError, Global};
 
@@ -16,7 +16,7 @@ pub(crate) fn refuting(
     alloc: Global,
     problem: &Instance,
     certificate: &Certificate,
-) -> Result<Weights, AllocError>
+) -> Result<LeafWeights, AllocError>
     requires continuous { NoneInteger problem.now.columns }
     requires infeasible { certificate.now.verdict ≡ is_infeasible }
     requires plain { IsPlainCertificate problem.now certificate.now }
@@ -27,23 +27,14 @@ pub(crate) fn refuting(
     weights_of(alloc, problem, &nodes[0])
 }
 
-fn weights_of(alloc: Global, problem: &Instance, node: &TreeNode) -> Result<Weights, AllocError>
+fn weights_of(alloc: Global, problem: &Instance, node: &TreeNode) -> Result<LeafWeights, AllocError>
     requires continuous { NoneInteger problem.now.columns }
     requires passes { NodePasses problem.now None [] [] (node_of node.now) }
     ensures { IfOk result (λ weights. AreAccepted problem.now weights) }
 {
     match node {
-        TreeNode::Empty(weights) => at_root(alloc, problem, weights),
+        TreeNode::Empty(weights) => weights.copy(alloc),
         TreeNode::Branch(_) => unreachable!(),
         TreeNode::Bound(_) => unreachable!(),
     }
-}
-
-// The weights of a leaf at the root, which name no split.
-#[tactic(auto, using(crate::proofs::Accepted::without_splits))]
-fn at_root(alloc: Global, problem: &Instance, weights: &LeafWeights) -> Result<Weights, AllocError>
-    requires { AreAccepted problem.now weights.now }
-    ensures { IfOk result (λ weights. AreAccepted problem.now weights) }
-{
-    weights.weights().copy(alloc)
 }

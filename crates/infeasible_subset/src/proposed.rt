@@ -5,7 +5,7 @@
 // misses its own by the sum of all bounds by the weights over its weight.
 use crate::Member;
 use crate::bounds::{column_used, row_used};
-use certificate::{Item, Weights};
+use certificate::{Item, LeafWeights};
 use fraction::Frac;
 use instance::{Entry as FormEntry, Instance, Point};
 use sparse_factors::{
@@ -34,7 +34,11 @@ pub(crate) struct Proposals {
 }
 
 /// What points for these weights are proposed with, where all numbers on the way fit.
-pub(crate) fn proposing(alloc: Global, problem: &Instance, weights: &Weights) -> Option<Proposals> {
+pub(crate) fn proposing(
+    alloc: Global,
+    problem: &Instance,
+    weights: &LeafWeights,
+) -> Option<Proposals> {
     factored(alloc, problem, weights).ok()
 }
 
@@ -50,10 +54,10 @@ pub(crate) fn proposed(
     }
 }
 
-fn factored(alloc: Global, problem: &Instance, weights: &Weights) -> Result<Proposals, Stop> {
+fn factored(alloc: Global, problem: &Instance, weights: &LeafWeights) -> Result<Proposals, Stop> {
     let mut used = Vec::new(alloc);
-    add_rows(&mut used, problem, weights.rows().as_slice())?;
-    add_columns(&mut used, problem, weights.columns().as_slice())?;
+    add_rows(&mut used, problem, weights.weights().rows().as_slice())?;
+    add_columns(&mut used, problem, weights.weights().columns().as_slice())?;
     longest_last(problem, &mut used);
     let matrix = matrix_of(alloc, problem, &used)?;
     let basic = places_below(alloc, matrix.columns)?;

@@ -12,7 +12,7 @@ use crate::fault::{StuckAt, SubsetFault, TooLong};
 use crate::member::both;
 use crate::trial::Trial;
 use crate::{Member, Members, Witness, Witnesses};
-use certificate::Weights;
+use certificate::LeafWeights;
 use instance::{Instance, Point};
 use std::alloc::{AllocError, Global};
 
@@ -22,14 +22,14 @@ use std::alloc::{AllocError, Global};
 pub(crate) struct Underway {
     pub(crate) done: Witnesses,
     pub(crate) left: Members,
-    pub(crate) weights: Weights,
+    pub(crate) weights: LeafWeights,
 }
 
 /// Those of the members that the weights use.
 pub(crate) fn left_of(
     alloc: Global,
     members: &[Member],
-    weights: &Weights,
+    weights: &LeafWeights,
 ) -> Result<Members, AllocError>
     ensures { IfOk result (λ left. left ≡ both members.now (map row_used weights.now.rows ++ map column_used weights.now.columns)) }
 {
@@ -74,7 +74,7 @@ fn refuted(
     problem: &Instance,
     underway: &mut Underway,
     member: &Member,
-    weights: Weights,
+    weights: LeafWeights,
 ) -> Result<(), AllocError>
     requires underway { IsUnderway problem.now underway.old.done (member.now ∷ underway.old.left) underway.old.weights }
     requires refuted { AreAccepted (sub problem.now (has (members_of underway.old.done ++ underway.old.left))) weights }

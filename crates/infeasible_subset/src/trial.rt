@@ -12,7 +12,7 @@ use crate::meeting::meets;
 use crate::parts::sub_problem;
 use branch_search::{Found, Treatment, treat};
 use candidate::Proposer;
-use certificate::{DerivedRows, Weights};
+use certificate::{DerivedRows, LeafWeights};
 use fraction::{Frac, NoFit};
 use instance::{Instance, Point};
 use search_node::{Bases, Node};
@@ -24,7 +24,7 @@ use std::alloc::{AllocError, Global};
 #[derive(Drop)]
 pub(crate) enum Trial {
     /// No point meets the bounds, as the weights show.
-    Refuted(Weights),
+    Refuted(LeafWeights),
     /// This point meets them.
     Met(Point),
     /// An operation of the work does not fit.

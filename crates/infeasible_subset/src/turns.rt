@@ -10,7 +10,7 @@ use crate::proposed::{Proposals, proposed};
 use crate::settling::{Underway, left_of, settle};
 use crate::trial::try_proposed;
 use crate::{Members, SubsetFault, Witnesses};
-use certificate::Weights;
+use certificate::LeafWeights;
 use instance::Instance;
 use std::alloc::{AllocError, Global};
 
@@ -18,7 +18,7 @@ use std::alloc::{AllocError, Global};
 pub(crate) fn begin(
     alloc: Global,
     problem: &Instance,
-    weights: Weights,
+    weights: LeafWeights,
 ) -> Result<Underway, AllocError>
     requires { AreAccepted problem.now weights }
     ensures { IfOk result (λ underway. IsUnderway problem.now underway.done underway.left underway.weights) }

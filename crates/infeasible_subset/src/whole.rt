@@ -14,7 +14,7 @@ use crate::proposed::{Proposals, proposing};
 use crate::settling::Underway;
 use crate::turns::{begin, run};
 use crate::{Subset, SubsetFault};
-use certificate::{Certificate, Weights};
+use certificate::{Certificate, LeafWeights};
 use instance::Instance;
 use std::alloc::Global;
 
@@ -55,7 +55,7 @@ pub fn subset(
 fn found(
     alloc: Global,
     problem: &Instance,
-    weights: Weights,
+    weights: LeafWeights,
     proposals: &Option<Proposals>,
     pivot_limit: u32,
 ) -> Result<Subset, SubsetFault>

@@ -2,7 +2,7 @@
 ghost use Rattle.std.specs.Prelude.{◌≡◌, ◌++◌, [], ◌∷◌, OnOk, OnErr};
 
 use crate::Member;
-use certificate::{Certificate, DerivedRows, LeafWeights, Tree, TreeNode, Version, Weights};
+use certificate::{Certificate, DerivedRows, LeafWeights, Tree, TreeNode, Version};
 use instance::{Instance, Point};
 use std::alloc::{AllocError, Global};
 use std::marker::Model;
@@ -61,7 +61,7 @@ impl Witnesses {
 #[derive(Drop)]
 pub struct Subset {
     pub witnesses: Witnesses,
-    pub weights: Weights,
+    pub weights: LeafWeights,
 }
 
 impl Subset {
@@ -73,7 +73,7 @@ impl Subset {
     ghost use Rattle.infeasible_subset.specs.Subsets.{AreAccepted};
 
     /// The certificate that the problem has no feasible point, by the weights alone: it has no derived row, and its tree is
-    /// one leaf. The checker accepts it.
+    /// one leaf. It is of version 2, and the checker accepts it.
     pub fn certificate(&self, alloc: Global, problem: &Instance) -> Result<Certificate, AllocError>
         requires { AreAccepted problem.now self.now.weights }
         ensures of_weights { IfOk result (λ c. c ≡ leaf_certificate problem.now Infeasible None None (Empty self.now.weights)) }
@@ -81,13 +81,11 @@ impl Subset {
         ensures accepted { IfOk result (λ c. outcome (trials problem.now c) ≡ Acceptance) }
     {
         let mut tree = Tree::new(alloc);
-        let _rows = self.weights.rows();
-        let weights = LeafWeights::without_splits(alloc, self.weights.copy(alloc)?);
-        tree.push(TreeNode::Empty(weights))?;
+        tree.push(TreeNode::Empty(self.weights.copy(alloc)?))?;
         problem.keeps_its_limits();
         let rows = problem.rows().len() as u32;
         let columns = problem.columns().len() as u32;
         let derived = DerivedRows::new(alloc);
-        Ok(Certificate::infeasible(Version::One, rows, columns, derived, tree))
+        Ok(Certificate::infeasible(Version::Two, rows, columns, derived, tree))
     }
 }

@@ -5,7 +5,6 @@ ghost use Rattle.verdicts.specs.Certificate.{One, Optimal, Infeasible, Unbounded
 ghost use Rattle.verdicts.specs.Proves.{Proves};
 ghost use Rattle.verdicts.specs.Migrated.{migrated};
 
-use crate::copies::copy_derived_rows;
 use crate::nodes::migrated_tree;
 use certificate::{Certificate, Verdict, Version};
 use fraction::Frac;
@@ -57,7 +56,7 @@ fn migrated_optimal(
     let rows = certificate.rows();
     let value = value_of(certificate);
     let point = point_of(certificate).copy(alloc)?;
-    let derived = copy_derived_rows(alloc, certificate.derived())?;
+    let derived = certificate.derived().copy(alloc)?;
     let tree = migrated_tree(alloc, problem, certificate.tree())?;
     let columns = certificate.columns();
     Ok(Certificate::optimal(Version::Two, rows, columns, value, point, derived, tree))
@@ -73,7 +72,7 @@ fn migrated_infeasible(
     ensures { IfOk result (λ d. d ≡ migrated problem.now certificate.now) }
 {
     let rows = certificate.rows();
-    let derived = copy_derived_rows(alloc, certificate.derived())?;
+    let derived = certificate.derived().copy(alloc)?;
     let tree = migrated_tree(alloc, problem, certificate.tree())?;
     let columns = certificate.columns();
     Ok(Certificate::infeasible(Version::Two, rows, columns, derived, tree))

@@ -3,9 +3,9 @@
 
 mod certificates;
 mod columns;
-mod copies;
 mod nodes;
 mod sources;
 mod splits;
 
 pub use certificates::migrate;
+pub use nodes::named;

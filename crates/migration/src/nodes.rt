@@ -7,7 +7,6 @@ ghost use Rattle.certificate.specs.Ways.{way};
 ghost use Rattle.certificate.specs.Written.{is_tree, IsOfOne};
 
 use crate::columns::own_columns;
-use crate::copies::copy_split;
 use crate::splits::split_weights;
 use certificate::{LeafWeights, Tree, TreeNode, Weights};
 use instance::Instance;
@@ -62,29 +61,36 @@ fn migrated_node(
     ensures { IfOk result (λ made. node_of made ≡ migrated_node problem.now (way tree.now place) (node_of node.now)) }
 {
     match node {
-        TreeNode::Branch(split) => Ok(TreeNode::Branch(copy_split(alloc, split)?)),
+        TreeNode::Branch(split) => Ok(TreeNode::Branch(split.copy(alloc)?)),
         TreeNode::Empty(weights) => Ok(TreeNode::Empty(named(
-            alloc, problem, tree, place, weights,
+            alloc,
+            problem,
+            tree,
+            place,
+            weights.weights(),
         )?)),
         TreeNode::Bound(weights) => Ok(TreeNode::Bound(named(
-            alloc, problem, tree, place, weights,
+            alloc,
+            problem,
+            tree,
+            place,
+            weights.weights(),
         )?)),
     }
 }
 
-// The weights of the leaf at a place, with weights of splits in place of those of columns whose bounds are the splits'.
-fn named(
+/// The weights of a leaf at a place of a tree, with weights of splits in place of those of columns whose bounds splits on
+/// the way give. Where more splits stand on the way than a text can count, 2^32 - 1, memory counts as wanting.
+pub fn named(
     alloc: Global,
     problem: &Instance,
     tree: &Tree,
     place: usize,
-    weights: &LeafWeights,
+    weights: &Weights,
 ) -> Result<LeafWeights, AllocError>
-    requires within { place ≤ length tree.now }
-    requires one { weights.now.splits ≡ [] }
+    requires { place ≤ length tree.now }
     ensures { IfOk result (λ made. made ≡ named problem.now (way tree.now place) weights.now) }
 {
-    let weights = weights.weights();
     let rows = weights.rows().copy(alloc)?;
     let derived = weights.derived().copy(alloc)?;
     let columns = own_columns(alloc, problem, tree, place, weights.columns())?;

@@ -2,7 +2,7 @@
 use crate::boards::played;
 use crate::certificates::{checked, deep, read_back};
 use crate::linear::{judged, solved};
-use crate::programs::{found_by_search, found_by_solve, shown_optimum};
+use crate::programs::{found_by_search, found_by_solve, shown_optimum, written_by_solve};
 use crate::subsets::found_subset;
 use crate::texts::bytes_of;
 use cplex_lp_reader::read_lp;
@@ -46,6 +46,7 @@ fn of_problem(
         "check" => checked(alloc, problem, rest),
         "search" => found_by_search(alloc, problem, rest),
         "solve" => found_by_solve(alloc, problem, rest),
+        "written" => written_by_solve(alloc, problem, rest),
         "optimum" => shown_optimum(alloc, problem),
         "subset" => found_subset(alloc, problem, rest),
         "board" => played(alloc, problem, rest),

@@ -1,8 +1,8 @@
 // Integer programs, and problems of all kinds, with their verdicts; and optimal points of relaxations.
-use crate::texts::{cut, numbers_of};
+use crate::texts::{cut, in_marks, numbers_of};
 use branch_search::{SearchFault, VerdictFault, Wanted, search, solve};
 use candidate::{Candidate, ProposedOptimum, Proposer};
-use certificate::{Certificate, DerivedRows, Verdict};
+use certificate::{Certificate, DerivedRows, Verdict, text};
 use instance::Instance;
 use search_node::SplitsTaken;
 use search_tree::{Path, is_optimal};
@@ -55,6 +55,26 @@ pub(crate) fn found_by_solve(
     };
     std::mem::drop(verdict);
     words
+}
+
+/// The certificate that is written for any problem, or why there is none and what was wanted.
+pub(crate) fn written_by_solve(
+    alloc: Global,
+    problem: &Instance,
+    limits: &str,
+) -> Result<String, AllocError> {
+    let (splits, steps) = limits_of(limits);
+    let verdict = solve(alloc, problem, splits, steps);
+    let words = match &verdict {
+        Ok(certificate) => certificate_words(alloc, certificate),
+        Err(fault) => fault_words(alloc, fault),
+    };
+    std::mem::drop(verdict);
+    words
+}
+
+fn certificate_words(alloc: Global, certificate: &Certificate) -> Result<String, AllocError> {
+    in_marks(alloc, &text(alloc, certificate)?)
 }
 
 fn fault_words(alloc: Global, fault: &VerdictFault) -> Result<String, AllocError> {
@@ -119,7 +139,8 @@ fn optimum_words(
     let root = SplitsTaken::new(alloc);
     let path = Path::below(alloc, &root)?;
     let cuts = DerivedRows::new(alloc);
-    match is_optimal(problem, &cuts, &root, &path, &found.point, &found.weights) {
+    let weights = path.named(alloc, problem, &found.weights)?;
+    match is_optimal(alloc, problem, &cuts, &root, &path, &found.point, &weights) {
         Ok(true) => numbers_of(alloc, &found.point),
         _ => "not shown".to_string(alloc),
     }

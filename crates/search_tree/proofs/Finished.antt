@@ -1,5 +1,5 @@
 -- The checker accepts the certificate of a finished board.
-use Rattle.std.proofs.Common.{◌≡◌, ◌∙◌, ℕ, zero, suc, ◌+◌, ◌==◌, List, [], ◌∷◌, ◌++◌, Bool, true, ◌&&◌, refl, sym, ap, subst, option_map, is_some, if◌then◌else◌, Option, Some, None, IfSome, length, append_assoc, append-nil, arith, Result, Ok, Err}
+use Rattle.std.proofs.Common.{◌≡◌, ◌∙◌, ℕ, zero, suc, ◌+◌, ◌==◌, List, [], ◌∷◌, ◌++◌, Bool, true, ◌&&◌, refl, sym, ap, subst, option_map, is_some, if◌then◌else◌, Option, Some, None, IfSome, length, take, slice_get, append_assoc, append-nil, arith, Result, Ok, Err}
 use Rattle.std.specs.Prelude.{ℤ}
 use Rattle.std.specs.Ordering.{int_eq}
 use Rattle.std.proofs.lemmas.Int.{ints}
@@ -12,7 +12,7 @@ use Rattle.fraction.specs.declared.frac.NoFit.{NoFit}
 use Rattle.fraction.specs.Answers.{add_answer}
 use Rattle.instance.specs.Sums.{and_then, sum_answer}
 use Rattle.rational.specs.Compare.{is_same}
-use Rattle.verdicts.specs.Certificate.{One, Side as SideOf, Low, High, Derived, TreeNode, Branch, Empty, Bound, Certificate}
+use Rattle.verdicts.specs.Certificate.{Two, Side as SideOf, Low, High, Derived, TreeNode, Branch, Empty, Bound, Certificate}
 use Rattle.verdicts.specs.Proves.{Part, Proves}
 use Rattle.certificate.specs.Written.{fills, is_tree}
 use Rattle.cert_check.specs.Parts.{point_answer, value_answer, derived_answer, node_answer}
@@ -22,10 +22,11 @@ use Rattle.cert_check.proofs.Laws.{after, check_accepted, trials_then}
 use Rattle.search_tree.specs.declared.leaf.Leaf.TheVariants.{Todo, Treated, Leased, Refuted, Bounded, NotFitting, AtLimit}
 use Rattle.search_tree.specs.Tree.{Tree, Divided, AtLeaf, AllSplits, AllLeaves}
 use Rattle.search_tree.specs.Board.{Board, value_of}
-use Rattle.search_tree.specs.Kept.{AllPass, HasSums, IsKept, closed_node}
+use Rattle.search_tree.specs.Kept.{HasSums, IsKept, closed_node}
 use Rattle.search_tree.specs.Work.{node_setting}
 use Rattle.search_tree.specs.Nodes.{IsHonestSplit, KeepsLeaf}
-use Rattle.search_tree.proofs.HonestSplits.{passes}
+use Rattle.search_tree.proofs.HonestSplits.{whole_form}
+use Rattle.search_tree.proofs.Passing.{of_first, of_others}
 use Rattle.search_tree.specs.Finished.{IsThere, nodes_of, verdict_of, certificate_of, IsFinished}
 
 -- a test that passes, and then accepted ones
@@ -35,15 +36,17 @@ then_accepted part r rest e h = rw e h
 both_accepted : (ts us : List Trial) → outcome ts ≡ Acceptance → outcome us ≡ Acceptance → outcome (ts ++ us) ≡ Acceptance
 both_accepted ts us h k = trials_then ts us ∙ ap (λ o. after o (outcome us)) h ∙ k
 
-cuts_accepted : (p : Problem) (before ds : List Derived) (n : ℕ) → AllPass p ds → outcome (derived_trials p One n before ds) ≡ Acceptance
+cuts_accepted : (p : Problem) (before ds : List Derived) (n : ℕ) → ((k : ℕ) → IfSome (slice_get ds k) (λ d. derived_answer p Two (before ++ take k ds) d ≡ Ok true)) → outcome (derived_trials p Two n before ds) ≡ Acceptance
 cuts_accepted p before [] n h = refl
-cuts_accepted p before (d ∷ ds) n h = then_accepted (Part.DerivedRow n) (derived_answer p One before d) (outcome (derived_trials p One (n + 1) (before ++ d ∷ []) ds)) (h zero) (cuts_accepted p (before ++ d ∷ []) ds (n + 1) (λ k. h (suc k)))
+cuts_accepted p before (d ∷ ds) n h =
+    let P : List Derived → Derived → Type 0 = λ all e. derived_answer p Two all e ≡ Ok true in
+    then_accepted (Part.DerivedRow n) (derived_answer p Two before d) (outcome (derived_trials p Two (n + 1) (before ++ d ∷ []) ds)) (of_first P before ds d h) (cuts_accepted p (before ++ d ∷ []) ds (n + 1) (of_others P before ds d h))
 
 -- a tree whose leaves are closed, and then what follows it
 tree_then : (p : Problem) (ds : List Derived) (limit : ℕ) (goal : Option Rational) (t : Tree) (sides : List SideOf) (places : List (List SideOf)) (rest : List TreeNode) → AllSplits (IsHonestSplit p ds) sides t → AllLeaves (KeepsLeaf p ds limit goal) sides t → AllLeaves (λ at leaf. IsThere (closed_node leaf)) sides t
-    → ((k : ℕ) → outcome (node_trials p One (form_goal p goal) ds k places rest) ≡ Acceptance) → (k : ℕ) → outcome (node_trials p One (form_goal p goal) ds k (sides ∷ places) (nodes_of t ++ rest)) ≡ Acceptance
-tree_then p ds limit goal (AtLeaf (Refuted w)) sides places rest s h c g k = then_accepted (Part.Node k) (node_answer (node_setting p ds sides) (form_goal p goal) (Empty w)) (outcome (node_trials p One (form_goal p goal) ds (k + 1) places rest)) h (g (k + 1))
-tree_then p ds limit goal (AtLeaf (Bounded w)) sides places rest s h c g k = then_accepted (Part.Node k) (node_answer (node_setting p ds sides) (form_goal p goal) (Bound w)) (outcome (node_trials p One (form_goal p goal) ds (k + 1) places rest)) h (g (k + 1))
+    → ((k : ℕ) → outcome (node_trials p Two (form_goal p goal) ds k places rest) ≡ Acceptance) → (k : ℕ) → outcome (node_trials p Two (form_goal p goal) ds k (sides ∷ places) (nodes_of t ++ rest)) ≡ Acceptance
+tree_then p ds limit goal (AtLeaf (Refuted w)) sides places rest s h c g k = then_accepted (Part.Node k) (node_answer (node_setting p ds sides) (form_goal p goal) (Empty w)) (outcome (node_trials p Two (form_goal p goal) ds (k + 1) places rest)) h (g (k + 1))
+tree_then p ds limit goal (AtLeaf (Bounded w)) sides places rest s h c g k = then_accepted (Part.Node k) (node_answer (node_setting p ds sides) (form_goal p goal) (Bound w)) (outcome (node_trials p Two (form_goal p goal) ds (k + 1) places rest)) h (g (k + 1))
 tree_then p ds limit goal (AtLeaf (Todo hint)) sides places rest s h c g k = absurd c
 tree_then p ds limit goal (AtLeaf (Treated hint)) sides places rest s h c g k = absurd c
 tree_then p ds limit goal (AtLeaf (Leased lease)) sides places rest s h c g k = absurd c
@@ -52,15 +55,15 @@ tree_then p ds limit goal (AtLeaf (AtLimit bases)) sides places rest s h c g k =
 tree_then p ds limit goal (Divided s low high) sides places rest splits h c g k =
     let high_then = tree_then p ds limit goal high (High s ∷ sides) places rest splits.2 h.1 c.1 g in
     let low_then = tree_then p ds limit goal low (Low s ∷ sides) ((High s ∷ sides) ∷ places) (nodes_of high ++ rest) splits.1 h.0 c.0 high_then in
-    let P : List TreeNode → Type 0 = λ nodes. outcome (node_trials p One (form_goal p goal) ds (k + 1) ((Low s ∷ sides) ∷ (High s ∷ sides) ∷ places) nodes) ≡ Acceptance in
-    then_accepted (Part.Node k) (node_answer (node_setting p ds sides) (form_goal p goal) (Branch s)) (outcome (node_trials p One (form_goal p goal) ds (k + 1) ((Low s ∷ sides) ∷ (High s ∷ sides) ∷ places) ((nodes_of low ++ nodes_of high) ++ rest)))
-    (ap Ok (passes p ds sides s splits.0)) (subst P (sym (append_assoc (nodes_of low) (nodes_of high) rest)) (low_then (k + 1)))
+    let P : List TreeNode → Type 0 = λ nodes. outcome (node_trials p Two (form_goal p goal) ds (k + 1) ((Low s ∷ sides) ∷ (High s ∷ sides) ∷ places) nodes) ≡ Acceptance in
+    then_accepted (Part.Node k) (node_answer (node_setting p ds sides) (form_goal p goal) (Branch s)) (outcome (node_trials p Two (form_goal p goal) ds (k + 1) ((Low s ∷ sides) ∷ (High s ∷ sides) ∷ places) ((nodes_of low ++ nodes_of high) ++ rest)))
+    (ap Ok (whole_form p ds sides s splits.0)) (subst P (sym (append_assoc (nodes_of low) (nodes_of high) rest)) (low_then (k + 1)))
 
 tree_accepted : (b : Board) → IsKept b → IsFinished b → outcome (tree_trials b.problem (form_goal b.problem (value_of b)) (certificate_of b)) ≡ Acceptance
 tree_accepted b k f =
-    let P : List TreeNode → Type 0 = λ nodes. outcome (node_trials b.problem One (form_goal b.problem (value_of b)) b.cuts 1 ([] ∷ []) nodes) ≡ Acceptance in
+    let P : List TreeNode → Type 0 = λ nodes. outcome (node_trials b.problem Two (form_goal b.problem (value_of b)) b.cuts 1 ([] ∷ []) nodes) ≡ Acceptance in
     let nodes = subst P (append-nil (nodes_of b.tree)) (tree_then b.problem b.cuts b.pivot_limit (value_of b) b.tree [] [] [] k.splits k.leaves f (λ n. refl) 1) in
-    both_accepted (derived_trials b.problem One 1 [] b.cuts) (node_trials b.problem One (form_goal b.problem (value_of b)) b.cuts 1 ([] ∷ []) (nodes_of b.tree)) (cuts_accepted b.problem [] b.cuts 1 k.cuts) nodes
+    both_accepted (derived_trials b.problem Two 1 [] b.cuts) (node_trials b.problem Two (form_goal b.problem (value_of b)) b.cuts 1 ([] ∷ []) (nodes_of b.tree)) (cuts_accepted b.problem [] b.cuts 1 k.cuts) nodes
 
 -- ---- size, point and value
 

@@ -9,6 +9,7 @@ use Rattle.search_tree.specs.Board.{Board}
 use Rattle.search_tree.specs.Nodes.{IsHonestSplit}
 use Rattle.search_tree.specs.Kept.{IsKept}
 use Rattle.search_tree.specs.Honest.{AreHonest, IsHonestWay}
+use Rattle.search_tree.specs.Points.{AreOfColumns}
 
 ways_honest : (p : Problem) (ds : List Derived) (t : Tree) (way : List Side) (sides : List SideOf) → AllSplits (IsHonestSplit p ds) sides t → AreHonest p ds sides → AreHonest p ds (sides_to t way sides)
 ways_honest p ds (Divided s low high) [] sides h above = above
@@ -26,3 +27,9 @@ way_short (Divided s low high) (High ∷ way) sides = let more = way_short high 
 
 pub way_is_honest : (b : Board) → IsKept b → (way : List Side) → IsHonestWay b.problem b.cuts b.split_limit (sides_to b.tree way [])
 way_is_honest b k way = record { count = let short = way_short b.tree way [] in let within = k.within in omega arith; splits = ways_honest b.problem b.cuts b.tree way [] k.splits tt }
+
+-- honest splits are of columns
+pub honest_columns : (p : Problem) (ds : List Derived) (sides : List SideOf) → AreHonest p ds sides → AreOfColumns sides
+honest_columns p ds [] h = tt
+honest_columns p ds (LowOf s ∷ sides) h = (h.0.form, honest_columns p ds sides h.1)
+honest_columns p ds (HighOf s ∷ sides) h = (h.0.form, honest_columns p ds sides h.1)

@@ -7,7 +7,11 @@ pub use Rattle.search_tree.proofs.Trees.{made_reclaimed, made_replaced, none_lea
 -- histories, and the boards that are kept
 pub use Rattle.search_tree.proofs.Histories.{one_more, replay_kept}
 pub use Rattle.search_tree.proofs.Covered.{covered}
+-- splits on an honest way
+pub use Rattle.search_tree.proofs.Honest.{honest_columns}
 -- operations that do not fit
-pub use Rattle.search_tree.proofs.WorkFaults.{forms_ascend, on_site_numbers}
+pub use Rattle.search_tree.proofs.WorkFaults.{forms_ascend, forms_ascend_below, on_site_numbers}
 -- the certificate of a finished board
 pub use Rattle.search_tree.proofs.Finished.{finished_accepted, finished_tree}
+-- weights that name the splits on the way
+pub use Rattle.search_tree.proofs.NamedLeaves.{bound_named, empty_named, named_at_root}

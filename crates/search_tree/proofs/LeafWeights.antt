@@ -1,29 +1,31 @@
 -- Where the sums of a node's weights have their faults.
-use Rattle.std.proofs.Common.{◌≡◌, ◌∙◌, ℕ, ◌+◌, inl, ◌==◌, List, [], ◌∷◌, ◌++◌, map, slice_get, Bool, true, false, cond, if◌then◌else◌, Option, Some, None, is_some, Result, Ok, Err, IfOk, refl, sym, ap, subst, arith, append-nil}
-use Rattle.std.specs.Prelude.{option_and_then}
+use Rattle.std.proofs.Common.{◌≡◌, ◌∙◌, ℕ, ◌+◌, inl, inr, ◌==◌, nat_le, nat_lt, ◌&&◌, List, [], ◌∷◌, ◌++◌, map, slice_get, Bool, true, false, cond, if◌then◌else◌, Option, Some, None, is_some, Result, Ok, IfOk, refl, sym, ap, subst, arith, append-nil}
+use Rattle.std.specs.Prelude.{pos, negsuc, ◌+ℤ◌, option_and_then}
 use mathlib.Core.Path.{ap₂}
 use Rattle.std.proofs.lemmas.Bool.Decides.{nat_tests}
 use Rattle.std.proofs.lemmas.Option.{same_Some}
-use Rattle.rational.specs.Rational.{Rational, zero_ℚ, one_ℚ, ◌+ℚ◌, ◌*ℚ◌}
+use Rattle.rational.specs.Rational.{Rational, zero_ℚ, one_ℚ, whole, neg_ℚ, ◌+ℚ◌, ◌*ℚ◌}
 use Rattle.rational.proofs.Laws as Q
 use Rattle.milp.specs.Form.{Entry}
 use Rattle.milp.specs.Problem.{Column, Row, Problem}
 use Rattle.fraction.specs.declared.frac.NoFit.{NoFit}
 use Rattle.instance.specs.Sums.{and_then, form_of}
-use Rattle.verdicts.specs.WeightedSums.{Weighted, coefficient_of}
-use Rattle.rational.specs.Compare.{is_less, is_same}
-use Rattle.verdicts.specs.Certificate.{Item, Weights, Side, Derived}
-use Rattle.verdicts.specs.Proves.{lower_under, upper_under, term, bound_used, row_term, column_term, derived_term, split_term, joined, gathered, terms}
+use Rattle.verdicts.specs.WeightedSums.{scaled, Weighted, coefficient_of}
+use Rattle.rational.specs.Compare.{is_less, is_same, is_zero}
+use Rattle.verdicts.specs.Certificate.{Item, Weights, Side, Low, High, Derived}
+use Rattle.verdicts.specs.Proves.{lower_under, upper_under, side_form, side_bound, way_get, term, bound_used, row_term, column_term, derived_term, split_term, joined, gathered, terms}
+use Rattle.verdicts.specs.Migrated.{source, kept_if, kept, on_split, placed, placed_if, with_splits, named}
+use Rattle.basis.specs.Node.{split_form}
 use Rattle.basis.specs.Weights.{IsNodeWeights}
-use Rattle.basis.specs.Numbers.{IsSitePair, sum_onto, IsNodeBase, IsNodeProducts, node_numbers, AllWeights, AreNodeWeights}
-use Rattle.cert_check.specs.Sums.{and_also, with_product, lower_answer, row_bound, derived_bound, then_there, are_there, all_there, with_bound, with_bounds, bound_sum, Product, products, derived_form, item_products, weight_products, with_products, are_forms}
+use Rattle.basis.specs.Numbers.{Numbers, IsSitePair, sum_onto, IsNodeBase, IsNodeProducts, node_numbers, AllWeights, AreNodeWeights}
+use Rattle.cert_check.specs.Sums.{and_also, with_product, next_answer, lower_answer, row_bound, derived_bound, taken_bound, split_bound, then_there, are_there, all_there, with_bound, with_bounds, bound_sum, Product, products, derived_form, taken_form, item_products, weight_products, with_products, are_forms}
 use Rattle.cert_check.specs.Parts.{ascending, shown_answer}
 use Rattle.cert_check.specs.Lookup.{entry_at}
-use Rattle.cert_check.proofs.Laws.{if_ok, ok_then, product_ok, all_there_ok, coefficient_found, coefficient_none, products_found, products_none, lower_ok}
+use Rattle.cert_check.proofs.Laws.{if_ok, ok_then, next_ok, product_ok, all_there_ok, coefficient_found, coefficient_none, products_found, products_none}
 use Rattle.search_tree.specs.Ascending.{AreFormsAscending}
 use Rattle.search_tree.specs.Work.{node_setting}
 use Rattle.search_tree.proofs.FaultsTold.{Told, then_told, next_told, also_told, cond_told, product_told, sum_one_more, one_more, next_pair, Thinned, AreBase, all_told, thinned-append, base-append}
-use Rattle.search_tree.proofs.NodeNumbers.{one_base, AreCoefficients, row_coefficients, derived_coefficients, row_bound_base, column_bound_base, derived_bound_base, lower_told}
+use Rattle.search_tree.proofs.NodeNumbers.{way_place, one_base, AreCoefficients, row_coefficients, derived_coefficients, row_bound_base, column_bound_base, derived_bound_base, side_coefficients, side_bound_base, side_told}
 
 -- ---- the terms of items, one by one
 
@@ -91,6 +93,59 @@ one_thin w form j h = go (entry_at form j) refl
         let product : Product = record { weight = w; factor = c } in
         let R : Rational → Type 0 = λ d. Thinned (product ∷ []) ((w *ℚ d) ∷ []) in
         subst P (sym (products_found w form j c h e)) (subst R (sym (coefficient_found form j c h e)) (inl (refl, tt)))
+
+-- the numbers of four lists, one after the other
+four_parts : (f : Weighted → Rational) (all rows columns derived splits : List Weighted) → all ≡ rows ++ (columns ++ (derived ++ splits)) → map f all ≡ map f rows ++ (map f columns ++ (map f derived ++ map f splits))
+four_parts f all rows columns derived splits e =
+    ap (map f) e ∙ map-append f rows (columns ++ (derived ++ splits))
+    ∙ ap (λ (ns : List Rational). map f rows ++ ns) (map-append f columns (derived ++ splits) ∙ ap (λ (ns : List Rational). map f columns ++ ns) (map-append f derived splits))
+
+-- ---- forms of sides
+
+scaled_ascends : (w : Rational) (least : ℕ) (es : List Entry) → ascending least (scaled w es) ≡ ascending least es
+scaled_ascends w least [] = refl
+scaled_ascends w least (e ∷ es) = ap (λ (b : Bool). nat_le least e.column && b) (scaled_ascends w (e.column + 1) es)
+
+side_ascends : (s : Side) → ascending 0 (split_form s) ≡ true → ascending 0 (side_form s) ≡ true
+side_ascends (Low s) h = scaled_ascends (whole (negsuc 0)) 0 s.form ∙ h
+side_ascends (High s) h = h
+
+-- ---- weights that name splits: those of columns, or their negatives
+
+kept_base : (P : Rational → Type 0) (p : Problem) (sides : List Side) (is : List Item) → AllWeights P is → AllWeights P (kept p sides is)
+kept_base P p sides [] h = tt
+kept_base P p sides (i ∷ is) h = go (source p sides i) (kept_base P p sides is h.1)
+  where
+    go : (k : Option ℕ) → AllWeights P (kept p sides is) → AllWeights P (kept_if k i (kept p sides is))
+    go None r = (h.0, r)
+    go (Some k) r = r
+
+placed_base : (P : Rational → Type 0) (i : Item) (is : List Item) → P i.weight → AllWeights P is → AllWeights P (placed i is)
+placed_base P i [] h k = (h, tt)
+placed_base P i (j ∷ js) h k = go (nat_lt j.index i.index) (placed_base P i js h k.1)
+  where
+    go : (b : Bool) → AllWeights P (placed i js) → AllWeights P (if b then j ∷ placed i js else i ∷ j ∷ js)
+    go true r = (k.0, r)
+    go false r = (h, k)
+
+on_split_base : (P : Rational → Type 0) (k : ℕ) (i : Item) → P i.weight → P (neg_ℚ i.weight) → P (on_split k i).weight
+on_split_base P k i h n = go (is_less zero_ℚ i.weight)
+  where
+    go : (b : Bool) → P (if b then i.weight else neg_ℚ i.weight)
+    go true = h
+    go false = n
+
+splits_base : (P : Rational → Type 0) (p : Problem) (sides : List Side) (is : List Item) → AllWeights P is → AllWeights (λ a. P (neg_ℚ a)) is → AllWeights P (with_splits p sides is [])
+splits_base P p sides [] h n = tt
+splits_base P p sides (i ∷ is) h n = go (source p sides i) (splits_base P p sides is h.1 n.1)
+  where
+    pick : (k : ℕ) (b : Bool) → AllWeights P (with_splits p sides is []) → AllWeights P (if b then with_splits p sides is [] else placed (on_split k i) (with_splits p sides is []))
+    pick k true r = r
+    pick k false r = placed_base P (on_split k i) (with_splits p sides is []) (on_split_base P k i h.0 n.0) r
+
+    go : (o : Option ℕ) → AllWeights P (with_splits p sides is []) → AllWeights P (placed_if o i (with_splits p sides is []))
+    go None r = r
+    go (Some k) r = pick k (is_zero i.weight) r
 
 -- ---- at a node
 
@@ -215,29 +270,29 @@ module _ (p : Problem) (ds : List Derived) (sides : List Side) where
   unit_form_at i = record { column = i; coefficient = one_ℚ } ∷ []
 
   abbrev column_bound_at : Item → Result (Option Rational) NoFit
-  column_bound_at i = if is_less zero_ℚ i.weight then lower_answer p sides i.index else Ok (upper_under p sides i.index)
+  column_bound_at i = if is_less zero_ℚ i.weight then lower_answer p [] i.index else Ok (upper_under p [] i.index)
 
   abbrev column_bound : Item → Option Rational
-  column_bound i = bound_used i.weight (lower_under p sides i.index) (upper_under p sides i.index)
+  column_bound i = bound_used i.weight (lower_under p [] i.index) (upper_under p [] i.index)
 
   column_found : (i : Item) → IfOk (column_bound_at i) (λ o. o ≡ column_bound i)
   column_found i = go (is_less zero_ℚ i.weight)
     where
-      go : (t : Bool) → IfOk (if t then lower_answer p sides i.index else Ok (upper_under p sides i.index)) (λ o. o ≡ (if t then lower_under p sides i.index else upper_under p sides i.index))
-      go true = lower_ok p sides i.index
+      go : (t : Bool) → IfOk (if t then lower_answer p [] i.index else Ok (upper_under p [] i.index)) (λ o. o ≡ (if t then lower_under p [] i.index else upper_under p [] i.index))
+      go true = refl
       go false = refl
 
   column_told : (i : Item) → Told (node_numbers p ds sides) (column_bound_at i)
   column_told i = go (is_less zero_ℚ i.weight)
     where
-      go : (t : Bool) → Told (node_numbers p ds sides) (if t then lower_answer p sides i.index else Ok (upper_under p sides i.index))
-      go true = lower_told p ds sides i.index
+      go : (t : Bool) → Told (node_numbers p ds sides) (if t then lower_answer p [] i.index else Ok (upper_under p [] i.index))
+      go true = tt
       go false = tt
 
   unit_ascends : (i : ℕ) → ascending 0 (record { column = i; coefficient = one_ℚ } ∷ []) ≡ true
   unit_ascends i = grind (arith, nat_tests)
 
-  columns_kind : IsKind (column_term p sides) unit_form_at column_bound_at
+  columns_kind : IsKind (column_term p []) unit_form_at column_bound_at
   columns_kind = record {
     is = λ i t e. (term_is i.weight (unit_form_at i.index) (column_bound i) t e).1;
     found = λ i t e. if_ok (column_bound_at i) (column_bound i) (Some t.bound) (column_found i) (term_is i.weight (unit_form_at i.index) (column_bound i) t e).0;
@@ -299,6 +354,75 @@ module _ (p : Problem) (ds : List Derived) (sides : List Side) where
       ascend i None e = refl
       ascend i (Some d) e = ascends i d e
 
+  -- ---- splits on the way
+
+  abbrev split_form_at : ℕ → List Entry
+  split_form_at i = taken_form (way_get sides i)
+
+  abbrev split_bound_at : Item → Result (Option Rational) NoFit
+  split_bound_at i = split_bound i.weight (way_get sides i.index)
+
+  -- a split's term
+  record IsSplitTerm (i : Item) (t : Weighted) : Type 0 where
+    side : Side
+    at : way_get sides i.index ≡ Some side
+    positive : is_less zero_ℚ i.weight ≡ true
+    is : record { weight = i.weight; form = side_form side; bound = side_bound side } ≡ t
+
+  split_term_is : (i : Item) (t : Weighted) → split_term sides i ≡ Some t → IsSplitTerm i t
+  split_term_is i t e = go (is_less zero_ℚ i.weight) refl (way_get sides i.index) refl e
+    where
+      go : (b : Bool) → is_less zero_ℚ i.weight ≡ b → (o : Option Side) → way_get sides i.index ≡ o → (if b then option_and_then (λ (s : Side). term i.weight (side_form s) (Some (side_bound s))) o else None) ≡ Some t → IsSplitTerm i t
+      go false h o k e = cc
+      go true h None k e = cc
+      go true h (Some s) k e = record { side = s; at = k; positive = h; is = same_Some _ _ e }
+
+  taken_ok : (s : Side) → IfOk (taken_bound s) (λ o. o ≡ Some (side_bound s))
+  taken_ok (Low s) = refl
+  taken_ok (High s) = ok_then (next_answer s.at) (λ b. Ok (Some b)) (λ b. b ≡ whole (s.at +ℤ pos 1)) (λ o. o ≡ Some (whole (s.at +ℤ pos 1))) (next_ok s.at) (λ b e. ap Some e)
+
+  splits_kind : ((k : ℕ) (side : Side) → slice_get sides k ≡ Some side → ascending 0 (split_form side) ≡ true) → IsKind (split_term sides) split_form_at split_bound_at
+  splits_kind ascends = record { is = is; found = found; base = base; told = told; coefficients = λ i. coefficients i (way_get sides i) refl; ascends = λ i. ascend i (way_get sides i) refl }
+    where
+      is : (i : Item) (t : Weighted) → split_term sides i ≡ Some t → t ≡ record { weight = i.weight; form = taken_form (way_get sides i.index); bound = t.bound }
+      is i t e =
+          let it = split_term_is i t e in
+          let P : Option Side → Type 0 = λ o. t ≡ record { weight = i.weight; form = taken_form o; bound = t.bound } in
+          let R : Weighted → Type 0 = λ u. u ≡ record { weight = i.weight; form = side_form it.side; bound = u.bound } in
+          subst P (sym it.at) (subst R it.is refl)
+
+      found : (i : Item) (t : Weighted) → split_term sides i ≡ Some t → IfOk (split_bound i.weight (way_get sides i.index)) (λ o. o ≡ Some t.bound)
+      found i t e =
+          let it = split_term_is i t e in
+          let P : Option Side → Type 0 = λ s. IfOk (split_bound i.weight s) (λ o. o ≡ Some t.bound) in
+          let R : Bool → Type 0 = λ b. IfOk (if b then taken_bound it.side else Ok None) (λ o. o ≡ Some t.bound) in
+          subst P (sym it.at) (subst R (sym it.positive) (if_ok (taken_bound it.side) (Some (side_bound it.side)) (Some t.bound) (taken_ok it.side) (ap (λ (u : Weighted). Some u.bound) it.is)))
+
+      base : (i : Item) (t : Weighted) → split_term sides i ≡ Some t → IsNodeBase p ds sides t.bound
+      base i t e =
+          let it = split_term_is i t e in
+          let P : Rational → Type 0 = IsNodeBase p ds sides in
+          subst P (ap (λ (u : Weighted). u.bound) it.is) (side_bound_base p ds sides i.index it.side it.at)
+
+      told : (i : Item) → Told (node_numbers p ds sides) (split_bound i.weight (way_get sides i.index))
+      told i = go (way_get sides i.index) refl
+        where
+          pick : (s : Side) (b : Bool) → Told (node_numbers p ds sides) (taken_bound s) → Told (node_numbers p ds sides) (if b then taken_bound s else Ok None)
+          pick s true h = h
+          pick s false h = tt
+
+          go : (o : Option Side) → way_get sides i.index ≡ o → Told (node_numbers p ds sides) (split_bound i.weight o)
+          go None e = tt
+          go (Some s) e = pick s (is_less zero_ℚ i.weight) (side_told p ds sides i.index s e)
+
+      coefficients : (i : ℕ) (o : Option Side) → way_get sides i ≡ o → AreCoefficients p ds sides (taken_form o)
+      coefficients i None e = tt
+      coefficients i (Some s) e = side_coefficients p ds sides i s e
+
+      ascend : (i : ℕ) (o : Option Side) → way_get sides i ≡ o → ascending 0 (taken_form o) ≡ true
+      ascend i None e = refl
+      ascend i (Some s) e = let place = way_place sides i s e in side_ascends s (ascends place.0 s place.1)
+
   -- ---- all that a leaf's test does
 
   -- the terms of weights, kind by kind
@@ -306,36 +430,32 @@ module _ (p : Problem) (ds : List Derived) (sides : List Side) where
     rows : List Weighted
     columns : List Weighted
     derived : List Weighted
+    splits : List Weighted
     are_rows : AreTerms (row_term p) w.rows rows
-    are_columns : AreTerms (column_term p sides) w.columns columns
+    are_columns : AreTerms (column_term p []) w.columns columns
     are_derived : AreTerms (derived_term ds) w.derived derived
-    whole : all ≡ rows ++ (columns ++ derived)
+    are_splits : AreTerms (split_term sides) w.splits splits
+    whole : all ≡ rows ++ (columns ++ (derived ++ splits))
 
-  -- no split may have a weight
-  no_splits : (items : List Item) (ts : List Weighted) → gathered (split_term []) items (Some []) ≡ Some ts → ts ≡ []
-  no_splits [] ts e = sym (same_Some [] ts e)
-  no_splits (i ∷ is) ts e = go (is_less zero_ℚ i.weight) e
-    where
-      go : (b : Bool) → joined (if b then None else None) (gathered (split_term []) is (Some [])) ≡ Some ts → ts ≡ []
-      go true e = cc
-      go false e = cc
-
-  parted : (w : Weights) (all : List Weighted) → terms p ds sides [] w ≡ Some all → IsParted w all
+  parted : (w : Weights) (all : List Weighted) → terms p ds [] sides w ≡ Some all → IsParted w all
   parted w all e =
-      let splits : Option (List Weighted) = gathered (split_term []) w.splits (Some []) in
+      let splits : Option (List Weighted) = gathered (split_term sides) w.splits (Some []) in
       let derived = gathered (derived_term ds) w.derived splits in
-      let first = begins (row_term p) w.rows (gathered (column_term p sides) w.columns derived) all e in
-      let second = begins (column_term p sides) w.columns derived first.us first.more in
+      let first = begins (row_term p) w.rows (gathered (column_term p []) w.columns derived) all e in
+      let second = begins (column_term p []) w.columns derived first.us first.more in
       let third = begins (derived_term ds) w.derived splits second.us second.more in
-      let last : second.us ≡ third.ts = third.whole ∙ ap (λ (us : List Weighted). third.ts ++ us) (no_splits w.splits third.us third.more) ∙ append-nil third.ts in
+      let fourth = begins (split_term sides) w.splits (Some []) third.us third.more in
+      let last : third.us ≡ fourth.ts = fourth.whole ∙ ap (λ (us : List Weighted). fourth.ts ++ us) (sym (same_Some [] fourth.us fourth.more)) ∙ append-nil fourth.ts in
       record {
         rows = first.ts;
         columns = second.ts;
         derived = third.ts;
+        splits = fourth.ts;
         are_rows = first.terms;
         are_columns = second.terms;
         are_derived = third.terms;
-        whole = first.whole ∙ ap (λ (us : List Weighted). first.ts ++ us) (second.whole ∙ ap (λ (us : List Weighted). second.ts ++ us) last);
+        are_splits = fourth.terms;
+        whole = first.whole ∙ ap (λ (us : List Weighted). first.ts ++ us) (second.whole ∙ ap (λ (us : List Weighted). second.ts ++ us) (third.whole ∙ ap (λ (us : List Weighted). third.ts ++ us) last));
       }
 
   -- the terms are there where the bounds are
@@ -349,95 +469,106 @@ module _ (p : Problem) (ds : List Derived) (sides : List Side) where
       next_told (node_numbers p ds sides) (with_products zero_ℚ (f j)) (λ v. cond (is_same v (wanted j)) (are_forms f wanted (j + 1) cs) (Ok false)) (h j)
       (λ v. cond_told (node_numbers p ds sides) (is_same v (wanted j)) (are_forms f wanted (j + 1) cs) (Ok false) (forms_told f wanted (j + 1) cs h) tt)
 
-  -- ---- no split has a bound or a form
+  -- all weights are base numbers
+  record AreBaseWeights (w : Weights) : Type 0 where
+    rows : AllWeights (IsNodeBase p ds sides) w.rows
+    columns : AllWeights (IsNodeBase p ds sides) w.columns
+    derived : AllWeights (IsNodeBase p ds sides) w.derived
+    splits : AllWeights (IsNodeBase p ds sides) w.splits
 
-  abbrev split_bound_at : Item → Result (Option Rational) NoFit
-  split_bound_at i = Ok None
-
-  splits_there_told : (items : List Item) → Told (node_numbers p ds sides) (are_there split_bound_at items)
-  splits_there_told [] = tt
-  splits_there_told (i ∷ is) = tt
-
-  no_products : (items : List Item) (j : ℕ) → item_products (λ i. []) items j ≡ []
-  no_products [] j = refl
-  no_products (i ∷ is) j = no_products is j
-
-  no_bounds : (items : List Item) (total : Rational) → with_bounds split_bound_at total items ≡ Ok total
-  no_bounds [] total = refl
-  no_bounds (i ∷ is) total = no_bounds is total
-
-  then_no_bounds : (items : List Item) (r : Result Rational NoFit) → and_then r (λ d. with_bounds split_bound_at d items) ≡ r
-  then_no_bounds items (Ok d) = no_bounds items d
-  then_no_bounds items (Err e) = refl
-
-  abbrev three_products : Weights → ℕ → List Product
-  three_products w j = item_products row_form_at w.rows j ++ (item_products unit_form_at w.columns j ++ item_products derived_form_at w.derived j)
-
-  same_products : (w : Weights) (j : ℕ) → weight_products (node_setting p ds sides) w j ≡ three_products w j
-  same_products w j =
-      let derived = item_products derived_form_at w.derived j in
-      let last : derived ++ item_products (λ i. []) w.splits j ≡ derived = ap (λ (ps : List Product). derived ++ ps) (no_products w.splits j) ∙ append-nil derived in
-      ap (λ (ps : List Product). item_products row_form_at w.rows j ++ (item_products unit_form_at w.columns j ++ ps)) last
-
-  module _ (forms : AreFormsAscending p ds) (w : Weights) (base : AreNodeWeights p ds sides w) where
+  module _ (forms : AreFormsAscending p ds sides) (w : Weights) (base : AreBaseWeights w) where
     all_there_told : Told (node_numbers p ds sides) (all_there (node_setting p ds sides) w)
     all_there_told =
         also_told (node_numbers p ds sides) (are_there row_bound_at w.rows) _ (there_told (row_term p) row_form_at row_bound_at (rows_kind forms.rows) w.rows)
-        (λ e. also_told (node_numbers p ds sides) (are_there column_bound_at w.columns) _ (there_told (column_term p sides) unit_form_at column_bound_at columns_kind w.columns)
-        (λ f. also_told (node_numbers p ds sides) (are_there derived_bound_at w.derived) _ (there_told (derived_term ds) derived_form_at derived_bound_at (deriveds_kind forms.derived) w.derived) (λ g. splits_there_told w.splits)))
+        (λ e. also_told (node_numbers p ds sides) (are_there column_bound_at w.columns) _ (there_told (column_term p []) unit_form_at column_bound_at columns_kind w.columns)
+        (λ f. also_told (node_numbers p ds sides) (are_there derived_bound_at w.derived) _ (there_told (derived_term ds) derived_form_at derived_bound_at (deriveds_kind forms.derived) w.derived)
+        (λ g. there_told (split_term sides) split_form_at split_bound_at (splits_kind forms.splits) w.splits)))
 
     coefficients_thin : (all : List Weighted) (j : ℕ) → IsParted w all → Thinned (weight_products (node_setting p ds sides) w j) (map (at_column j) all)
     coefficients_thin all j parts =
         let rows = item_products row_form_at w.rows j in
         let columns = item_products unit_form_at w.columns j in
         let derived = item_products derived_form_at w.derived j in
+        let splits = item_products split_form_at w.splits j in
         let f : Weighted → Rational = at_column j in
-        let P : List Rational → Type 0 = λ ns. Thinned (three_products w j) ns in
-        let R : List Product → Type 0 = λ ps. Thinned ps (map f all) in
-        subst R (sym (same_products w j)) (subst P (sym (ap (map f) parts.whole ∙ map-append f parts.rows (parts.columns ++ parts.derived) ∙ ap (λ (ns : List Rational). map f parts.rows ++ ns) (map-append f parts.columns parts.derived)))
-        (thinned-append (map f parts.rows) (map f parts.columns ++ map f parts.derived) rows (columns ++ derived) (items_thin (row_term p) row_form_at row_bound_at (rows_kind forms.rows) w.rows parts.rows j parts.are_rows)
-        (thinned-append (map f parts.columns) (map f parts.derived) columns derived (items_thin (column_term p sides) unit_form_at column_bound_at columns_kind w.columns parts.columns j parts.are_columns)
-        (items_thin (derived_term ds) derived_form_at derived_bound_at (deriveds_kind forms.derived) w.derived parts.derived j parts.are_derived))))
+        let P : List Rational → Type 0 = λ ns. Thinned (rows ++ (columns ++ (derived ++ splits))) ns in
+        subst P (sym (four_parts f all parts.rows parts.columns parts.derived parts.splits parts.whole))
+        (thinned-append (map f parts.rows) (map f parts.columns ++ (map f parts.derived ++ map f parts.splits)) rows (columns ++ (derived ++ splits)) (items_thin (row_term p) row_form_at row_bound_at (rows_kind forms.rows) w.rows parts.rows j parts.are_rows)
+        (thinned-append (map f parts.columns) (map f parts.derived ++ map f parts.splits) columns (derived ++ splits) (items_thin (column_term p []) unit_form_at column_bound_at columns_kind w.columns parts.columns j parts.are_columns)
+        (thinned-append (map f parts.derived) (map f parts.splits) derived splits (items_thin (derived_term ds) derived_form_at derived_bound_at (deriveds_kind forms.derived) w.derived parts.derived j parts.are_derived)
+        (items_thin (split_term sides) split_form_at split_bound_at (splits_kind forms.splits) w.splits parts.splits j parts.are_splits))))
 
     coefficients_base : (j : ℕ) → AreBase (node_numbers p ds sides) (weight_products (node_setting p ds sides) w j)
     coefficients_base j =
         let rows = item_products row_form_at w.rows j in
         let columns = item_products unit_form_at w.columns j in
         let derived = item_products derived_form_at w.derived j in
-        let R : List Product → Type 0 = AreBase (node_numbers p ds sides) in
-        subst R (sym (same_products w j)) (base-append (node_numbers p ds sides) rows (columns ++ derived) (items_base (row_term p) row_form_at row_bound_at (rows_kind forms.rows) w.rows j base.rows)
-        (base-append (node_numbers p ds sides) columns derived (items_base (column_term p sides) unit_form_at column_bound_at columns_kind w.columns j base.columns)
-        (items_base (derived_term ds) derived_form_at derived_bound_at (deriveds_kind forms.derived) w.derived j base.derived)))
+        let splits = item_products split_form_at w.splits j in
+        base-append (node_numbers p ds sides) rows (columns ++ (derived ++ splits)) (items_base (row_term p) row_form_at row_bound_at (rows_kind forms.rows) w.rows j base.rows)
+        (base-append (node_numbers p ds sides) columns (derived ++ splits) (items_base (column_term p []) unit_form_at column_bound_at columns_kind w.columns j base.columns)
+        (base-append (node_numbers p ds sides) derived splits (items_base (derived_term ds) derived_form_at derived_bound_at (deriveds_kind forms.derived) w.derived j base.derived)
+        (items_base (split_term sides) split_form_at split_bound_at (splits_kind forms.splits) w.splits j base.splits)))
 
     bound_sum_told : (all : List Weighted) → IsParted w all → IsNodeProducts p ds sides (map at_bound all) → Told (node_numbers p ds sides) (bound_sum (node_setting p ds sides) zero_ℚ w)
     bound_sum_told all parts h =
+        let ns : Numbers = node_numbers p ds sides in
         let rows : List Rational = map at_bound parts.rows in
         let columns : List Rational = map at_bound parts.columns in
         let derived : List Rational = map at_bound parts.derived in
-        let S : Result Rational NoFit → Type 0 = Told (node_numbers p ds sides) in
-        let whole : map at_bound all ≡ rows ++ (columns ++ derived) = ap (map at_bound) parts.whole ∙ map-append at_bound parts.rows (parts.columns ++ parts.derived) ∙ ap (λ (ns : List Rational). rows ++ ns) (map-append at_bound parts.columns parts.derived) in
-        then_told (node_numbers p ds sides) (with_bounds row_bound_at zero_ℚ w.rows) (λ r. and_then (with_bounds column_bound_at r w.columns) (λ c. and_then (with_bounds derived_bound_at c w.derived) (λ d. with_bounds split_bound_at d w.splits))) (λ r. r ≡ sum_onto zero_ℚ rows)
-        (bounds_told (row_term p) row_form_at row_bound_at (rows_kind forms.rows) (map at_bound all) h w.rows parts.rows parts.are_rows base.rows [] (columns ++ derived) whole zero_ℚ refl)
+        let splits : List Rational = map at_bound parts.splits in
+        let whole : map at_bound all ≡ rows ++ (columns ++ (derived ++ splits)) = four_parts at_bound all parts.rows parts.columns parts.derived parts.splits parts.whole in
+        let third : map at_bound all ≡ (rows ++ columns) ++ (derived ++ splits) = whole ∙ sym (append-append rows columns (derived ++ splits)) in
+        let fourth : map at_bound all ≡ ((rows ++ columns) ++ derived) ++ (splits ++ []) = third ∙ sym (append-append (rows ++ columns) derived splits) ∙ ap (λ (xs : List Rational). ((rows ++ columns) ++ derived) ++ xs) (sym (append-nil splits)) in
+        then_told ns (with_bounds row_bound_at zero_ℚ w.rows) (λ r. and_then (with_bounds column_bound_at r w.columns) (λ c. and_then (with_bounds derived_bound_at c w.derived) (λ d. with_bounds split_bound_at d w.splits))) (λ r. r ≡ sum_onto zero_ℚ rows)
+        (bounds_told (row_term p) row_form_at row_bound_at (rows_kind forms.rows) (map at_bound all) h w.rows parts.rows parts.are_rows base.rows [] (columns ++ (derived ++ splits)) whole zero_ℚ refl)
         (bounds_sum (row_term p) row_form_at row_bound_at (rows_kind forms.rows) w.rows parts.rows parts.are_rows zero_ℚ)
-        (λ r er. then_told (node_numbers p ds sides) (with_bounds column_bound_at r w.columns) (λ c. and_then (with_bounds derived_bound_at c w.derived) (λ d. with_bounds split_bound_at d w.splits)) (λ c. c ≡ sum_onto r columns)
-        (bounds_told (column_term p sides) unit_form_at column_bound_at columns_kind (map at_bound all) h w.columns parts.columns parts.are_columns base.columns rows derived whole r er)
-        (bounds_sum (column_term p sides) unit_form_at column_bound_at columns_kind w.columns parts.columns parts.are_columns r)
-        (λ c ec. subst S (sym (then_no_bounds w.splits (with_bounds derived_bound_at c w.derived))) (bounds_told (derived_term ds) derived_form_at derived_bound_at (deriveds_kind forms.derived) (map at_bound all) h w.derived parts.derived parts.are_derived base.derived (rows ++ columns) []
-        (whole ∙ sym (append-append rows columns derived) ∙ ap (λ (ns : List Rational). (rows ++ columns) ++ ns) (sym (append-nil derived))) c
-        (ec ∙ ap (λ (s : Rational). sum_onto s columns) er ∙ sym (sum-append zero_ℚ rows columns)))))
+        (λ r er. then_told ns (with_bounds column_bound_at r w.columns) (λ c. and_then (with_bounds derived_bound_at c w.derived) (λ d. with_bounds split_bound_at d w.splits)) (λ c. c ≡ sum_onto r columns)
+        (bounds_told (column_term p []) unit_form_at column_bound_at columns_kind (map at_bound all) h w.columns parts.columns parts.are_columns base.columns rows (derived ++ splits) whole r er)
+        (bounds_sum (column_term p []) unit_form_at column_bound_at columns_kind w.columns parts.columns parts.are_columns r)
+        (λ c ec.
+        (let done : c ≡ sum_onto zero_ℚ (rows ++ columns) = ec ∙ ap (λ (s : Rational). sum_onto s columns) er ∙ sym (sum-append zero_ℚ rows columns) in
+        then_told ns (with_bounds derived_bound_at c w.derived) (λ d. with_bounds split_bound_at d w.splits) (λ d. d ≡ sum_onto c derived)
+        (bounds_told (derived_term ds) derived_form_at derived_bound_at (deriveds_kind forms.derived) (map at_bound all) h w.derived parts.derived parts.are_derived base.derived (rows ++ columns) splits third c done)
+        (bounds_sum (derived_term ds) derived_form_at derived_bound_at (deriveds_kind forms.derived) w.derived parts.derived parts.are_derived c)
+        (λ d ed. bounds_told (split_term sides) split_form_at split_bound_at (splits_kind forms.splits) (map at_bound all) h w.splits parts.splits parts.are_splits base.splits ((rows ++ columns) ++ derived) [] fourth d
+        (ed ∙ ap (λ (s : Rational). sum_onto s derived) done ∙ sym (sum-append zero_ℚ (rows ++ columns) derived))))))
 
-    are_all : all_there (node_setting p ds sides) w ≡ Ok true → true ≡ is_some (terms p ds sides [] w)
-    are_all e = let P : Result Bool NoFit → Type 0 = λ r. IfOk r (λ b. b ≡ is_some (terms p ds sides [] w)) in subst P e (all_there_ok (node_setting p ds sides) w)
+    are_all : all_there (node_setting p ds sides) w ≡ Ok true → true ≡ is_some (terms p ds [] sides w)
+    are_all e = let P : Result Bool NoFit → Type 0 = λ r. IfOk r (λ b. b ≡ is_some (terms p ds [] sides w)) in subst P e (all_there_ok (node_setting p ds sides) w)
 
-    pub shown_told : (wanted : ℕ → Rational) (enough : Rational → Bool) → IsNodeWeights p ds sides w → Told (node_numbers p ds sides) (shown_answer (node_setting p ds sides) w wanted enough)
-    shown_told wanted enough weights =
-        also_told (node_numbers p ds sides) (all_there (node_setting p ds sides) w) _ all_there_told (λ there. rest (some_terms (terms p ds sides [] w) (are_all there)))
+    tested_told : (wanted : ℕ → Rational) (enough : Rational → Bool) → ((all : List Weighted) → terms p ds [] sides w ≡ Some all → (j : ℕ) → IsNodeProducts p ds sides (map (at_column j) all)) → ((all : List Weighted) → terms p ds [] sides w ≡ Some all → IsNodeProducts p ds sides (map at_bound all))
+        → Told (node_numbers p ds sides) (shown_answer (node_setting p ds sides) w wanted enough)
+    tested_told wanted enough along_coefficients along_bounds =
+        also_told (node_numbers p ds sides) (all_there (node_setting p ds sides) w) _ all_there_told (λ there. rest (some_terms (terms p ds [] sides w) (are_all there)))
       where
-        rest : (all : List Weighted) × (terms p ds sides [] w ≡ Some all) → Told (node_numbers p ds sides) (and_also (are_forms (weight_products (node_setting p ds sides) w) wanted 0 p.columns) (and_then (bound_sum (node_setting p ds sides) zero_ℚ w) (λ r. Ok (enough r))))
+        rest : (all : List Weighted) × (terms p ds [] sides w ≡ Some all) → Told (node_numbers p ds sides) (and_also (are_forms (weight_products (node_setting p ds sides) w) wanted 0 p.columns) (and_then (bound_sum (node_setting p ds sides) zero_ℚ w) (λ r. Ok (enough r))))
         rest found =
             let all = found.0 in
             let parts = parted w all found.1 in
             also_told (node_numbers p ds sides) _ _
             (forms_told (weight_products (node_setting p ds sides) w) wanted 0 p.columns
-            (λ j. all_told (node_numbers p ds sides) (map (at_column j) all) (IsNodeProducts.along_coefficients w all j weights found.1 refl) (weight_products (node_setting p ds sides) w j) (coefficients_thin all j parts) (coefficients_base j)))
-            (λ e. next_told (node_numbers p ds sides) (bound_sum (node_setting p ds sides) zero_ℚ w) (λ r. Ok (enough r)) (bound_sum_told all parts (IsNodeProducts.along_bounds w all weights found.1 refl)) (λ r. tt))
+            (λ j. all_told (node_numbers p ds sides) (map (at_column j) all) (along_coefficients all found.1 j) (weight_products (node_setting p ds sides) w j) (coefficients_thin all j parts) (coefficients_base j)))
+            (λ e. next_told (node_numbers p ds sides) (bound_sum (node_setting p ds sides) zero_ℚ w) (λ r. Ok (enough r)) (bound_sum_told all parts (along_bounds all found.1)) (λ r. tt))
+
+  -- ---- weights that name splits
+
+  -- the weights that the simplex method gives name none
+  none_own : (w : Weights) → IsNodeWeights p ds sides w → w.splits ≡ []
+  none_own w (IsNodeWeights.of_objective b before d run dictionary e) = ap (λ (v : Weights). v.splits) e
+  none_own w (IsNodeWeights.of_row b before d r run dictionary basic (inl e)) = ap (λ (v : Weights). v.splits) e
+  none_own w (IsNodeWeights.of_row b before d r run dictionary basic (inr e)) = ap (λ (v : Weights). v.splits) e
+  none_own w (IsNodeWeights.of_contradiction v h e) = ap (λ (v : Weights). v.splits) e
+
+  named_base : (w : Weights) → w.splits ≡ [] → AreNodeWeights p ds sides w → AreBaseWeights (named p sides w)
+  named_base w none base = record {
+    rows = base.rows;
+    columns = kept_base (IsNodeBase p ds sides) p sides w.columns base.columns;
+    derived = base.derived;
+    splits = (let P : List Item → Type 0 = λ is. AllWeights (IsNodeBase p ds sides) (with_splits p sides w.columns is) in subst P (sym none) (splits_base (IsNodeBase p ds sides) p sides w.columns base.columns base.minus_columns));
+  }
+
+  pub shown_told : AreFormsAscending p ds sides → (w : Weights) → AreNodeWeights p ds sides w → (wanted : ℕ → Rational) (enough : Rational → Bool) → IsNodeWeights p ds sides w → Told (node_numbers p ds sides) (shown_answer (node_setting p ds sides) (named p sides w) wanted enough)
+  shown_told forms w base wanted enough weights =
+      tested_told forms (named p sides w) (named_base w (none_own w weights) base) wanted enough
+      (λ all e j. IsNodeProducts.along_coefficients w all j weights e refl)
+      (λ all e. IsNodeProducts.along_bounds w all weights e refl)

@@ -1,5 +1,6 @@
 mod Slots
 mod Trees
+mod NamedLeaves
 mod Passing
 mod HonestSplits
 mod Covered

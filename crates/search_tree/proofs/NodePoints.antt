@@ -27,7 +27,7 @@ use Rattle.search_node.specs.Sides.{sides_of}
 use Rattle.search_node.specs.declared.node.SplitTaken.{SplitTaken}
 use Rattle.instance.specs.Sums.{sum_answer}
 use Rattle.search_tree.specs.Faults.{IsCutFault}
-use Rattle.search_tree.specs.Points.{AreInColumns, AreInRows, IsOnSide, IsOfColumn, AreOnSides, IsOffSide}
+use Rattle.search_tree.specs.Points.{AreInColumns, AreInRows, IsOnSide, IsOfColumn, AreOfColumns, AreOnSides, IsOffSide}
 
 pub at_most_is : (a b : Rational) → is_at_most a b ≡ true → a ≤ℚ b
 at_most_is a b h = at_most_true a b h
@@ -118,6 +118,15 @@ on_own_sides : (p : Problem) (x : List Rational) (sides : List Side) → InsideB
 on_own_sides p x [] h = tt
 on_own_sides p x (Low s ∷ sides) h = let k = below_it p s sides x h in (k.1, on_own_sides p x sides k.0)
 on_own_sides p x (High s ∷ sides) h = let k = above_next p s sides x h in (k.1, on_own_sides p x sides k.0)
+
+on_columns : (x : List Rational) (sides : List Side) → AreOfColumns sides → OnOwnSides x sides → TakesAll x sides
+on_columns x [] h k = tt
+on_columns x (Low s ∷ sides) h k = (takes s LowTaken x h.0 (k.0 h.0), on_columns x sides h.1 k.1)
+on_columns x (High s ∷ sides) h k = (takes s HighTaken x h.0 (k.0 h.0), on_columns x sides h.1 k.1)
+
+-- inside the bounds under splits of columns, a point is on each side taken
+pub takes_inside : (p : Problem) (x : List Rational) (sides : List Side) → AreOfColumns sides → InsideBounds p sides x → TakesAll x sides
+takes_inside p x sides h k = on_columns x sides h (on_own_sides p x sides k)
 
 each_of_both : (x : List Rational) (ts us : List Side) → OnOwnSides x (ts ++ us) → OnOwnSides x ts × OnOwnSides x us
 each_of_both x [] us h = (tt, h)

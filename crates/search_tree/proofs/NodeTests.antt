@@ -9,6 +9,7 @@ use Rattle.instance.specs.Sums as I
 use Rattle.verdicts.specs.WeightedSums.{coefficient_of}
 use Rattle.rational.specs.Compare.{is_less, is_at_most}
 use Rattle.verdicts.specs.Certificate.{Weights, Side, Derived, Empty, Bound}
+use Rattle.verdicts.specs.Migrated.{named}
 use Rattle.basis.specs.Dictionary.{Dictionary}
 use Rattle.basis.specs.Bland.{HasPassed, IsHeading}
 use Rattle.basis.specs.Node.{system_of, integer_at, IsOverColumns}
@@ -84,12 +85,12 @@ optimal_point_told p ds sides x w b d over h = point_told p ds sides x over (opt
 pub optimal_value_told : (p : Problem) (ds : List Derived) (sides : List Side) (x : List Rational) (w : Weights) (b : List Place) (d : Dictionary) → IsOverColumns p ds sides → IsOptimalRelaxation p ds sides x w b d → Told (node_numbers p ds sides) (I.value_answer p x)
 optimal_value_told p ds sides x w b d over h = value_told p ds sides x over (optimal_of_run p ds sides x w b d h)
 
-pub bound_told : (p : Problem) (ds : List Derived) (sides : List Side) (x : List Rational) (w : Weights) (b : List Place) (d : Dictionary) → AreFormsAscending p ds → IsOptimalRelaxation p ds sides x w b d → (goal : Option Rational) → Told (node_numbers p ds sides) (node_answer (node_setting p ds sides) goal (Bound w))
+pub bound_told : (p : Problem) (ds : List Derived) (sides : List Side) (x : List Rational) (w : Weights) (b : List Place) (d : Dictionary) → AreFormsAscending p ds sides → IsOptimalRelaxation p ds sides x w b d → (goal : Option Rational) → Told (node_numbers p ds sides) (node_answer (node_setting p ds sides) goal (Bound (named p sides w)))
 bound_told p ds sides x w b d forms h None = tt
 bound_told p ds sides x w b d forms h (Some f) =
     shown_told p ds sides forms w (optimal_weights_base p ds sides x w b d h) (λ j. sign_of p.direction *ℚ coefficient_of p.objective j) (is_at_most (sign_of p.direction *ℚ f)) (optimal_is_weights p ds sides x w b d h)
 
-pub empty_told : (p : Problem) (ds : List Derived) (sides : List Side) (w : Weights) → AreFormsAscending p ds → IsInfeasibleRelaxation p ds sides w → (goal : Option Rational) → Told (node_numbers p ds sides) (node_answer (node_setting p ds sides) goal (Empty w))
+pub empty_told : (p : Problem) (ds : List Derived) (sides : List Side) (w : Weights) → AreFormsAscending p ds sides → IsInfeasibleRelaxation p ds sides w → (goal : Option Rational) → Told (node_numbers p ds sides) (node_answer (node_setting p ds sides) goal (Empty (named p sides w)))
 empty_told p ds sides w forms h goal = shown_told p ds sides forms w (infeasible_weights_base p ds sides w h) (λ j. zero_ℚ) (is_less zero_ℚ) (infeasible_is_weights p ds sides w h)
 
 pub endless_ray_told : (p : Problem) (ds : List Derived) (sides : List Side) (x ray : List Rational) → IsOverColumns p ds sides → IsUnboundedRelaxation p ds sides x ray → Told (node_numbers p ds sides) (ray_answer p (Some ray))

@@ -1,5 +1,5 @@
 -- What the checker's tests show where they pass.
-use Rattle.std.proofs.Common.{◌≡◌, ℕ, List, [], Bool, true, false, refl, sym, ap, subst, Option, Some, None, IfSome, IfOk, slice_get, Result, Ok, Err}
+use Rattle.std.proofs.Common.{◌≡◌, ℕ, zero, suc, List, [], ◌∷◌, ◌++◌, take, append_assoc, append-nil, Bool, true, false, refl, sym, ap, subst, Option, Some, None, IfSome, IfOk, slice_get, Result, Ok, Err}
 use Rattle.rational.specs.Rational.{Rational, zero_ℚ, ◌≤ℚ◌, ◌*ℚ◌, ◌-ℚ◌, neg_ℚ}
 use Rattle.rational.proofs.Laws as Q
 use Rattle.rational.proofs.Laws.{at_most_true, true_at_most}
@@ -9,9 +9,9 @@ use Rattle.fraction.specs.declared.frac.NoFit.{NoFit}
 use Rattle.instance.specs.Sums.{and_then}
 use Rattle.rational.specs.Compare.{is_at_most}
 use Rattle.verdicts.specs.WeightedSums.{coefficient_of}
-use Rattle.verdicts.specs.Certificate.{One, Side as SideOf, Weights, Derived, TreeNode, Bound}
+use Rattle.verdicts.specs.Certificate.{Two, Side as SideOf, Weights, Derived, TreeNode, Bound}
 use Rattle.verdicts.specs.Proves.{derived_passes, node_passes}
-use Rattle.verdicts.proofs.Laws.{le_by, bound_under}
+use Rattle.verdicts.proofs.Laws.{le_by, leaf_bound}
 use Rattle.basis.specs.Node.{IsNodePoint}
 use Rattle.cert_check.specs.Setting.{Setting}
 use Rattle.cert_check.specs.Sums.{and_also, all_there, bound_sum, weight_products, are_forms}
@@ -20,19 +20,28 @@ use Rattle.cert_check.proofs.Laws.{derived_ok, node_ok}
 use Rattle.search_tree.specs.Work.{node_setting}
 use Rattle.search_tree.specs.Nodes.{NodePasses, IsRelaxedOptimum}
 use Rattle.search_tree.specs.Kept.{AllPass, IsNoBetter}
+use Rattle.search_tree.specs.Points.{AreOfColumns}
+use Rattle.search_tree.proofs.NodePoints.{takes_inside}
 
 is_true : (r : Result Bool NoFit) (b : Bool) → r ≡ Ok true → IfOk r (λ x. x ≡ b) → b ≡ true
 is_true r b e h = let P : Result Bool NoFit → Type 0 = λ a. IfOk a (λ x. x ≡ b) in sym (subst P e h)
 
-pub node_test : (p : Problem) (goal : Option Rational) (ds : List Derived) (sides : List SideOf) (node : TreeNode) → NodePasses p goal ds sides node → node_passes p One goal ds sides node ≡ true
-node_test p goal ds sides node h = is_true _ (node_passes p One goal ds sides node) h (node_ok p One goal ds sides node)
+pub node_test : (p : Problem) (goal : Option Rational) (ds : List Derived) (sides : List SideOf) (node : TreeNode) → NodePasses p goal ds sides node → node_passes p Two goal ds sides node ≡ true
+node_test p goal ds sides node h = is_true _ (node_passes p Two goal ds sides node) h (node_ok p Two goal ds sides node)
 
-pub cut_tests : (p : Problem) (ds : List Derived) → AllPass p ds → (k : ℕ) → IfSome (slice_get ds k) (λ d. derived_passes p [] d ≡ true)
+pub cut_tests : (p : Problem) (ds : List Derived) → AllPass p ds → (k : ℕ) → IfSome (slice_get ds k) (λ d. derived_passes p (take k ds) d ≡ true)
 cut_tests p ds h k = go (slice_get ds k) (h k)
   where
-    go : (o : Option Derived) → IfSome o (λ d. derived_answer p One [] d ≡ Ok true) → IfSome o (λ d. derived_passes p [] d ≡ true)
+    go : (o : Option Derived) → IfSome o (λ d. derived_answer p Two (take k ds) d ≡ Ok true) → IfSome o (λ d. derived_passes p (take k ds) d ≡ true)
     go None e = tt
-    go (Some d) e = is_true _ (derived_passes p [] d) e (derived_ok p One [] d)
+    go (Some d) e = is_true _ (derived_passes p (take k ds) d) e (derived_ok p Two (take k ds) d)
+
+-- what holds of each cut with those before it: of the first, and of the others
+pub of_first : (P : List Derived → Derived → Type 0) (before ds : List Derived) (d : Derived) → ((k : ℕ) → IfSome (slice_get (d ∷ ds) k) (P (before ++ take k (d ∷ ds)))) → P before d
+of_first P before ds d h = let Q : List Derived → Type 0 = λ all. P all d in subst Q (append-nil before) (h zero)
+
+pub of_others : (P : List Derived → Derived → Type 0) (before ds : List Derived) (d : Derived) → ((k : ℕ) → IfSome (slice_get (d ∷ ds) k) (P (before ++ take k (d ∷ ds)))) → (k : ℕ) → IfSome (slice_get ds k) (P ((before ++ d ∷ []) ++ take k ds))
+of_others P before ds d h k = let Q : List Derived → Type 0 = λ all. IfSome (slice_get ds k) (P all) in subst Q (sym (append_assoc before (d ∷ []) (take k ds))) (h (suc k))
 
 -- ---- a leaf that passes against a value passes against a better one
 
@@ -72,6 +81,9 @@ bound_too p ds sides w (Some v) (Some b) h t =
 
 -- ---- points and weights
 
--- a point of the node's relaxation is optimal where weights pass at its own value
-pub passing_optimum : (p : Problem) (ds : List Derived) (sides : List SideOf) (x : List Rational) (w : Weights) → IsNodePoint p ds sides x → NodePasses p (Some (objective_value p x)) ds sides (Bound w) → IsRelaxedOptimum p ds sides x
-passing_optimum p ds sides x w h k = record { point = h; none_better = λ y n better. Q.lt-not-le _ _ better (bound_under p (objective_value p x) ds sides [] w y (node_test p (Some (objective_value p x)) ds sides (Bound w) k) n.relaxed n.columns tt n.derived) }
+-- a point of the relaxation of a node below splits of columns is optimal where weights pass at its own value
+pub passing_optimum : (p : Problem) (ds : List Derived) (sides : List SideOf) (x : List Rational) (w : Weights) → AreOfColumns sides → IsNodePoint p ds sides x → NodePasses p (Some (objective_value p x)) ds sides (Bound w) → IsRelaxedOptimum p ds sides x
+passing_optimum p ds sides x w of_columns h k = record {
+  point = h;
+  none_better = λ y n better. Q.lt-not-le _ _ better (leaf_bound p Two (objective_value p x) ds sides w y (node_test p (Some (objective_value p x)) ds sides (Bound w) k) n.relaxed (takes_inside p y sides of_columns n.columns) n.derived);
+}

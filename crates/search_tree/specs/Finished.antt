@@ -1,7 +1,7 @@
 -- Boards whose leaves are all closed, and their certificates.
 use Rattle.std.specs.Prelude.{List, [], ◌∷◌, ◌++◌, length, Option, Some, None}
 use Rattle.rational.specs.Rational.{Rational}
-use Rattle.verdicts.specs.Certificate.{One, Verdict, Optimal, Infeasible, TreeNode, Branch, Certificate}
+use Rattle.verdicts.specs.Certificate.{Two, Verdict, Optimal, Infeasible, TreeNode, Branch, Certificate}
 use Rattle.search_tree.specs.Tree.{Tree, Divided, AtLeaf, AllLeaves}
 use Rattle.search_tree.specs.Board.{Board, value_of}
 use Rattle.search_tree.specs.Kept.{closed_node}
@@ -30,7 +30,7 @@ verdict_of (Some x) = Optimal
 
 abbrev pub certificate_of : Board → Certificate
 certificate_of b = record {
-  version = One;
+  version = Two;
   rows = length b.problem.rows;
   columns = length b.problem.columns;
   verdict = verdict_of b.best;

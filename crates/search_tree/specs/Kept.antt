@@ -1,11 +1,11 @@
 -- What a board keeps, and which points it covers.
-use Rattle.std.specs.Prelude.{ℕ, ◌+◌, ◌≤◌, ◌≡◌, true, List, [], length, Option, Some, None, IfSome, slice_get, Ok}
+use Rattle.std.specs.Prelude.{ℕ, ◌+◌, ◌≤◌, ◌≡◌, true, List, [], length, take, Option, Some, None, IfSome, slice_get, Ok}
 use Rattle.std.specs.List.{AllByRecursion}
 use Rattle.rational.specs.Rational.{Rational, ◌≤ℚ◌, ◌*ℚ◌}
 use Rattle.milp.specs.Problem.{Problem}
 use Rattle.milp.specs.Points.{Feasible, objective_value, sign_of}
 use Rattle.instance.specs.Sums.{value_answer, meets_answer}
-use Rattle.verdicts.specs.Certificate.{One, Side, Derived, TreeNode, Empty, Bound}
+use Rattle.verdicts.specs.Certificate.{Two, Side, Derived, TreeNode, Empty, Bound}
 use Rattle.verdicts.specs.Proves.{TakesAll}
 use Rattle.cert_check.specs.Parts.{derived_answer}
 use Rattle.search_tree.specs.declared.leaf.Leaf.{Leaf}
@@ -20,9 +20,9 @@ pub record HasSums (p : Problem) (x : List Rational) : Type 0 where
   pub meets : meets_answer p x ≡ Ok true
   pub value : value_answer p x ≡ Ok (objective_value p x)
 
--- the checker's test of each cut passes, and all its operations fit
+-- the checker's test of each cut passes, which may use those before it, and all its operations fit
 abbrev pub AllPass : Problem → List Derived → Type 0
-AllPass p cuts = (k : ℕ) → IfSome (slice_get cuts k) (λ d. derived_answer p One [] d ≡ Ok true)
+AllPass p cuts = (k : ℕ) → IfSome (slice_get cuts k) (λ d. derived_answer p Two (take k cuts) d ≡ Ok true)
 
 -- v is no better than the best value, which there is
 abbrev pub IsNoBetter : Problem → Option Rational → Rational → Type 0

@@ -15,3 +15,4 @@ pub mod Faults
 pub mod Paths
 pub mod Optimum
 pub mod Told
+pub mod Named

@@ -1,5 +1,5 @@
 -- The parts of the test of a point of a node's relaxation.
-use Rattle.std.specs.Prelude.{ℕ, pos, ◌+ℤ◌, ◌≡◌, List, length, Some, IfSome, slice_get}
+use Rattle.std.specs.Prelude.{ℕ, pos, ◌+ℤ◌, ◌≡◌, List, [], ◌∷◌, length, Some, IfSome, slice_get}
 use Rattle.rational.specs.Rational.{Rational, whole, ◌≤ℚ◌}
 use Rattle.milp.specs.Form.{number_at, sum_at}
 use Rattle.milp.specs.Problem.{Column, Row}
@@ -26,6 +26,12 @@ IsOnSide x (High s) = whole (s.at +ℤ pos 1) ≤ℚ number_at x (split_column s
 -- the split is one of a column
 abbrev pub IsOfColumn : Split → Type 0
 IsOfColumn s = s.form ≡ column_form (split_column s)
+
+-- all splits on a way are of columns
+abbrev pub AreOfColumns : List Side → Type 0
+AreOfColumns [] = Unit {0}
+AreOfColumns (Low s ∷ sides) = IsOfColumn s × AreOfColumns sides
+AreOfColumns (High s ∷ sides) = IsOfColumn s × AreOfColumns sides
 
 -- the splits that were taken are of columns, and the point is on the side of each
 abbrev pub AreOnSides : List Rational → List SplitTaken → Type 0

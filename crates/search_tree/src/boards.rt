@@ -5,6 +5,7 @@ ghost use Rattle.milp.specs.Problem.{Problem};
 ghost use Rattle.milp.specs.Points.{objective_value};
 ghost use Rattle.verdicts.specs.Certificate.{Split, Side as SideOf, Weights, Derived, Bound};
 ghost use Rattle.verdicts.specs.Proves.{Proves};
+ghost use Rattle.verdicts.specs.Migrated.{named};
 ghost use Rattle.basis.specs.Dictionary.{Dictionary};
 ghost use Rattle.fraction.specs.declared.frac.NoFit.{NoFit};
 ghost use Rattle.basis.specs.Node.{system_of, IsOverColumns, IsNodePoint};
@@ -14,11 +15,13 @@ ghost use Rattle.basis.specs.Relaxation.{IsOptimalRelaxation};
 ghost use Rattle.basis.specs.declared.Place.{Place};
 ghost use Rattle.cert_check.specs.Outcome.{Acceptance, outcome, trials};
 ghost use Rattle.certificate.specs.declared.split.Side.{Side};
+ghost use Rattle.search_tree.specs.Named.{EmptyIsNamed, BoundIsNamed};
 ghost use Rattle.search_tree.specs.Nodes.{IsRelaxedOptimum, IsHonestSplit, IsTreated, IsWorthwhile, NodePasses};
 ghost use Rattle.search_tree.specs.AnyWhole.{any_whole_x};
 ghost use Rattle.search_tree.specs.Ascending.{AreFormsAscending};
 ghost use Rattle.search_tree.specs.Work.{IsWorkFault};
 ghost use Rattle.search_tree.specs.Pinned.{IsPinned};
+ghost use Rattle.search_tree.specs.Points.{AreOfColumns};
 ghost use Rattle.search_tree.specs.Tree.{sides_to};
 ghost use Rattle.search_tree.specs.Board.{Board};
 ghost use Rattle.search_tree.specs.declared.event.Event.{Event};
@@ -47,17 +50,27 @@ pub fn finished_boards()
     ensures proves { (b : Board) → IsKept b → IsFinished b → Proves b.problem (certificate_of b) }
 {}
 
-/// A point of a node's relaxation is optimal there where weights that pass the checker's test show its own value, and
-/// where the simplex method finds it. What rests there tells the number of each column, where the simplex method finds it.
+/// A point of a node's relaxation is optimal there where weights that pass the checker's test show its own value, if the
+/// splits on the way are of columns, and where the simplex method finds it. What rests there tells the number of each column, where the simplex method finds it.
 pub fn optimal_points()
     ensures tested { (p : Problem) (ds : List Derived) (sides : List SideOf) (x : List Rational) (w : Weights) →
-        IsNodePoint p ds sides x → NodePasses p (Some (objective_value p x)) ds sides (Bound w) → IsRelaxedOptimum p ds sides x }
+        AreOfColumns sides → IsNodePoint p ds sides x → NodePasses p (Some (objective_value p x)) ds sides (Bound w) → IsRelaxedOptimum p ds sides x }
     ensures found { (p : Problem) (ds : List Derived) (sides : List SideOf) (x : List Rational) (w : Weights) (b : List Place)
         (d : Dictionary) → IsOverColumns p ds sides → IsOptimalRelaxation p ds sides x w b d → IsRelaxedOptimum p ds sides x }
     ensures pinned { (p : Problem) (ds : List Derived) (sides : List SideOf) (x : List Rational) (w : Weights) (b : List Place)
         (d : Dictionary) → IsOverColumns p ds sides → IsOptimalRelaxation p ds sides x w b d →
         (j : ℕ) → j < length p.columns → IsPinned (system_of p ds sides) x j }
 {}
+
+/// Weights that show a contradiction at a node, or the value of its optimal point, pass the checker's test where they name
+/// the splits on the way. At the root there are none to name.
+pub fn named_leaves()
+    ensures empty { EmptyIsNamed }
+    ensures bound { BoundIsNamed }
+    ensures root { (p : Problem) (w : Weights) → named p [] w ≡ w }
+{
+    verdicts::splits_are_named();
+}
 
 /// A leaf that is bounded stays so where a better best value is found: its sums are the same, and only a comparison
 /// changes.
@@ -78,7 +91,7 @@ pub fn treated_nodes()
 /// those of the tests of what it finds.
 pub fn faults_are_on_site_numbers()
     ensures { (p : Problem) (ds : List Derived) (sides : List SideOf) (e : NoFit) → IsOverColumns p ds sides →
-        AreFormsAscending p ds → IsWorkFault p ds sides e → IsSiteFault (node_numbers p ds sides) e }
+        AreFormsAscending p ds sides → IsWorkFault p ds sides e → IsSiteFault (node_numbers p ds sides) e }
 {}
 
 /// Far out on a face of optimal points that has no end no split is honest: `min 0, x >= 0 whole` has no honest split.

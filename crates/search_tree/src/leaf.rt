@@ -1,7 +1,7 @@
 // Leaves of a tree of splits.
 ghost use Rattle.std.specs.Prelude.{◌≡◌};
 
-use certificate::{ColumnSplit, Weights};
+use certificate::{ColumnSplit, LeafWeights};
 use fraction::{Frac, NoFit};
 use search_node::{Bases, Basis};
 use std::alloc::{AllocError, Global};
@@ -85,9 +85,9 @@ pub enum Leaf {
     /// Someone works on it.
     Leased(Lease),
     /// It has no point, as the weights show.
-    Refuted(Weights),
+    Refuted(LeafWeights),
     /// It has no point that is better than the best, as the weights show.
-    Bounded(Weights),
+    Bounded(LeafWeights),
     /// An operation of the work on it does not fit.
     NotFitting(NoFit),
     /// Its run is longer than the limit of steps: the bases of the first steps.

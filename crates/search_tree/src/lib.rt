@@ -13,8 +13,8 @@ mod telling;
 mod way;
 
 pub use boards::{
-    bounded_leaves, faults_are_on_site_numbers, finished_boards, kept_boards, none_far_out,
-    optimal_points, treated_nodes, ways_of_boards,
+    bounded_leaves, faults_are_on_site_numbers, finished_boards, kept_boards, named_leaves,
+    none_far_out, optimal_points, treated_nodes, ways_of_boards,
 };
 pub use event::{Entry, Event, Reply};
 pub use leaf::{Hint, Leaf, Lease, Slot};

@@ -2,6 +2,7 @@
 ghost use Rattle.std.specs.Prelude.{◌≡◌, true, length, [], ◌∷◌, ◌++◌, IfOk, OnOk, OnErr, Some, None};
 ghost use Rattle.verdicts.specs.Certificate.{Empty, Bound};
 ghost use Rattle.verdicts.specs.Proves.{same_form, lower_under, upper_under};
+ghost use Rattle.verdicts.specs.Migrated.{named};
 ghost use Rattle.basis.specs.System.{unit_form};
 ghost use Rattle.cert_check.specs.Made.{made_form};
 ghost use Rattle.certificate.specs.Values.{node_of};
@@ -10,11 +11,13 @@ ghost use Rattle.cert_check.specs.Parts.{node_answer};
 ghost use Rattle.search_node.specs.Sides.{sides_of};
 ghost use Rattle.search_tree.specs.Work.{node_setting};
 ghost use Rattle.search_tree.specs.Paths.{last_sides};
+ghost use Rattle.search_tree.specs.Points.{AreOfColumns};
 
 use cert_check::{lower_at, makes_column, shows_no_point, shows_none_better, upper_at};
 use certificate::{ColumnSplit, DerivedRows, LeafWeights, Side, Tree, TreeNode, Weights};
 use fraction::{Frac, NoFit};
 use instance::Instance;
+use migration::named;
 use search_node::SplitsTaken;
 use std::alloc::{AllocError, Global};
 use std::marker::Model;
@@ -29,10 +32,13 @@ impl Model for Path {
     ghost use Rattle.std.specs.Prelude.{List};
     ghost use Rattle.verdicts.specs.Certificate.{Side as SideOf};
     ghost use Rattle.search_tree.specs.Paths.{last_sides};
+    ghost use Rattle.search_tree.specs.Points.{AreOfColumns};
 
     ghost Value = { List SideOf };
 
     ghost view = { λ p. last_sides p.tree };
+
+    ghost invariant = { λ p. AreOfColumns (last_sides p.tree) };
 }
 
 impl Path {
@@ -66,37 +72,69 @@ impl Path {
         ensures { IfOk result (λ path. path ≡ side_of split side ∷ self) }
     {
         let mut tree = self.tree;
+        let _column = split.column();
         turn(alloc, &mut tree, split, side)?;
         Ok(Path { tree })
+    }
+
+    /// The splits on the way are of columns.
+    pub fn is_of_columns(&self)
+        ensures { AreOfColumns self.now }
+    {
+        let _nodes = self.tree.as_slice();
+    }
+
+    /// The weights as a certificate has them at the node: where a split on the way gives the bound that the weight of a
+    /// column uses, it is a weight of this split.
+    pub fn named(
+        &self,
+        alloc: Global,
+        problem: &Instance,
+        weights: &Weights,
+    ) -> Result<LeafWeights, AllocError>
+        ensures { IfOk result (λ made. made ≡ named problem.now self.now weights.now) }
+    {
+        let place = self.tree.as_slice().len();
+        named(alloc, problem, &self.tree, place, weights)
     }
 
     /// Whether the weights show that the node has no point, or the first operation on the way that does not fit. Memory is
     /// taken as in `check` of cert_check: without it the answer is the same, and takes longer.
     pub fn shows_no_point(
         &self,
+        alloc: Global,
         problem: &Instance,
         cuts: &DerivedRows,
-        weights: &Weights,
+        weights: &LeafWeights,
     ) -> Result<bool, NoFit>
         ensures { result ≡ node_answer (node_setting problem.now cuts.now self.now) None (Empty weights.now) }
     {
         let place = self.tree.as_slice().len();
-        shows_no_point(problem, cuts.as_slice(), &self.tree, place, weights)
+        shows_no_point(alloc, problem, cuts.as_slice(), &self.tree, place, weights)
     }
 
     /// Whether the weights show that the node has no point with a better value of the objective's form than this one, or
     /// the first operation on the way that does not fit. Memory is taken as in `shows_no_point`.
     pub fn shows_none_better(
         &self,
+        alloc: Global,
         problem: &Instance,
         cuts: &DerivedRows,
-        weights: &Weights,
+        weights: &LeafWeights,
         value: Frac,
     ) -> Result<bool, NoFit>
         ensures { result ≡ node_answer (node_setting problem.now cuts.now self.now) (Some value) (Bound weights.now) }
     {
         let place = self.tree.as_slice().len();
-        shows_none_better(problem, cuts.as_slice(), &self.tree, place, weights, value)
+        shows_none_better(
+            alloc,
+            problem,
+            cuts.as_slice(),
+            &self.tree,
+            place,
+            weights,
+            value,
+        )
     }
 
     // Whether the weights make a column alone; not where an operation on the way does not fit.

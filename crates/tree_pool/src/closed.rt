@@ -1,15 +1,13 @@
 // The tree of a certificate.
-ghost use Rattle.std.specs.Prelude.{◌≡◌, [], option_map, is_some, IfOk, IfSome, Some};
-ghost use Rattle.std.specs.List.{AllByRecursion};
+ghost use Rattle.std.specs.Prelude.{◌≡◌, option_map, is_some, IfOk};
 ghost use Rattle.certificate.specs.Values.{node_of};
-ghost use Rattle.certificate.specs.Written.{IsOfOne};
 ghost use Rattle.search_tree.specs.Kept.{closed_node};
 ghost use Rattle.tree_pool.specs.LogNodes.{node_at, nodes_in};
 ghost use Rattle.tree_pool.specs.Ledger.{closed_in, closed_slots, are_closed};
 
 use crate::kind::held;
 use crate::refs::NodeRef;
-use certificate::{LeafWeights, Tree, TreeNode, Weights};
+use certificate::{Tree, TreeNode};
 use search_tree::{Entry, Leaf, Slot};
 use std::alloc::{AllocError, Global};
 
@@ -19,8 +17,7 @@ pub(crate) fn closed_tree(
     log: &[Entry],
     nodes: &[NodeRef],
 ) -> Result<Tree, AllocError>
-    ensures nodes { IfOk result (λ t. t ≡ closed_slots (nodes_in log.now nodes.now)) }
-    ensures lines { IfOk result (AllByRecursion IsOfOne) }
+    ensures { IfOk result (λ t. t ≡ closed_slots (nodes_in log.now nodes.now)) }
 {
     let mut tree = Tree::new(alloc);
     for node in nodes {
@@ -38,8 +35,7 @@ pub(crate) fn closed_tree(
 
 // The node of a certificate, where one stands here.
 fn closed_at(alloc: Global, log: &[Entry], node: NodeRef) -> Result<Option<TreeNode>, AllocError>
-    ensures node { IfOk result (λ o. option_map node_of o ≡ closed_in (node_at log.now node)) }
-    ensures line { IfOk result (λ o. IfSome o (λ n. IsOfOne (node_of n))) }
+    ensures { IfOk result (λ o. option_map node_of o ≡ closed_in (node_at log.now node)) }
 {
     match node {
         NodeRef::Again => Ok(None),
@@ -55,8 +51,7 @@ fn held_closed(
     entry: usize,
     n: usize,
 ) -> Result<Option<TreeNode>, AllocError>
-    ensures node { IfOk result (λ o. option_map node_of o ≡ closed_in (node_at log.now (NodeRef.Held entry n))) }
-    ensures line { IfOk result (λ o. IfSome o (λ n. IsOfOne (node_of n))) }
+    ensures { IfOk result (λ o. option_map node_of o ≡ closed_in (node_at log.now (NodeRef.Held entry n))) }
 {
     match held(log, entry, n) {
         None => Ok(None),
@@ -65,37 +60,22 @@ fn held_closed(
 }
 
 fn slot_closed(alloc: Global, slot: &Slot) -> Result<Option<TreeNode>, AllocError>
-    ensures node { IfOk result (λ o. option_map node_of o ≡ closed_in slot.now) }
-    ensures line { IfOk result (λ o. IfSome o (λ n. IsOfOne (node_of n))) }
+    ensures { IfOk result (λ o. option_map node_of o ≡ closed_in slot.now) }
 {
     match slot {
-        Slot::Divided(split) => {
-            let _column = split.column();
-            Ok(Some(TreeNode::Branch(split.to_split(alloc)?)))
-        }
+        Slot::Divided(split) => Ok(Some(TreeNode::Branch(split.to_split(alloc)?))),
         Slot::Leaf(leaf) => leaf_closed(alloc, leaf),
     }
 }
 
 fn leaf_closed(alloc: Global, leaf: &Leaf) -> Result<Option<TreeNode>, AllocError>
-    ensures node { IfOk result (λ o. option_map node_of o ≡ closed_node leaf.now) }
-    ensures line { IfOk result (λ o. IfSome o (λ n. IsOfOne (node_of n))) }
+    ensures { IfOk result (λ o. option_map node_of o ≡ closed_node leaf.now) }
 {
     match leaf {
-        Leaf::Refuted(weights) => Ok(Some(TreeNode::Empty(leaf_weights(alloc, weights)?))),
-        Leaf::Bounded(weights) => Ok(Some(TreeNode::Bound(leaf_weights(alloc, weights)?))),
+        Leaf::Refuted(weights) => Ok(Some(TreeNode::Empty(weights.copy(alloc)?))),
+        Leaf::Bounded(weights) => Ok(Some(TreeNode::Bound(weights.copy(alloc)?))),
         _ => Ok(None),
     }
-}
-
-// The same weights, as those of a certificate's leaf.
-fn leaf_weights(alloc: Global, weights: &Weights) -> Result<LeafWeights, AllocError>
-    ensures same { IfOk result (λ w. w ≡ weights.now) }
-    ensures splits { weights.now.splits ≡ [] }
-{
-    let _rows = weights.rows();
-    let copy = weights.copy(alloc)?;
-    Ok(LeafWeights::without_splits(alloc, copy))
 }
 
 // Each leaf is closed.

@@ -1,8 +1,6 @@
 // The log of a board, and the tree and best point that it leads to.
 ghost use Rattle.std.specs.Prelude.{◌≡◌, ◌++◌, [], ◌∷◌, ◌<◌, ◌≤◌, ◌+◌, length, set, cond, Some, None, option_map, true, false, OnOk, OnErr, IfOk, IfErr, IfSome, List, slice_get};
 ghost use Rattle.std.specs.Vec.{vec_len, vec_capacity};
-ghost use Rattle.std.specs.List.{AllByRecursion};
-ghost use Rattle.certificate.specs.Written.{IsOfOne};
 ghost use Rattle.certificate.specs.declared.split.Side.{Side as SideOf};
 ghost use Rattle.search_tree.specs.declared.leaf.Lease.{Lease as LeaseOf};
 ghost use Rattle.search_tree.specs.declared.leaf.Leaf.TheVariants.{Todo, Leased};
@@ -371,8 +369,7 @@ impl Ledger {
 
     /// The tree as a certificate has it, without the leaves that are not closed.
     pub(crate) fn closed_tree(&self, alloc: Global) -> Result<Tree, AllocError>
-        ensures nodes { IfOk result (λ t. t ≡ nodes_of self.now.tree) }
-        ensures lines { IfOk result (AllByRecursion IsOfOne) }
+        ensures { IfOk result (λ t. t ≡ nodes_of self.now.tree) }
     {
         let nodes = self.in_preorder(alloc)?;
         closed_tree(alloc, &self.log, &nodes)

@@ -1,8 +1,7 @@
 // The certificate of a board's verdict.
 ghost use Rattle.std.specs.Prelude.{◌≡◌, length, true, IsTrue, IfSome, Some, None, is_some};
-ghost use Rattle.verdicts.specs.Certificate.{One};
-ghost use Rattle.std.specs.List.{AllByRecursion};
-ghost use Rattle.certificate.specs.Written.{is_tree, IsOfOne};
+ghost use Rattle.verdicts.specs.Certificate.{Two};
+ghost use Rattle.certificate.specs.Written.{is_tree};
 ghost use Rattle.search_tree.specs.Finished.{verdict_of};
 
 use certificate::{Certificate, DerivedRows, Tree, Version};
@@ -19,16 +18,15 @@ pub(crate) fn certificate_with(
     value: Option<Frac>,
 ) -> Certificate
     requires tree { IsTrue (is_tree tree) }
-    requires lines { AllByRecursion IsOfOne tree }
     requires size { IfSome best (λ x. length x ≡ columns) }
     requires value { is_some value ≡ is_some best }
-    ensures { result ≡ record { version = One; rows = rows; columns = columns; verdict = verdict_of best; value = value; point = best; ray = None; derived = cuts; tree = tree } }
+    ensures { result ≡ record { version = Two; rows = rows; columns = columns; verdict = verdict_of best; value = value; point = best; ray = None; derived = cuts; tree = tree } }
 {
     match best {
-        None => Certificate::infeasible(Version::One, rows, columns, cuts, tree),
+        None => Certificate::infeasible(Version::Two, rows, columns, cuts, tree),
         Some(point) => {
             let value = known(value);
-            Certificate::optimal(Version::One, rows, columns, value, point, cuts, tree)
+            Certificate::optimal(Version::Two, rows, columns, value, point, cuts, tree)
         }
     }
 }

@@ -10,6 +10,7 @@ use Rattle.milp.specs.Points.{IsWhole, IsWithin, Feasible, IsOptimal, IsImprovin
 use Rattle.fraction.specs.declared.frac.NoFit.{NoFit}
 use Rattle.instance.specs.Sums.{value_answer}
 use Rattle.verdicts.specs.Certificate.{Weights, Bound, Split}
+use Rattle.verdicts.specs.Migrated.{named}
 use Rattle.basis.specs.Dictionary.{Dictionary}
 use Rattle.basis.specs.Node.{integer_at}
 use Rattle.basis.specs.Pivots.{Operation}
@@ -44,7 +45,7 @@ value_fits : (integer : Bool) → IsOk (value_answer (any_x integer) origin)
 unfolding ◌+ℚ◌ over gcd gcd_within
 value_fits integer = refl
 
-bound_fits : (integer : Bool) (goal : Option Rational) → IsOk (node_answer (node_setting (any_x integer) [] []) goal (Bound no_weights))
+bound_fits : (integer : Bool) (goal : Option Rational) → IsOk (node_answer (node_setting (any_x integer) [] []) goal (Bound (named (any_x integer) [] no_weights)))
 unfolding ◌+ℚ◌ ◌*ℚ◌ over gcd gcd_within
 bound_fits integer None = refl
 bound_fits integer (Some v) = refl
@@ -65,7 +66,7 @@ module _ (integer : Bool) where
   no_fault e (IsWorkFault.in_value x w b d h is) = no_err (value_answer (any_x integer) x) e (subst (λ y. IsOk (value_answer (any_x integer) y)) (sym (at.optimal_point integer [] x w b d h)) (value_fits integer)) is
   no_fault e (IsWorkFault.in_point x w b d h is) = no_err (point_answer (any_x integer) (Some x)) e (subst (λ y. IsOk (point_answer (any_x integer) (Some y))) (sym (at.optimal_point integer [] x w b d h)) (point_fits integer)) is
   no_fault e (IsWorkFault.in_bound x w b d goal h is) =
-      no_err (node_answer (node_setting (any_x integer) [] []) goal (Bound w)) e (subst (λ u. IsOk (node_answer (node_setting (any_x integer) [] []) goal (Bound u))) (sym (at.optimal_weights integer [] x w b d h tt)) (bound_fits integer goal)) is
+      no_err (node_answer (node_setting (any_x integer) [] []) goal (Bound (named (any_x integer) [] w))) e (subst (λ u. IsOk (node_answer (node_setting (any_x integer) [] []) goal (Bound (named (any_x integer) [] u)))) (sym (at.optimal_weights integer [] x w b d h tt)) (bound_fits integer goal)) is
   no_fault e (IsWorkFault.in_empty w goal h is) = at.never_infeasible integer [] w h
   no_fault e (IsWorkFault.in_ray x ray h is) = never_unbounded h.basis h.dictionary h.values h.mover h.direction h.is_unbounded
 

@@ -8,6 +8,7 @@ use Rattle.rational.proofs.Laws as Q
 use Rattle.fraction.specs.declared.frac.NoFit.{NoFit}
 use Rattle.instance.specs.Sums.{value_answer}
 use Rattle.verdicts.specs.Certificate.{Weights, Bound}
+use Rattle.verdicts.specs.Migrated.{named}
 use Rattle.basis.specs.System.{System, lower_of, upper_of, IsSystem}
 use Rattle.basis.specs.Dictionary.{place_of, IsBasic, Dictionary, IsDictionary, gain_of, IsBasicPoint}
 use Rattle.basis.specs.Bland.{first_place, start_dictionary, Improves, BlandStep, IsStart, IsRun}
@@ -130,7 +131,7 @@ value_fits = refl
 point_fits : IsOk (point_answer least_whole (Some (whole (pos 2) ∷ [])))
 point_fits = refl
 
-bound_fits : (goal : Option Rational) → IsOk (node_answer (node_setting least_whole [] []) goal (Bound (record { rows = []; columns = record { index = 0; weight = one_ℚ } ∷ []; derived = []; splits = [] })))
+bound_fits : (goal : Option Rational) → IsOk (node_answer (node_setting least_whole [] []) goal (Bound (named least_whole [] (record { rows = []; columns = record { index = 0; weight = one_ℚ } ∷ []; derived = []; splits = [] }))))
 unfolding ◌+ℚ◌ ◌*ℚ◌ over gcd gcd_within
 bound_fits None = refl
 bound_fits (Some v) = refl
@@ -154,6 +155,6 @@ no_fault e (IsWorkFault.in_method h) = no_operation e.a _ e.b h.operation
 no_fault e (IsWorkFault.in_value x w b d h is) = no_err (value_answer least_whole x) e (subst (λ y. IsOk (value_answer least_whole y)) (sym (point_is x w b d h)) value_fits) is
 no_fault e (IsWorkFault.in_point x w b d h is) = no_err (point_answer least_whole (Some x)) e (subst (λ y. IsOk (point_answer least_whole (Some y))) (sym (point_is x w b d h)) point_fits) is
 no_fault e (IsWorkFault.in_bound x w b d goal h is) =
-    no_err (node_answer (node_setting least_whole [] []) goal (Bound w)) e (subst (λ u. IsOk (node_answer (node_setting least_whole [] []) goal (Bound u))) (sym (weights_are x w b d h)) (bound_fits goal)) is
+    no_err (node_answer (node_setting least_whole [] []) goal (Bound (named least_whole [] w))) e (subst (λ u. IsOk (node_answer (node_setting least_whole [] []) goal (Bound (named least_whole [] u)))) (sym (weights_are x w b d h)) (bound_fits goal)) is
 no_fault e (IsWorkFault.in_empty w goal h is) = never_infeasible w h
 no_fault e (IsWorkFault.in_ray x ray h is) = never_unbounded h.basis h.dictionary h.values h.mover h.direction h.is_unbounded

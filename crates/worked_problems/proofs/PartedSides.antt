@@ -8,6 +8,7 @@ use Rattle.rational.specs.Rational.{Rational, zero_ℚ, one_ℚ, whole, over, ne
 use Rattle.rational.proofs.Laws as Q
 use Rattle.fraction.specs.declared.frac.NoFit.{NoFit}
 use Rattle.verdicts.specs.Certificate.{Side, Low, High, Weights, Empty}
+use Rattle.verdicts.specs.Migrated.{named}
 use Rattle.basis.specs.System.{System, AreBoundsInOrder}
 use Rattle.basis.specs.Dictionary.{Dictionary, rate_of}
 use Rattle.basis.specs.Bland.{HasPassed, CanMend, IsOptimalBasis}
@@ -48,7 +49,7 @@ record IsBlockedNode (sides : List Side) (l : Rational) (u : Option Rational) (w
   first_sum : fits_by Plus zero_ℚ (three *ℚ l) ≡ true
   splits : (k : ℕ) (side : Side) → slice_get sides k ≡ Some side → fits_by Plus (whole (at_of side)) one_ℚ ≡ true
   weights : (d : Dictionary) (x : ℕ → Rational) (place : Place) → x 1 ≡ three *ℚ l → rate_of d 0 1 ≡ three → HasPassed (inside l u) x 1 place → weights_of parted [] (blocking_weights d 1 place) ≡ w
-  test : (goal : Option Rational) → IsOk (node_answer (node_setting parted [] sides) goal (Empty w))
+  test : (goal : Option Rational) → IsOk (node_answer (node_setting parted [] sides) goal (Empty (named parted sides w)))
 
 module _ (laws : BasisLaws) (sides : List Side) (l : Rational) (u : Option Rational) (w : Weights) (t : IsBlockedNode sides l u w) where
   never_limited : (limit : ℕ) (bases : List (List Place)) → ¬ (IsLimited (system_of parted [] sides) limit bases)
@@ -80,7 +81,7 @@ module _ (laws : BasisLaws) (sides : List Side) (l : Rational) (u : Option Ratio
   no_fault e (IsWorkFault.in_point x v b d h is) = never_optimal x v b d h
   no_fault e (IsWorkFault.in_bound x v b d goal h is) = never_optimal x v b d h
   no_fault e (IsWorkFault.in_empty v goal h is) =
-      no_err (node_answer (node_setting parted [] sides) goal (Empty v)) e (subst (λ y. IsOk (node_answer (node_setting parted [] sides) goal (Empty y))) (sym (infeasible_weights v h)) (t.test goal)) is
+      no_err (node_answer (node_setting parted [] sides) goal (Empty (named parted sides v))) e (subst (λ y. IsOk (node_answer (node_setting parted [] sides) goal (Empty (named parted sides y)))) (sym (infeasible_weights v h)) (t.test goal)) is
   no_fault e (IsWorkFault.in_ray x ray h is) = never_unbounded h.basis h.dictionary h.values h.mover h.direction h.is_unbounded
 
 -- ---- numbers
@@ -136,7 +137,7 @@ low_weights d x AtLower e f h = ap (λ y. weighed one_ℚ (neg_ℚ y)) f
 low_weights d x AtUpper e f h = absurd (low_not_high x e h)
 low_weights d x AtZero e f h = absurd h
 
-low_test : (goal : Option Rational) → IsOk (node_answer (node_setting parted [] (Low at_zero ∷ [])) goal (Empty (weighed one_ℚ (neg_ℚ three))))
+low_test : (goal : Option Rational) → IsOk (node_answer (node_setting parted [] (Low at_zero ∷ [])) goal (Empty (named parted (Low at_zero ∷ []) (weighed one_ℚ (neg_ℚ three)))))
 unfolding ◌+ℚ◌ ◌*ℚ◌ neg_ℚ over gcd gcd_within
 low_test goal = refl
 
@@ -197,7 +198,7 @@ high_weights d x AtLower e f h = absurd (high_not_low x e h)
 high_weights d x AtUpper e f h = ap (λ y. weighed (neg_ℚ one_ℚ) (neg_ℚ (neg_ℚ y))) f
 high_weights d x AtZero e f h = absurd h
 
-high_test : (goal : Option Rational) → IsOk (node_answer (node_setting parted [] (High at_zero ∷ [])) goal (Empty (weighed (neg_ℚ one_ℚ) (neg_ℚ (neg_ℚ three)))))
+high_test : (goal : Option Rational) → IsOk (node_answer (node_setting parted [] (High at_zero ∷ [])) goal (Empty (named parted (High at_zero ∷ []) (weighed (neg_ℚ one_ℚ) (neg_ℚ (neg_ℚ three))))))
 unfolding ◌+ℚ◌ ◌*ℚ◌ neg_ℚ over gcd gcd_within
 high_test goal = refl
 

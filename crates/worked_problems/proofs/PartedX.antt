@@ -8,6 +8,7 @@ use Rattle.rational.specs.Rational.{Rational, zero_ℚ, one_ℚ, whole, over, in
 use Rattle.rational.proofs.Laws as Q
 use Rattle.milp.specs.Form.{value_at}
 use Rattle.verdicts.specs.Certificate.{Weights, Bound}
+use Rattle.verdicts.specs.Migrated.{named}
 use Rattle.fraction.specs.declared.frac.NoFit.{NoFit}
 use Rattle.basis.specs.System.{System, AreBoundsInOrder, IsInside}
 use Rattle.basis.specs.Dictionary.{Dictionary, IsDictionary, place_of, RestsAt, IsBasicPoint}
@@ -172,7 +173,7 @@ tests : DoTestsFit parted (third ∷ []) (weighed (gain *ℚ inv_ℚ three) zero
 unfolding ◌+ℚ◌ ◌*ℚ◌ inv_ℚ neg_ℚ over gcd gcd_within
 tests = record { value = refl; point = refl; claim = λ v. refl; closed = closed }
   where
-    closed : (goal : Option Rational) → IsOk (node_answer (node_setting parted [] []) goal (Bound (weighed (gain *ℚ inv_ℚ three) zero_ℚ)))
+    closed : (goal : Option Rational) → IsOk (node_answer (node_setting parted [] []) goal (Bound (named parted [] (weighed (gain *ℚ inv_ℚ three) zero_ℚ))))
     closed None = refl
     closed (Some v) = refl
 

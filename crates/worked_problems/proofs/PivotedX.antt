@@ -19,6 +19,7 @@ use Rattle.basis.specs.declared.Place.TheVariants.{Basic, AtLower, AtUpper, AtZe
 use Rattle.basis.proofs.Laws.{neg_below}
 use Rattle.cert_check.specs.Parts.{node_answer}
 use Rattle.verdicts.specs.Certificate.{Bound}
+use Rattle.verdicts.specs.Migrated.{named}
 use Rattle.search_tree.specs.Work.{node_setting}
 use Rattle.worked_problems.specs.Problems.{pivoted}
 use Rattle.branch_search.specs.declared.whole_fault.Wanted.TheVariants.{Best, Any}
@@ -239,7 +240,7 @@ tests : DoTestsFit pivoted ((inv_ℚ one_ℚ *ℚ two) ∷ []) (weighed (gain *�
 unfolding ◌+ℚ◌ ◌*ℚ◌ inv_ℚ neg_ℚ over gcd gcd_within
 tests = record { value = refl; point = refl; claim = λ v. refl; closed = closed }
   where
-    closed : (goal : Option Rational) → IsOk (node_answer (node_setting pivoted [] []) goal (Bound (weighed (gain *ℚ inv_ℚ one_ℚ) zero_ℚ)))
+    closed : (goal : Option Rational) → IsOk (node_answer (node_setting pivoted [] []) goal (Bound (named pivoted [] (weighed (gain *ℚ inv_ℚ one_ℚ) zero_ℚ))))
     closed None = refl
     closed (Some v) = refl
 

@@ -8,6 +8,7 @@ use Rattle.milp.specs.Problem.{Problem}
 use Rattle.fraction.specs.declared.frac.NoFit.{NoFit}
 use Rattle.instance.specs.Sums.{value_answer}
 use Rattle.verdicts.specs.Certificate.{Weights, Bound}
+use Rattle.verdicts.specs.Migrated.{named}
 use Rattle.basis.specs.System.{System, lower_of, upper_of, AreBoundsInOrder}
 use Rattle.basis.specs.Dictionary.{Dictionary}
 use Rattle.basis.specs.Pivots.{Operation}
@@ -43,7 +44,7 @@ pub record DoTestsFit (p : Problem) (x : List Rational) (w : Weights) : Type 0 w
   pub value : IsOk (value_answer p x)
   pub point : IsOk (point_answer p (Some x))
   pub claim : (v : Rational) → IsOk (of.value_answer p (Some x) (Some v))
-  pub closed : (goal : Option Rational) → IsOk (node_answer (node_setting p [] []) goal (Bound w))
+  pub closed : (goal : Option Rational) → IsOk (node_answer (node_setting p [] []) goal (Bound (named p [] w)))
 
 module _ (integer : Bool) (a : Rational) (lo hi : Option Rational) (o : Rational) (place : Place) (bound : Rational) (laws : BasisLaws) (t : Turns a lo hi (one_ℚ *ℚ o) place bound) where
   module _ (x : List Rational) (w : Weights) (b : List Place) (d : Dictionary) (h : IsOptimalRelaxation (of_row integer a lo hi o) [] [] x w b d) where
@@ -69,7 +70,7 @@ module _ (integer : Bool) (a : Rational) (lo hi : Option Rational) (o : Rational
     no_fault e (IsWorkFault.in_value x w b d h is) = no_err (value_answer (of_row integer a lo hi o) x) e (subst (λ y. IsOk (value_answer (of_row integer a lo hi o) y)) (sym (optimal_point x w b d h)) tests.value) is
     no_fault e (IsWorkFault.in_point x w b d h is) = no_err (point_answer (of_row integer a lo hi o) (Some x)) e (subst (λ y. IsOk (point_answer (of_row integer a lo hi o) (Some y))) (sym (optimal_point x w b d h)) tests.point) is
     no_fault e (IsWorkFault.in_bound x w b d goal h is) =
-        no_err (node_answer (node_setting (of_row integer a lo hi o) [] []) goal (Bound w)) e
-        (subst (λ u. IsOk (node_answer (node_setting (of_row integer a lo hi o) [] []) goal (Bound u))) (sym (optimal_weights x w b d h)) (tests.closed goal)) is
+        no_err (node_answer (node_setting (of_row integer a lo hi o) [] []) goal (Bound (named (of_row integer a lo hi o) [] w))) e
+        (subst (λ u. IsOk (node_answer (node_setting (of_row integer a lo hi o) [] []) goal (Bound (named (of_row integer a lo hi o) [] u)))) (sym (optimal_weights x w b d h)) (tests.closed goal)) is
     no_fault e (IsWorkFault.in_empty w goal h is) = never_infeasible w h
     no_fault e (IsWorkFault.in_ray x ray h is) = never_unbounded a lo hi (one_ℚ *ℚ o) place bound laws t h.basis h.dictionary h.values h.mover h.direction h.is_unbounded

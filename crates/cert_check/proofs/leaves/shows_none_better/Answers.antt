@@ -1,6 +1,6 @@
 use Rattle.std.proofs.Common.{◌≡◌, ◌∙◌, ap, subst, Some}
 use Rattle.milp.specs.Problem.{Problem}
-use Rattle.verdicts.specs.Certificate.{One, Weights, Bound}
+use Rattle.verdicts.specs.Certificate.{Two, Weights, Bound}
 use Rattle.cert_check.specs.Parts.{node_answer}
 use Rattle.cert_check.specs.Setting.{Setting}
 use Rattle.cert_check.specs.Walk.{Place, sides_to}
@@ -8,7 +8,7 @@ use Rattle.cert_check.proofs.leaves.shows_none_better.Goals as goal
 
 pub returns : goal.returns
 returns c =
-    let setting : Problem → Place → Setting = λ p w. record { version = One; problem = p; derived = c.args.derived.now; sides = sides_to w } in
+    let setting : Problem → Place → Setting = λ p w. record { version = Two; problem = p; derived = c.args.derived.now; sides = sides_to w } in
     let P : Setting → Type 0 = λ s. c.bound_passes.result ≡ node_answer s (Some c.args.value) (Bound c.args.weights.now) in
     let W : Weights → Type 0 = λ w. c.bound_passes.result ≡ node_answer c.of_node-setting.result (Some c.args.value) (Bound w) in
-    subst P (c.of_node-setting.ensures ∙ ap (λ p. setting p c.at-way.result) c.new-problem.ensures ∙ ap (setting c.args.problem.now) c.at-way.ensures) (subst W c.without_splits.ensures c.bound_passes.ensures)
+    subst P (c.of_node-setting.ensures ∙ ap (λ p. setting p c.to-way.result) c.new-problem.ensures ∙ ap (setting c.args.problem.now) c.to-way.ensures) (subst W c.of_leaf.ensures c.bound_passes.ensures)

@@ -16,7 +16,7 @@ returns-clause-optimum c =
     let point : IsNodePoint p ds c.args.path.now x = subst P (sym c.requires) (c.in_ok-is_node_point.ensures.yes c.if-not-branch.false) in
     let value : c.in_ok-value.value ≡ sum_at x p.objective = c.in_ok-value.ensures.is_sum ∙ ap (λ y. sum_at y c.as_slice.result.now) c.as_slice-2.ensures ∙ ap (sum_at x) (c.as_slice.ensures ∙ c.objective.ensures.form) in
     if_passed p ds c.args.path.now x c.args.weights.now c.in_ok-value.value c.shows_none_better.result (IsRelaxedOptimum p ds c.args.path.now x) value c.shows_none_better.ensures
-    (λ passes. c.optimal_points.ensures.tested p ds c.args.path.now x c.args.weights.now point passes)
+    (λ passes. c.optimal_points.ensures.tested p ds c.args.path.now x c.args.weights.now c.is_of_columns.ensures point passes)
 
 pub returns-clause-yes : goal.returns-clause-yes
 returns-clause-yes c =

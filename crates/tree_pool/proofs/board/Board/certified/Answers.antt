@@ -11,10 +11,7 @@ pub certificate_with-requires-clause-tree : goal.certificate_with-requires-claus
 certificate_with-requires-clause-tree c =
     let inside = c.self.inside in
     let b : Board = record { problem = inside.problem; cuts = inside.cuts; split_limit = inside.split_limit; pivot_limit = inside.pivot_limit; tree = inside.ledger.tree; best = inside.ledger.best; log = inside.ledger.log } in
-    ap is_tree c.in-Ok.ensures.nodes ∙ finished_tree b (subst IsFinished (sym c.self.view_is) c.requires)
-
-pub certificate_with-requires-clause-lines : goal.certificate_with-requires-clause-lines
-certificate_with-requires-clause-lines c = c.in-Ok.ensures.lines
+    ap is_tree c.in-Ok.ensures ∙ finished_tree b (subst IsFinished (sym c.self.view_is) c.requires)
 
 pub certificate_with-requires-clause-size : goal.certificate_with-requires-clause-size
 certificate_with-requires-clause-size c =

@@ -7,9 +7,9 @@ use Rattle.tree_pool.proofs.Results.{if_ok}
 use Rattle.tree_pool.proofs.ClosedNodes.{closed_nodes}
 use Rattle.tree_pool.proofs.ledger.Ledger.closed_tree.Goals as goal
 
-pub returns-clause-nodes : goal.returns-clause-nodes
-returns-clause-nodes c =
+pub returns : goal.returns
+returns c =
     let t = c.args.self.now.tree in
     let nodes : nodes_in c.deref.result.now c.deref-2.result.now ≡ slots_of t =
     ap (λ log. nodes_in log c.deref-2.result.now) (c.deref.ensures.value ∙ ap (λ l. l.log) c.self.view_is) ∙ ap (nodes_in c.args.self.now.log) c.deref-2.ensures.value ∙ c.in_ok-nodes.ensures in
-    if_ok c.closed_tree.result (λ u. u ≡ closed_slots (nodes_in c.deref.result.now c.deref-2.result.now)) (λ u. u ≡ nodes_of t) (λ u h. h ∙ closed_nodes (nodes_in c.deref.result.now c.deref-2.result.now) t nodes) c.closed_tree.ensures.nodes
+    if_ok c.closed_tree.result (λ u. u ≡ closed_slots (nodes_in c.deref.result.now c.deref-2.result.now)) (λ u. u ≡ nodes_of t) (λ u h. h ∙ closed_nodes (nodes_in c.deref.result.now c.deref-2.result.now) t nodes) c.closed_tree.ensures
