@@ -1,5 +1,5 @@
 pub mod Walk
 pub mod Tests
 pub mod Order
-pub mod Named
+pub mod NamedItems
 pub mod Behind

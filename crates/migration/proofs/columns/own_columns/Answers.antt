@@ -2,7 +2,7 @@ use Rattle.std.proofs.Common.{List}
 use Rattle.certificate.specs.Ways.{way}
 use Rattle.certificate.specs.Written.{next_rank}
 use Rattle.verdicts.specs.Certificate.{Side, Item}
-use Rattle.migration.proofs.Named.{own_left, own_order}
+use Rattle.migration.proofs.NamedItems.{own_left, own_order}
 use Rattle.migration.proofs.columns.own_columns.Goals as goal
 
 pub loop-item-preserved : goal.loop-item-preserved

@@ -2,7 +2,7 @@ use Rattle.std.proofs.Common.{◌≡◌, ◌-◌, ◌<◌, suc, List, length, ar
 use Rattle.certificate.specs.Ways.{way}
 use Rattle.verdicts.specs.Certificate.{Side}
 use Rattle.migration.proofs.Order.{item_of}
-use Rattle.migration.proofs.Named.{split_named}
+use Rattle.migration.proofs.NamedItems.{split_named}
 use Rattle.migration.proofs.splits.named_splits.Goals as goal
 
 pub name_split-requires-clause-some : goal.name_split-requires-clause-some
