@@ -28,9 +28,9 @@ closed_nodes slots t are = ap closed_slots are ∙ closed_is t
 pub none_added : (t : List TreeNode) (o : Option TreeNode) → o ≡ None → t ≡ t ++ one_or_none o
 none_added t o e = let P : Option TreeNode → Type 0 = λ a. t ≡ t ++ one_or_none a in subst P (sym e) (sym (append-nil t))
 
-pub closed_more : (log : List Entry) (nodes : List NodeRef) (i : ℕ) (x : NodeRef) (t u all : List TreeNode) → i < length nodes → x ≡ get_or nodes i x → u ≡ t ++ one_or_none (closed_in (node_at log x)) → t ++ closed_slots (nodes_in log (drop i nodes)) ≡ all
+pub closed_more : (log : List Entry) (nodes : List NodeRef) (i : ℕ) (other : NodeRef) (t u all : List TreeNode) → i < length nodes → u ≡ t ++ one_or_none (closed_in (node_at log (get_or nodes i other))) → t ++ closed_slots (nodes_in log (drop i nodes)) ≡ all
     → u ++ closed_slots (nodes_in log (drop (i + 1) nodes)) ≡ all
-closed_more log nodes i x t u all within is e h =
+closed_more log nodes i other t u all within e h =
     let rest : List TreeNode = closed_slots (nodes_in log (drop (i + 1) nodes)) in
-    let next : drop i nodes ≡ x ∷ drop (i + 1) nodes = drop_more nodes i x within ∙ ap (λ (y : NodeRef). y ∷ drop (i + 1) nodes) (sym is) in
-    ap (λ (v : List TreeNode). v ++ rest) e ∙ append_assoc t (one_or_none (closed_in (node_at log x))) rest ∙ sym (ap (λ (refs : List NodeRef). t ++ closed_slots (nodes_in log refs)) next) ∙ h
+    let node : NodeRef = get_or nodes i other in
+    ap (λ (v : List TreeNode). v ++ rest) e ∙ append_assoc t (one_or_none (closed_in (node_at log node))) rest ∙ sym (ap (λ (refs : List NodeRef). t ++ closed_slots (nodes_in log refs)) (drop_more nodes i other within)) ∙ h
