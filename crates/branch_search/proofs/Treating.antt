@@ -98,6 +98,10 @@ at_node p ds path there w made r e f h =
     let P : List Side → Type 0 = λ sides. r ≡ node_answer (node_setting p ds sides) None (Empty (named p sides w)) in
     subst P e (h ∙ ap (λ v. node_answer (node_setting p ds path) None (Empty v)) f)
 
+-- where it passes, the node is refuted against any value
+pub passes_at : (p : Problem) (ds : List Derived) (path there : List Side) (best : Option Rational) (made : Weights) (r : Result Bool Operation) → path ≡ there → r ≡ node_answer (node_setting p ds path) None (Empty made) → r ≡ Ok true → node_answer (node_setting p ds there) (form_goal p best) (Empty made) ≡ Ok true
+passes_at p ds path there best made r e h t = let P : List Side → Type 0 = λ sides. r ≡ node_answer (node_setting p ds sides) None (Empty made) in sym (subst P e h) ∙ t
+
 -- ---- splits
 
 pub to_split : (p : Problem) (ds : List Derived) (sides : List Side) (best : Option Rational) (x : List Rational) (j : ℕ) (f : Fractional) (at : ℤ) (v : Rational) → IsRelaxedOptimum p ds sides x → Beats p best x → IsFraction p.columns x (Some j) → IsPinned (system_of p ds sides) x j

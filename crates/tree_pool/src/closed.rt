@@ -1,7 +1,8 @@
 // The tree of a certificate.
-ghost use Rattle.std.specs.Prelude.{◌≡◌, option_map, is_some, IfOk};
+ghost use Rattle.std.specs.Prelude.{◌≡◌, ◌++◌, option_map, is_some, IfOk, OnOk};
 ghost use Rattle.certificate.specs.Values.{node_of};
 ghost use Rattle.search_tree.specs.Kept.{closed_node};
+ghost use Rattle.search_tree.specs.Finished.{one_or_none};
 ghost use Rattle.tree_pool.specs.LogNodes.{node_at, nodes_in};
 ghost use Rattle.tree_pool.specs.Ledger.{closed_in, closed_slots, are_closed};
 
@@ -21,16 +22,27 @@ pub(crate) fn closed_tree(
 {
     let mut tree = Tree::new(alloc);
     for node in nodes {
-        match closed_at(alloc, log, *node)? {
-            None => {}
-            Some(closed) => {
-                if tree.push(closed).is_err() {
-                    return Err(AllocError);
-                }
-            }
-        }
+        add_closed(alloc, &mut tree, log, *node)?;
     }
     Ok(tree)
+}
+
+// Adds the node of a certificate, where one stands here.
+fn add_closed(
+    alloc: Global,
+    tree: &mut Tree,
+    log: &[Entry],
+    node: NodeRef,
+) -> Result<(), AllocError>
+    ensures { OnOk result (tree.new ≡ tree.old ++ one_or_none (closed_in (node_at log.now node))) }
+{
+    match closed_at(alloc, log, node)? {
+        None => Ok(()),
+        Some(closed) => {
+            tree.push(closed)?;
+            Ok(())
+        }
+    }
 }
 
 // The node of a certificate, where one stands here.
