@@ -4,7 +4,7 @@ use Rattle.rational.specs.Rational.{Rational, zero_ℚ}
 use Rattle.rational.specs.Compare.{is_less}
 use Rattle.milp.specs.Problem.{Column, Row, Problem}
 use Rattle.milp.specs.Points.{Feasible}
-use Rattle.verdicts.specs.Certificate.{Two, Item, Weights, Empty}
+use Rattle.verdicts.specs.Certificate.{Two, Item, Weights, TreeNode, Branch, Empty, Bound}
 use Rattle.verdicts.specs.Proves.{node_passes}
 use Rattle.search_tree.specs.Nodes.{NodePasses}
 use Rattle.infeasible_subset.specs.Members.{Side, Lower, Upper, Member, OfRow, OfColumn, same_member, has}
@@ -69,6 +69,12 @@ pub record UsesOnly (keep : Member → Bool) (w : Weights) : Type 0 where
 -- the weights refute the problem
 pub record Refutes (p : Problem) (w : Weights) : Type 0 where
   pub passes : node_passes p Two None [] [] (Empty w) ≡ true
+
+-- the node is a leaf without a point
+abbrev pub IsEmptyLeaf : TreeNode → Type 0
+IsEmptyLeaf (Branch s) = ⊥
+IsEmptyLeaf (Empty w) = Unit {0}
+IsEmptyLeaf (Bound w) = ⊥
 
 -- the checker's test of the weights passes, as those of a tree that is one empty leaf, and all its operations fit
 pub record AreAccepted (p : Problem) (w : Weights) : Type 0 where

@@ -4,8 +4,8 @@ ghost use Rattle.verdicts.specs.Certificate.{Infeasible as is_infeasible};
 ghost use Rattle.certificate.specs.Values.{node_of};
 ghost use Rattle.cert_check.specs.Outcome.{Acceptance, outcome, trials};
 ghost use Rattle.search_tree.specs.Nodes.{NodePasses};
-ghost use Rattle.branch_search.specs.Plain.{NoneInteger, IsPlainCertificate};
-ghost use Rattle.infeasible_subset.specs.Subsets.{AreAccepted};
+ghost use Rattle.branch_search.specs.Plain.{IsPlainCertificate};
+ghost use Rattle.infeasible_subset.specs.Subsets.{IsEmptyLeaf, AreAccepted};
 
 use certificate::{Certificate, LeafWeights, TreeNode};
 use instance::Instance;
@@ -17,7 +17,6 @@ pub(crate) fn refuting(
     problem: &Instance,
     certificate: &Certificate,
 ) -> Result<LeafWeights, AllocError>
-    requires continuous { NoneInteger problem.now.columns }
     requires infeasible { certificate.now.verdict ≡ is_infeasible }
     requires plain { IsPlainCertificate problem.now certificate.now }
     requires accepted { outcome (trials problem.now certificate.now) ≡ Acceptance }
@@ -28,7 +27,7 @@ pub(crate) fn refuting(
 }
 
 fn weights_of(alloc: Global, problem: &Instance, node: &TreeNode) -> Result<LeafWeights, AllocError>
-    requires continuous { NoneInteger problem.now.columns }
+    requires leaf { IsEmptyLeaf (node_of node.now) }
     requires passes { NodePasses problem.now None [] [] (node_of node.now) }
     ensures { IfOk result (λ weights. AreAccepted problem.now weights) }
 {
