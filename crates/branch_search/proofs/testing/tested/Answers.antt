@@ -1,11 +1,10 @@
-use Rattle.std.proofs.Common.{◌≡◌, ◌∙◌, ap, subst, true, false, Some, Ok, Err}
+use Rattle.std.proofs.Common.{◌≡◌, ◌∙◌, ap, subst, true, false, Some, Ok}
 use Rattle.milp.specs.Points.{objective_value}
 use Rattle.verdicts.specs.Certificate.{Weights, Bound}
 use Rattle.cert_check.specs.Parts.{node_answer}
 use Rattle.cert_check.specs.Outcome.{form_goal}
 use Rattle.search_tree.specs.Work.{node_setting}
 use Rattle.search_tree.proofs.CheckLaws.{own_test}
-use Rattle.branch_search.specs.Tests.{IsTestFault}
 use Rattle.branch_search.proofs.testing.tested.Goals as goal
 
 pub optimal-requires-clause-passes : goal.optimal-requires-clause-passes
@@ -25,10 +24,3 @@ returns-in-Ok-false c =
     let P : Weights → Type 0 = λ w. node_answer (node_setting c.args.problem.now c.args.cuts.now c.args.path.now) (form_goal c.args.problem.now (Some (objective_value c.args.problem.now f.point))) (Bound w) ≡ Ok false in
     subst P c.requires.named
     (own_test c.args.problem.now c.args.cuts.now c.args.path.now f.point c.args.weights c.in-Ok.values.form c.shows_none_better.result (Ok false) c.in-Ok.ensures.form c.shows_none_better.ensures (c.in-Ok-false.is ∙ ap Ok c.in-Ok-false.field-0-test))
-
-pub returns-in-Err : goal.returns-in-Err
-returns-in-Err c =
-    let f = c.args.found in
-    let P : Weights → Type 0 = λ w. node_answer (node_setting c.args.problem.now c.args.cuts.now c.args.path.now) (form_goal c.args.problem.now (Some (objective_value c.args.problem.now f.point))) (Bound w) ≡ Err c.in-Err.fault in
-    IsTestFault.of_weights (subst P c.requires.named
-    (own_test c.args.problem.now c.args.cuts.now c.args.path.now f.point c.args.weights c.in-Ok.values.form c.shows_none_better.result (Err c.in-Err.fault) c.in-Ok.ensures.form c.shows_none_better.ensures c.in-Err.is))

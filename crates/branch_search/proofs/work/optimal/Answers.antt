@@ -28,14 +28,14 @@ test_optimum-requires-clause-basic c = λ basic.
 pub returns-in-Passed : goal.returns-in-Passed
 returns-in-Passed c =
     let f = c.args.found in
-    passed_at c.args.problem.now c.args.cuts.now c.args.path.now (sides_of c.args.node.now.splits) c.args.best.now f.point f.weights true c.in_ok-test_optimum.field-0 c.in-Passed.treatment c.requires.path c.in-Passed.is c.in_ok-test_optimum.ensures c.args.pivot_limit
+    passed_at c.args.problem.now c.args.cuts.now c.args.path.now (sides_of c.args.node.now.splits) c.args.best.now f.point f.weights true c.in_ok-treatment.field-0 c.in-Passed.treatment c.requires.path c.in-Passed.is c.in_ok-treatment.ensures c.args.pivot_limit
 
 pub unreachable-requires : goal.unreachable-requires
 unreachable-requires c =
     let f = c.args.found in
-    never_failed c.named_leaves.ensures.bound c.args.problem.now c.args.cuts.now c.args.path.now (sides_of c.args.node.now.splits) c.args.best.now f.point f.weights f.dictionary.places (dictionary_of f.dictionary) true c.in_ok-test_optimum.field-0 c.requires.path c.in-Failed.is c.in_ok-test_optimum.ensures c.requires.columns c.requires.optimal
+    never_failed c.named_leaves.ensures.bound c.args.problem.now c.args.cuts.now c.args.path.now (sides_of c.args.node.now.splits) c.args.best.now f.point f.weights f.dictionary.places (dictionary_of f.dictionary) true c.in_ok-treatment.field-0 c.requires.path c.in-Failed.is c.in_ok-treatment.ensures c.requires.columns c.requires.optimal
 
-pub returns-in-NoFit : goal.returns-in-NoFit
-returns-in-NoFit c =
+pub returns : goal.returns
+returns c =
     let f = c.args.found in
-    fault_at c.args.problem.now c.args.cuts.now c.args.path.now (sides_of c.args.node.now.splits) c.args.best.now f.point f.weights f.dictionary.places (dictionary_of f.dictionary) true c.in_ok-test_optimum.field-0 c.in-NoFit.fault c.requires.path c.in-NoFit.is c.in_ok-test_optimum.ensures c.requires.optimal
+    fault_at c.args.problem.now c.args.cuts.now c.args.path.now (sides_of c.args.node.now.splits) c.args.best.now f.point f.weights f.dictionary.places (dictionary_of f.dictionary) true c.in_ok-treatment.field-0 c.in-NoFit.fault c.requires.path c.in-NoFit.is c.in_ok-treatment.ensures c.requires.optimal
