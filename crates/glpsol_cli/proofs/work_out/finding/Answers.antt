@@ -25,21 +25,24 @@ returns-in-Solve-clause-finding c =
 pub returns-in-Ok-clause-finding : goal.returns-in-Ok-clause-finding
 returns-in-Ok-clause-finding c =
     let inputs = c.args.inputs.now in
-    of_checked inputs.settings (texts_in inputs) c.args.problem.now _ (checks_by inputs.settings.task (rw c.get-settings.ensures at c.in-CheckCertificate.is)) c.requires.asked (IsAccepted c.in-Ok.certificate)
+    let is = rw c.get-settings.ensures at c.in-CheckCertificate.is in
+    of_checked inputs.settings (texts_in inputs) c.args.problem.now _ (checks_by inputs.settings.task is) c.requires.asked (IsAccepted c.in-Ok.certificate)
     (subst (λ names. OfNext (IsAccepted c.in-Ok.certificate c.args.problem.now) (length names) (texts_in inputs)) (rw c.get-settings.ensures at c.as_slice-count.ensures)
     (subst (λ texts. OfNext (IsAccepted c.in-Ok.certificate c.args.problem.now) (length c.as_slice-count.result.now) (map (λ text. text.items) texts)) c.deref.ensures.value c.in-Ok.ensures.accepted))
 
 pub returns-in-Err-clause-fault : goal.returns-in-Err-clause-fault
 returns-in-Err-clause-fault c =
     let inputs = c.args.inputs.now in
-    unchecked inputs.settings (texts_in inputs) c.args.problem.now _ (checks_by inputs.settings.task (rw c.get-settings.ensures at c.in-CheckCertificate.is)) c.requires.asked c.in-Err.stop
+    let is = rw c.get-settings.ensures at c.in-CheckCertificate.is in
+    unchecked inputs.settings (texts_in inputs) c.args.problem.now _ (checks_by inputs.settings.task is) c.requires.asked c.in-Err.stop
     (subst (λ names. OfNext (λ bytes. IsCheckStop c.args.problem.now bytes c.in-Err.stop) (length names) (texts_in inputs)) (rw c.get-settings.ensures at c.as_slice-count.ensures)
     (subst (λ texts. OfNext (λ bytes. IsCheckStop c.args.problem.now bytes c.in-Err.stop) (length c.as_slice-count.result.now) (map (λ text. text.items) texts)) c.deref.ensures.value c.in-Err.ensures.stop))
 
 pub accept_behind-requires : goal.accept_behind-requires
 accept_behind-requires c =
     let inputs = c.args.inputs.now in
+    let is = rw c.get-settings.ensures at c.in-CheckCertificate.is in
     subst (λ texts. suc (length c.as_slice-count.result.now) < length texts) (sym c.deref.ensures.value)
     (subst (λ names. suc (length names) < length inputs.texts.items) (sym (rw c.get-settings.ensures at c.as_slice-count.ensures))
     (subst (λ n. suc (length inputs.settings.data_files) < n) (length-map inputs.texts.items (λ text. text.items))
-    (one_behind inputs.settings _ (length (texts_in inputs)) (checks_by inputs.settings.task (rw c.get-settings.ensures at c.in-CheckCertificate.is)) c.requires.enough)))
+    (one_behind inputs.settings _ (length (texts_in inputs)) (checks_by inputs.settings.task is) c.requires.enough)))
