@@ -1,0 +1,4 @@
+mod CutsPass
+mod FractionalParts
+mod VariableSums
+mod WeightSigns
