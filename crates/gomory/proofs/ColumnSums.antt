@@ -43,14 +43,14 @@ column_fits w n total (e ∷ es) =
 
 in_form : (w : List Rational) (n i j : ℕ) (form : List Entry) (rest : List ColumnEntry) → entries_sum w n (entries_in_form i form j ++ rest) ≡ number_at w (n + i) *ℚ coefficient_of form j +ℚ entries_sum w n rest
 in_form w n i j [] rest = sym (ap (λ t. t +ℚ entries_sum w n rest) (Q.mul-zero (number_at w (n + i))) ∙ Q.zero-add _)
-in_form w n i j (e ∷ form) rest = go (e.column == j)
+in_form w n i j (e ∷ form) rest = go (e.column == j) (in_form w n i j form rest)
   where
     order : (k c a s : Rational) → c *ℚ k +ℚ (k *ℚ a +ℚ s) ≡ k *ℚ (c +ℚ a) +ℚ s
     order k c a s = simp field
 
-    go : (t : Bool) → entries_sum w n ((if t then record { row = i; coefficient = e.coefficient } ∷ entries_in_form i form j else entries_in_form i form j) ++ rest) ≡ number_at w (n + i) *ℚ (cond t e.coefficient zero_ℚ +ℚ coefficient_of form j) +ℚ entries_sum w n rest
-    go true = ap (λ t. e.coefficient *ℚ number_at w (n + i) +ℚ t) (in_form w n i j form rest) ∙ order (number_at w (n + i)) e.coefficient (coefficient_of form j) (entries_sum w n rest)
-    go false = in_form w n i j form rest ∙ ap (λ t. number_at w (n + i) *ℚ t +ℚ entries_sum w n rest) (sym (Q.zero-add _))
+    go : (t : Bool) → entries_sum w n (entries_in_form i form j ++ rest) ≡ number_at w (n + i) *ℚ coefficient_of form j +ℚ entries_sum w n rest → entries_sum w n ((if t then record { row = i; coefficient = e.coefficient } ∷ entries_in_form i form j else entries_in_form i form j) ++ rest) ≡ number_at w (n + i) *ℚ (cond t e.coefficient zero_ℚ +ℚ coefficient_of form j) +ℚ entries_sum w n rest
+    go true h = ap (λ t. e.coefficient *ℚ number_at w (n + i) +ℚ t) h ∙ order (number_at w (n + i)) e.coefficient (coefficient_of form j) (entries_sum w n rest)
+    go false h = h ∙ ap (λ t. number_at w (n + i) *ℚ t +ℚ entries_sum w n rest) (sym (Q.zero-add _))
 
 in_rows : (w : List Rational) (n i j : ℕ) (rows : List Row) → entries_sum w n (entries_in_rows i rows j) ≡ rows_coefficient (number_at w) (n + i) rows j
 in_rows w n i j [] = refl

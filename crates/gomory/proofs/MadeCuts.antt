@@ -1,6 +1,6 @@
 -- What is made of the numbers by variable is the cut of the row.
 use Rattle.std.proofs.Common.{◌≡◌, ◌∙◌, ℕ, zero, suc, ◌+◌, ◌<◌, ◌≤◌, List, [], ◌∷◌, ◌++◌, length, refl, sym, ap, subst, arith, Bool, true, false, Result, Ok, Err}
-use Rattle.std.specs.Prelude.{ℤ, ◌&&◌, ◌==◌, not, IsTrue, IsFalse}
+use Rattle.std.specs.Prelude.{ℤ, ◌&&◌, ◌==◌, not, IsTrue, IsFalse, IsErrAnd, IfErr}
 use Rattle.std.proofs.lemmas.Bool.{and_from}
 use mathlib.Core.Path.{ap₂}
 use Rattle.rational.specs.Rational.{Rational, zero_ℚ, one_ℚ, floor_ℚ, ◌+ℚ◌, ◌*ℚ◌}
@@ -182,6 +182,10 @@ split_fault p b rates x r form e o h = IsCutFault.of_split (ap (sum_answer x zer
 
 -- ---- faults that are handed on
 
-pub handed_on : (P Q : NoFit → Type 0) (e : Unfit) → ((o : NoFit) → P o → Q o) → IfNoFit P e → IfNoFit Q e
+handed_on : (P Q : NoFit → Type 0) (e : Unfit) → ((o : NoFit) → P o → Q o) → IfNoFit P e → IfNoFit Q e
 handed_on P Q (no_fit o) f h = f o h
 handed_on P Q no_memory f h = tt
+
+pub kept : {X : Type 0} (r : Result X Unfit) (e : Unfit) (P Q : NoFit → Type 0) → IsErrAnd r (λ d. d ≡ e) → ((o : NoFit) → P o → Q o) → IfNoFit P e → IfErr r (IfNoFit Q)
+kept (Ok x) e P Q h f p = tt
+kept (Err d) e P Q h f p = let T : Unfit → Type 0 = IfNoFit Q in subst T (sym h) (handed_on P Q e f p)

@@ -22,7 +22,7 @@ use Rattle.gomory.specs.declared.numbers.RowVariable.{RowVariable}
 use Rattle.gomory.specs.declared.numbers.Role.{Role}
 use Rattle.gomory.specs.declared.numbers.Role.TheVariants.{OfCut, OfLow, OfHigh, OfSplit}
 use Rattle.gomory.proofs.FractionalParts.{part_above, part_lt, difference_above}
-use Rattle.gomory.proofs.WeightSigns.{IsRate, is_rate}
+use Rattle.gomory.proofs.WeightSigns.{IsRate, up, down, is_rate}
 
 -- ---- answers one after another
 
