@@ -36,7 +36,7 @@ column_fits w n total [] = sym (Q.add-zero total)
 column_fits w n total (e ∷ es) =
     let P : Rational → Type 0 = λ s. s ≡ total +ℚ entries_sum w n (e ∷ es) in
     ok_then (mul_add_answer e.coefficient (number_at w (n + e.row)) total) _ (λ t. t ≡ e.coefficient *ℚ number_at w (n + e.row) +ℚ total) P (mul_add_fits _ _ _) (λ t h.
-      changed _ _ _ (column_fits w n t es) (ap (λ t. t +ℚ entries_sum w n es) h ∙ order _ total _))
+    changed _ _ _ (column_fits w n t es) (ap (λ t. t +ℚ entries_sum w n es) h ∙ order _ total _))
   where
     order : (c t s : Rational) → (c +ℚ t) +ℚ s ≡ t +ℚ (c +ℚ s)
     order c t s = simp field

@@ -127,9 +127,9 @@ pub weights_made : (p : Problem) (f : ℕ → Rational) (n : ℕ) (l : List Rati
     → w.rows ≡ items_of (λ v. nonzero (number_at l v)) (length p.columns) 0 (length p.rows) → w.columns ≡ items_of (λ v. nonzero (number_at l v)) 0 0 (length p.columns) → w.derived ≡ [] → w.splits ≡ [] → w ≡ weights_of p [] (λ v. nonzero (f v))
 weights_made p f n l w size e r c d s =
     same_weights w (weights_of p [] (λ v. nonzero (f v)))
-      (r ∙ items_cong (number_at l) f (length p.columns) 0 (length p.rows) (λ v k. listed f n l e v (omega arith)))
-      (c ∙ items_cong (number_at l) f 0 0 (length p.columns) (λ v k. listed f n l e v (omega arith)))
-      d s
+    (r ∙ items_cong (number_at l) f (length p.columns) 0 (length p.rows) (λ v k. listed f n l e v (omega arith)))
+    (c ∙ items_cong (number_at l) f 0 0 (length p.columns) (λ v k. listed f n l e v (omega arith)))
+    d s
 
 -- ---- the split and the cut
 

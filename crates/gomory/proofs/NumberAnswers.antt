@@ -86,7 +86,7 @@ remainder_fits : (f : Rational) (w : Bool) (a : Rational) → IfOk (remainder_an
 remainder_fits f true a =
     let P : Rational → Type 0 = λ e. e ≡ remainder f true a in
     ok_then (part_answer a) _ (λ t. t ≡ fractional_part a) P (part_fits a) (λ above e.
-      (let T : Rational → Type 0 = λ t. IfOk (if is_at_most t f then Ok t else sub_answer t one_ℚ) P in subst T (sym e) (choose (is_at_most (fractional_part a) f))))
+    (let T : Rational → Type 0 = λ t. IfOk (if is_at_most t f then Ok t else sub_answer t one_ℚ) P in subst T (sym e) (choose (is_at_most (fractional_part a) f))))
   where
     choose : (t : Bool) → IfOk (if t then Ok (fractional_part a) else sub_answer (fractional_part a) one_ℚ) (λ e. e ≡ (if t then fractional_part a else fractional_part a -ℚ one_ℚ))
     choose true = refl
@@ -161,13 +161,13 @@ role_fits f r v at OfSplit =
     let e = remainder f at.whole at.coefficient in
     let P : Rational → Type 0 = λ n. n ≡ number_at_variable f r v at OfSplit in
     ok_then (sub_answer at.coefficient e) _ (λ near. near ≡ at.coefficient -ℚ e) P (if_fits _ _ _) (λ near h.
-      changed _ _ _ (if_fits _ _ _) (ap (λ t. coefficient_of (unit_form r) v +ℚ distance_sign at.place *ℚ t) h))
+    changed _ _ _ (if_fits _ _ _) (ap (λ t. coefficient_of (unit_form r) v +ℚ distance_sign at.place *ℚ t) h))
 
 number_fits : (f : Rational) (r v : ℕ) (at : RowVariable) (role : Role) → IfOk (number_answer (scale_at f) r v at role) (λ n. n ≡ number_at_variable f r v at role)
 number_fits f r v at role =
     let P : Rational → Type 0 = λ n. n ≡ number_at_variable f r v at role in
     ok_then (remainder_answer f at.whole at.coefficient) _ (λ e. e ≡ remainder f at.whole at.coefficient) P (remainder_fits f at.whole at.coefficient) (λ e h.
-      (let T : Rational → Type 0 = λ t. IfOk (role_answer (scale_at f) r v at t role) P in subst T (sym h) (role_fits f r v at role)))
+    (let T : Rational → Type 0 = λ t. IfOk (role_answer (scale_at f) r v at t role) P in subst T (sym h) (role_fits f r v at role)))
 
 pub number_ok : (s : Scale) (r v : ℕ) (at : RowVariable) (role : Role) (result : Result Rational NoFit) → s ≡ scale_at s.part → result ≡ number_answer s r v at role → IfOk result (λ n. n ≡ number_at_variable s.part r v at role)
 number_ok s r v at role result h e =

@@ -128,13 +128,7 @@ fn all_rest_within(places: &[Place], rates: &[Frac]) -> bool
 }
 
 // The column is basic and to be whole, is not whole, and its row has no resting variable without a bound.
-fn is_cuttable(
-    instance: &Instance,
-    places: &[Place],
-    rates: &[Frac],
-    at: &[Frac],
-    r: usize,
-) -> bool
+fn is_cuttable(instance: &Instance, places: &[Place], rates: &[Frac], at: &[Frac], r: usize) -> bool
     requires places { r < length places.now }
     requires rates { length rates.now ≡ length places.now }
     requires numbers { r < length at.now }

@@ -56,7 +56,11 @@ fn whole_remainder(part_of_row: Frac, a: Frac) -> Result<Frac, NoFit>
 fn remainder(part_of_row: Frac, whole: bool, a: Frac) -> Result<Frac, NoFit>
     ensures { result ≡ remainder_answer part_of_row whole a }
 {
-    if whole { whole_remainder(part_of_row, a) } else { Ok(a) }
+    if whole {
+        whole_remainder(part_of_row, a)
+    } else {
+        Ok(a)
+    }
 }
 
 // The coefficient of a distance in the cut.
@@ -124,7 +128,14 @@ fn split_number(r: usize, v: usize, variable: RowVariable, left: Frac) -> Result
 }
 
 // The number of this role, where that much is left of the variable's coefficient.
-fn number_by(scale: &Scale, r: usize, v: usize, variable: RowVariable, left: Frac, role: Role) -> Result<Frac, NoFit>
+fn number_by(
+    scale: &Scale,
+    r: usize,
+    v: usize,
+    variable: RowVariable,
+    left: Frac,
+    role: Role,
+) -> Result<Frac, NoFit>
     ensures { result ≡ role_answer scale.now r v variable left role }
 {
     match role {
@@ -137,7 +148,13 @@ fn number_by(scale: &Scale, r: usize, v: usize, variable: RowVariable, left: Fra
 
 /// The number of this role for the variable v in the row of r.
 #[tactic(auto, using(crate::proofs::NumberAnswers::number_ok))]
-pub(crate) fn number(scale: &Scale, r: usize, v: usize, variable: RowVariable, role: Role) -> Result<Frac, NoFit>
+pub(crate) fn number(
+    scale: &Scale,
+    r: usize,
+    v: usize,
+    variable: RowVariable,
+    role: Role,
+) -> Result<Frac, NoFit>
     requires { scale.now ≡ scale_at scale.now.part }
     ensures exact { result ≡ number_answer scale.now r v variable role }
     ensures is_number { IfOk result (λ n. n ≡ number_at_variable scale.now.part r v variable role) }

@@ -16,7 +16,7 @@ use crate::forms::{form, number};
 use crate::row::add;
 use certificate::WholeNumber;
 use fraction::{Frac, NoFit};
-use instance::{ColumnEntry, EntriesByColumn, Entries, Entry, Instance, sum};
+use instance::{ColumnEntry, Entries, EntriesByColumn, Entry, Instance, sum};
 use std::alloc::Global;
 
 // A total plus an entry times the weight of its row.
