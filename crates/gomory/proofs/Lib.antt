@@ -1,0 +1,9 @@
+mod ColumnSums
+mod CutFaults
+mod CutsPass
+mod FractionalParts
+mod ListEnds
+mod MadeCuts
+mod NumberAnswers
+mod VariableSums
+mod WeightSigns

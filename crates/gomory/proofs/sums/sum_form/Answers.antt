@@ -1,0 +1,13 @@
+use Rattle.std.proofs.Common.{◌∙◌, ◌≤◌, length, ap, arith}
+use Rattle.milp.specs.Form.{number_at}
+use Rattle.gomory.specs.Cuts.{sum_coefficient, form_from}
+use Rattle.gomory.proofs.MadeCuts.{form_made}
+use Rattle.gomory.proofs.sums.sum_form.Goals as goal
+
+pub returns-clause-form : goal.returns-clause-form
+returns-clause-form c =
+    let p = c.args.instance.now in
+    let all : length p.columns ≤ length p.columns = omega arith in
+    form_made (sum_coefficient p (number_at c.args.weights.now)) (length p.columns) (length p.columns) c.in_ok-list.list.items c.in_ok-made.made
+    c.in_ok-list.ensures.numbers all
+    (c.in_ok-made.ensures.form ∙ ap (λ list. form_from 0 (length c.columns.result.now) (number_at list)) c.deref.ensures.value ∙ ap (λ columns. form_from 0 (length columns) (number_at c.in_ok-list.list.items)) c.columns.ensures)
