@@ -1,5 +1,5 @@
 -- Where all operations fit, the sums of a column's entries are its coefficient in the sum of all variables times their weights.
-use Rattle.std.proofs.Common.{◌≡◌, ◌∙◌, ℕ, zero, suc, ◌+◌, ◌<◌, ◌==◌, List, [], ◌∷◌, ◌++◌, length, refl, sym, ap, subst, arith, Bool, true, false, cond, Result, Ok, Err}
+use Rattle.std.proofs.Common.{◌≡◌, ◌∙◌, ℕ, suc, ◌+◌, ◌<◌, ◌==◌, List, [], ◌∷◌, ◌++◌, length, refl, sym, ap, subst, arith, Bool, true, false, cond, Result, Ok, Err}
 use Rattle.std.specs.Prelude.{IfOk, if◌then◌else◌}
 use Rattle.rational.specs.Rational.{Rational, zero_ℚ, one_ℚ, floor_ℚ, ◌+ℚ◌, ◌*ℚ◌}
 use Rattle.rational.proofs.Laws as Q
@@ -8,7 +8,7 @@ use Rattle.milp.specs.Form.{Entry, number_at, sum_at}
 use Rattle.milp.specs.Problem.{Row, Problem}
 use Rattle.fraction.specs.Fits.{fits}
 use Rattle.fraction.specs.declared.frac.NoFit.{NoFit}
-use Rattle.fraction.specs.Answers.{add_answer, mul_add_answer}
+use Rattle.fraction.specs.Answers.{mul_add_answer}
 use Rattle.instance.specs.Sums.{sum_answer}
 use Rattle.instance.specs.declared.by_column.ColumnEntry.{ColumnEntry}
 use Rattle.instance.specs.ByColumn.{entries_in_form, entries_in_rows, entries_in_column}

@@ -1,5 +1,5 @@
 -- The operations of a cut that do not fit.
-use Rattle.std.proofs.Common.{◌≡◌, ◌∙◌, ℕ, ◌<◌, List, length, refl, sym, ap, subst, Result, Ok, Err}
+use Rattle.std.proofs.Common.{◌≡◌, ◌∙◌, ℕ, ◌<◌, List, length, sym, ap, Result, Err}
 use Rattle.rational.specs.Rational.{Rational}
 use Rattle.milp.specs.Form.{number_at}
 use Rattle.milp.specs.Problem.{Problem}

@@ -8,7 +8,6 @@ use Rattle.rational.specs.Compare.{is_zero, is_whole}
 use Rattle.rational.proofs.Laws.{whole_true, zero_true}
 use Rattle.milp.specs.Form.{Entry, number_at, value_at, sum_at}
 use Rattle.milp.specs.Problem.{Row, Problem}
-use Rattle.milp.specs.Points.{IsWhole}
 use Rattle.fraction.specs.declared.frac.NoFit.{NoFit}
 use Rattle.instance.specs.Sums.{sum_answer}
 use Rattle.verdicts.specs.Certificate.{Item, Weights, FormSplit, Derived, BySplit}
@@ -18,9 +17,9 @@ use Rattle.basis.specs.Node.{integer_at}
 use Rattle.basis.specs.Weights.{items_at, items_of, numbers_from, weights_of, nonzero}
 use Rattle.basis.specs.declared.Place.{Place}
 use Rattle.basis.specs.declared.Place.TheVariants.{Basic, AtLower, AtUpper, AtZero}
-use Rattle.basis.proofs.Laws.{length-numbers, numbers-below, sum_alike}
+use Rattle.basis.proofs.Laws.{length-numbers, numbers-below}
 use Rattle.gomory.specs.Cuts.{fractional_part, cut_weight, low_weight, high_weight, split_coefficient, entries_at, form_from, rows_coefficient, sum_coefficient, HasCut, IsGomorySplit, IsGomoryCut}
-use Rattle.gomory.specs.Numbers.{scale_at, number_of}
+use Rattle.gomory.specs.Numbers.{scale_at}
 use Rattle.gomory.specs.Faults.{IfNoFit, bound_answer, cut_weights, IsCoefficientFault, IsCutFault}
 use Rattle.gomory.specs.HasCut.{rests_within, all_rest_within, is_basic_place, has_cut}
 use Rattle.gomory.specs.declared.fault.Unfit.{Unfit}

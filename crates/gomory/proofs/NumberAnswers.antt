@@ -1,20 +1,19 @@
 -- Where all operations fit, the numbers at a variable are those of the cut.
-use Rattle.std.proofs.Common.{◌≡◌, ◌∙◌, ℕ, refl, sym, ap, subst, Bool, true, false, cond, ◌⊎◌, inl, inr, Result, Ok, Err}
+use Rattle.std.proofs.Common.{◌≡◌, ◌∙◌, ℕ, refl, sym, ap, subst, Bool, true, false, cond, Result, Ok, Err}
 use Rattle.std.specs.Prelude.{pos, IfOk, if◌then◌else◌}
-use Rattle.rational.specs.Rational.{Rational, whole, zero_ℚ, one_ℚ, neg_ℚ, inv_ℚ, floor_ℚ, ◌+ℚ◌, ◌-ℚ◌, ◌*ℚ◌, ◌/ℚ◌, ◌<ℚ◌, ◌≤ℚ◌}
+use Rattle.rational.specs.Rational.{Rational, zero_ℚ, one_ℚ, neg_ℚ, inv_ℚ, ◌+ℚ◌, ◌-ℚ◌, ◌*ℚ◌, ◌/ℚ◌, ◌<ℚ◌, ◌≤ℚ◌}
 use Rattle.rational.specs.Compare.{is_at_most, is_negative}
 use Rattle.rational.proofs.Laws as Q
 use Rattle.rational.proofs.Laws.{field, signs, less_true, less_false}
 use Rattle.milp.specs.Points.{IsWhole}
-use Rattle.fraction.specs.Fits.{fits, sum_fits}
 use Rattle.fraction.specs.declared.frac.NoFit.{NoFit}
-use Rattle.fraction.specs.Answers.{add_answer, sub_answer, mul_answer, div_answer}
+use Rattle.fraction.specs.Answers.{sub_answer, mul_answer, div_answer}
 use Rattle.instance.specs.Sums.{and_then}
 use Rattle.verdicts.specs.WeightedSums.{coefficient_of}
 use Rattle.basis.specs.System.{unit_form}
 use Rattle.basis.specs.declared.Place.{Place}
 use Rattle.basis.proofs.Laws.{above_some}
-use Rattle.gomory.specs.Cuts.{distance_sign, fractional_part, cut_coefficient, remainder}
+use Rattle.gomory.specs.Cuts.{distance_sign, fractional_part, remainder}
 use Rattle.gomory.specs.Numbers.{scale_at, number_at_variable}
 use Rattle.gomory.specs.Faults.{part_answer, scale_answer, remainder_answer, share_answer, both_answer, low_answer, high_answer, signed_answer, role_answer, number_answer}
 use Rattle.gomory.specs.declared.scale.Scale.{Scale}

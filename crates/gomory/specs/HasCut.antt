@@ -1,5 +1,5 @@
 -- Whether a row has a cut, as a test.
-use Rattle.std.specs.Prelude.{ℕ, ◌&&◌, not, ◌≡◌, Bool, true, false, List, [], ◌∷◌}
+use Rattle.std.specs.Prelude.{ℕ, ◌&&◌, not, Bool, true, false, List, [], ◌∷◌}
 use Rattle.rational.specs.Rational.{Rational}
 use Rattle.rational.specs.Compare.{is_zero, is_whole}
 use Rattle.milp.specs.Form.{number_at}

@@ -1,4 +1,4 @@
-use Rattle.std.proofs.Common.{arith, rules, refl}
+use Rattle.std.proofs.Common.{arith}
 use Rattle.milp.specs.Form.{number_at}
 use Rattle.gomory.proofs.ListEnds.{one_more_item}
 use Rattle.gomory.proofs.forms.items.Goals as goal

@@ -1,4 +1,4 @@
-use Rattle.std.proofs.Common.{◌∙◌, ◌+◌, ◌≤◌, length, ap, arith}
+use Rattle.std.proofs.Common.{◌∙◌, ◌≤◌, length, ap, arith}
 use Rattle.milp.specs.Form.{number_at}
 use Rattle.gomory.specs.Cuts.{split_coefficient, form_from}
 use Rattle.gomory.proofs.MadeCuts.{form_made}
