@@ -1,12 +1,12 @@
 -- What is made of the numbers by variable is the cut of the row.
 use Rattle.std.proofs.Common.{◌≡◌, ◌∙◌, ℕ, zero, suc, ◌+◌, ◌<◌, ◌≤◌, List, [], ◌∷◌, ◌++◌, length, refl, sym, ap, subst, arith, Bool, true, false, Result, Ok, Err}
-use Rattle.std.specs.Prelude.{ℤ, ◌&&◌, ◌==◌, not, IsTrue, IsFalse, IsErrAnd, IfErr}
+use Rattle.std.specs.Prelude.{◌&&◌, ◌==◌, not, IsTrue, IsFalse, IsErrAnd, IfErr}
 use Rattle.std.proofs.lemmas.Bool.{and_from}
 use mathlib.Core.Path.{ap₂}
-use Rattle.rational.specs.Rational.{Rational, zero_ℚ, one_ℚ, floor_ℚ, ◌+ℚ◌, ◌*ℚ◌}
+use Rattle.rational.specs.Rational.{Rational, zero_ℚ, one_ℚ, ◌+ℚ◌, ◌*ℚ◌}
 use Rattle.rational.specs.Compare.{is_zero, is_whole}
 use Rattle.rational.proofs.Laws.{whole_true, zero_true}
-use Rattle.milp.specs.Form.{Entry, number_at, value_at, sum_at}
+use Rattle.milp.specs.Form.{Entry, number_at, sum_at}
 use Rattle.milp.specs.Problem.{Row, Problem}
 use Rattle.fraction.specs.declared.frac.NoFit.{NoFit}
 use Rattle.instance.specs.Sums.{sum_answer}
@@ -18,13 +18,11 @@ use Rattle.basis.specs.Weights.{items_at, items_of, numbers_from, weights_of, no
 use Rattle.basis.specs.declared.Place.{Place}
 use Rattle.basis.specs.declared.Place.TheVariants.{Basic, AtLower, AtUpper, AtZero}
 use Rattle.basis.proofs.Laws.{length-numbers, numbers-below}
-use Rattle.gomory.specs.Cuts.{fractional_part, cut_weight, low_weight, high_weight, split_coefficient, entries_at, form_from, rows_coefficient, sum_coefficient, HasCut, IsGomorySplit, IsGomoryCut}
-use Rattle.gomory.specs.Numbers.{scale_at}
+use Rattle.gomory.specs.Cuts.{cut_weight, split_coefficient, entries_at, form_from, rows_coefficient, sum_coefficient, HasCut, IsGomorySplit, IsGomoryCut}
 use Rattle.gomory.specs.Faults.{IfNoFit, bound_answer, cut_weights, IsCoefficientFault, IsCutFault}
 use Rattle.gomory.specs.HasCut.{rests_within, all_rest_within, is_basic_place, has_cut}
 use Rattle.gomory.specs.declared.fault.Unfit.{Unfit}
 use Rattle.gomory.specs.declared.fault.Unfit.TheVariants.{NoFit as no_fit, NoMemory as no_memory}
-use Rattle.gomory.specs.declared.scale.Scale.{Scale}
 use Rattle.gomory.proofs.VariableSums.{value_from}
 
 never : {X : Type 0} → false ≡ true → X
@@ -131,19 +129,6 @@ weights_made p f n l w size e r c d s =
     d s
 
 -- ---- the split and the cut
-
-pub split_made : (p : Problem) (b : List Place) (rates x : ℕ → Rational) (r : ℕ) (at : ℤ) (form : List Entry) (scale : Scale) (low high : Weights) (made : FormSplit)
-    → form ≡ form_from 0 (length p.columns) (split_coefficient p b rates x r) → at ≡ floor_ℚ (value_at x form) → scale ≡ scale_at (fractional_part (x r))
-    → low ≡ weights_of p [] (λ v. nonzero (low_weight p b rates x r v)) → high ≡ weights_of p [] (λ v. nonzero (high_weight p b rates x r v))
-    → made ≡ record { at = at; form = form; low = scale.low; low_weights = low; high = scale.high; high_weights = high } → IsGomorySplit p b rates x r made
-split_made p b rates x r at form scale low high made f a s l h e = subst (IsGomorySplit p b rates x r) (sym e) (record {
-  form = f;
-  at = a;
-  low = ap (λ (s : Scale). s.low) s;
-  low_weights = l;
-  high = ap (λ (s : Scale). s.high) s;
-  high_weights = h;
-})
 
 module _ (p : Problem) (b : List Place) (rates x : List Rational) (r : ℕ) (weights : List Rational) (size : length b ≡ length p.columns + length p.rows) (are_weights : weights ≡ cut_weights p b rates x r) where
   abbrev w : ℕ → Rational
