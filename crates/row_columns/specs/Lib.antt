@@ -1,0 +1,3 @@
+pub mod RowForms
+pub mod Extended
+pub mod Restored
