@@ -9,3 +9,4 @@ pub mod Without
 pub mod Causes
 pub mod WholeEnds
 mod PlainEnds
+mod ColumnSplits

@@ -9,3 +9,4 @@ pub mod WholeFaults
 pub mod Told
 pub mod Points
 pub mod Plain
+pub mod Columns

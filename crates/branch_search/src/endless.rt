@@ -5,6 +5,7 @@ ghost use Rattle.verdicts.specs.Proves.{Proves};
 ghost use Rattle.basis.specs.Relaxation.{point_certificate};
 ghost use Rattle.cert_check.specs.Outcome.{Acceptance, outcome, trials};
 ghost use Rattle.branch_search.specs.Faults.{IsEndlessAt};
+ghost use Rattle.branch_search.specs.Columns.{IsBySplitsOfColumns};
 ghost use Rattle.branch_search.specs.Plain.{NoneInteger, IsPlainCertificate};
 ghost use Rattle.branch_search.specs.Points.{IsTestedPoint, HasPoint};
 ghost use Rattle.branch_search.specs.WholeFaults.{without_objective, IsFault, IsAfterSearch};
@@ -24,6 +25,7 @@ pub(crate) fn beyond(
     alloc: Global,
     problem: &Instance,
     ray: EndlessAt,
+    first_columns: usize,
     split_limit: usize,
     pivot_limit: u32,
 ) -> Result<Certificate, VerdictFault>
@@ -31,13 +33,14 @@ pub(crate) fn beyond(
     ensures proves { IfOk result (λ c. Proves problem.now c) }
     ensures accepted { IfOk result (λ c. outcome (trials problem.now c) ≡ Acceptance) }
     ensures version { IfOk result (λ c. c.version ≡ Two) }
+    ensures splits { IfOk result IsBySplitsOfColumns }
     ensures plain { NoneInteger problem.now.columns → IfOk result (λ c. IsPlainCertificate problem.now c) }
     ensures fault { IfErr result (IsFault problem.now split_limit pivot_limit) }
 {
     match meets(problem, &ray.endless.point) {
         Ok(true) => at_once(alloc, problem, ray, split_limit),
-        Ok(false) => searched(alloc, problem, ray, split_limit, pivot_limit),
-        Err(_) => searched(alloc, problem, ray, split_limit, pivot_limit),
+        Ok(false) => searched(alloc, problem, ray, first_columns, split_limit, pivot_limit),
+        Err(_) => searched(alloc, problem, ray, first_columns, split_limit, pivot_limit),
     }
 }
 
@@ -53,6 +56,7 @@ fn at_once(
     ensures proves { IfOk result (λ c. Proves problem.now c) }
     ensures accepted { IfOk result (λ c. outcome (trials problem.now c) ≡ Acceptance) }
     ensures version { IfOk result (λ c. c.version ≡ Two) }
+    ensures splits { IfOk result IsBySplitsOfColumns }
     ensures plain { NoneInteger problem.now.columns → IfOk result (λ c. IsPlainCertificate problem.now c) }
     ensures fault { IfErr result (IsAfterSearch problem.now split_limit) }
 {
@@ -65,6 +69,7 @@ fn searched(
     alloc: Global,
     problem: &Instance,
     ray: EndlessAt,
+    first_columns: usize,
     split_limit: usize,
     pivot_limit: u32,
 ) -> Result<Certificate, VerdictFault>
@@ -72,11 +77,12 @@ fn searched(
     ensures proves { IfOk result (λ c. Proves problem.now c) }
     ensures accepted { IfOk result (λ c. outcome (trials problem.now c) ≡ Acceptance) }
     ensures version { IfOk result (λ c. c.version ≡ Two) }
+    ensures splits { IfOk result IsBySplitsOfColumns }
     ensures plain { NoneInteger problem.now.columns → IfOk result (λ c. IsPlainCertificate problem.now c) }
     ensures fault { IfErr result (IsFault problem.now split_limit pivot_limit) }
 {
     let feasibility = problem.copy(alloc)?.without_objective(alloc);
-    match search(alloc, &feasibility, split_limit, pivot_limit) {
+    match search(alloc, &feasibility, first_columns, split_limit, pivot_limit) {
         Ok(certificate) => decided(alloc, problem, certificate, ray, split_limit),
         Err(fault) => match ray_or_fault(Wanted::Any, fault) {
             Ok(_) => unreachable!(),
@@ -96,11 +102,13 @@ fn decided(
     requires proves { Proves (without_objective problem.now) certificate }
     requires accepted { outcome (trials (without_objective problem.now) certificate) ≡ Acceptance }
     requires version { certificate.version ≡ Two }
+    requires splits { IsBySplitsOfColumns certificate }
     requires plain { NoneInteger problem.now.columns → IsPlainCertificate (without_objective problem.now) certificate }
     requires ray { IsEndlessAt problem.now [] split_limit ray }
     ensures proves { IfOk result (λ c. Proves problem.now c) }
     ensures accepted { IfOk result (λ c. outcome (trials problem.now c) ≡ Acceptance) }
     ensures version { IfOk result (λ c. c.version ≡ Two) }
+    ensures splits { IfOk result IsBySplitsOfColumns }
     ensures plain { NoneInteger problem.now.columns → IfOk result (λ c. IsPlainCertificate problem.now c) }
     ensures fault { IfErr result (IsAfterSearch problem.now split_limit) }
 {
@@ -124,6 +132,7 @@ fn improved(
     ensures proves { IfOk result (λ c. Proves problem.now c) }
     ensures accepted { IfOk result (λ c. outcome (trials problem.now c) ≡ Acceptance) }
     ensures version { IfOk result (λ c. c.version ≡ Two) }
+    ensures splits { IfOk result IsBySplitsOfColumns }
     ensures plain { NoneInteger problem.now.columns → IfOk result (λ c. IsPlainCertificate problem.now c) }
     ensures fault { IfErr result (IsAfterSearch problem.now split_limit) }
 {
@@ -149,6 +158,7 @@ fn checked(
     ensures proves { IfOk result (λ c. Proves problem.now c) }
     ensures accepted { IfOk result (λ c. outcome (trials problem.now c) ≡ Acceptance) }
     ensures version { IfOk result (λ c. c.version ≡ Two) }
+    ensures splits { IfOk result IsBySplitsOfColumns }
     ensures plain { NoneInteger problem.now.columns → IfOk result (λ c. IsPlainCertificate problem.now c) }
     ensures fault { IfErr result (IsAfterSearch problem.now split_limit) }
 {

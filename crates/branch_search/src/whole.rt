@@ -7,6 +7,7 @@ ghost use Rattle.search_tree.specs.Finished.{IsFinished};
 ghost use Rattle.search_tree.specs.Tree.{AllLeaves, IsTodo};
 ghost use Rattle.branch_search.specs.Underway.{IsGoing, IsAtEnd, IsNext, AreSame};
 ghost use Rattle.branch_search.specs.Faults.{IsFault};
+ghost use Rattle.branch_search.specs.Columns.{IsBySplitsOfColumns};
 ghost use Rattle.branch_search.specs.Plain.{NoneInteger, IsPlainCertificate};
 
 use crate::fault::SearchFault;
@@ -21,20 +22,23 @@ use std::alloc::Global;
 use tree_pool::Board;
 
 /// The verdict of a problem by a search over its integer columns, with its certificate, which proves it and which the
-/// checker accepts, in version 2; where no column is integer, it has no derived row and one leaf at most. The search makes at most
-/// `split_limit` splits, and at each node Bland's run, where nothing else decides, takes at most `pivot_limit` steps.
+/// checker accepts, in version 2, without derived rows and by splits of columns; where no column is integer, it has one leaf at
+/// most. The search makes at most `split_limit` splits, and at each node Bland's run, where nothing else decides, takes at most
+/// `pivot_limit` steps. Of the columns that may be split, those before `first_columns` come first, in their order.
 ///
 /// A fault tells an operation of the work at a node that does not fit, or a run that is too long, each on an honest way;
 /// the board on which all splits are made, and nodes are left that are to be split; or a ray that improves the problem.
 pub fn search(
     alloc: Global,
     problem: &Instance,
+    first_columns: usize,
     split_limit: usize,
     pivot_limit: u32,
 ) -> Result<Certificate, SearchFault>
     ensures proves { IfOk result (λ c. Proves problem.now c) }
     ensures accepted { IfOk result (λ c. outcome (trials problem.now c) ≡ Acceptance) }
     ensures version { IfOk result (λ c. c.version ≡ Two) }
+    ensures splits { IfOk result IsBySplitsOfColumns }
     ensures plain { NoneInteger problem.now.columns → IfOk result (λ c. IsPlainCertificate problem.now c) }
     ensures fault { IfErr result (IsFault problem.now [] split_limit pivot_limit) }
 {
@@ -46,12 +50,17 @@ pub fn search(
         split_limit,
         pivot_limit,
     )?;
-    run(alloc, &mut board, pivot_limit)?;
+    run(alloc, &mut board, first_columns, pivot_limit)?;
     ended(alloc, board)
 }
 
 // Round after round, until no leaf is to be worked on.
-fn run(alloc: Global, board: &mut Board, pivot_limit: u32) -> Result<(), SearchFault>
+fn run(
+    alloc: Global,
+    board: &mut Board,
+    first_columns: usize,
+    pivot_limit: u32,
+) -> Result<(), SearchFault>
     requires cuts { board.old.cuts ≡ [] }
     requires pivots { board.old.pivot_limit ≡ pivot_limit }
     requires going { IsGoing board.old }
@@ -59,7 +68,7 @@ fn run(alloc: Global, board: &mut Board, pivot_limit: u32) -> Result<(), SearchF
     ensures at_end { IfOk result (λ done. IsAtEnd board.new) }
     ensures fault { IfErr result (IsFault board.old.problem board.old.cuts board.old.split_limit board.old.pivot_limit) }
 {
-    let mut proposer = Proposer::new(alloc, pivot_limit);
+    let mut proposer = Proposer::new(alloc, pivot_limit, first_columns);
     let done = run_with(alloc, board, pivot_limit, &mut proposer);
     std::mem::drop(proposer);
     done
@@ -116,6 +125,7 @@ fn ended(alloc: Global, board: Board) -> Result<Certificate, SearchFault>
     ensures proves { IfOk result (λ c. Proves board.problem c) }
     ensures accepted { IfOk result (λ c. outcome (trials board.problem c) ≡ Acceptance) }
     ensures version { IfOk result (λ c. c.version ≡ Two) }
+    ensures splits { IfOk result IsBySplitsOfColumns }
     ensures plain { NoneInteger board.problem.columns → IfOk result (λ c. IsPlainCertificate board.problem c) }
     ensures fault { IfErr result (IsFault board.problem board.cuts board.split_limit board.pivot_limit) }
 {

@@ -42,16 +42,21 @@ impl Choice {
     }
 }
 
-/// An integer column whose number is not whole, if there is one: the one of which both sides may bring most, by what splits of it brought
-/// and, at some, what one step of the dual phase brings; one with a side without a point or bounded by the cutoff comes first. Where
-/// no cost is other than 0, the one that is nearest to a half.
+/// An integer column whose number is not whole, if there is one: the first of those before `first_columns`, or else the one of
+/// which both sides may bring most, by what splits of it brought and, at some, what one step of the dual phase brings; one with a
+/// side without a point or bounded by the cutoff comes first. Where no cost is other than 0, the one that is nearest to a half.
 pub(crate) fn advised(
     alloc: Global,
     columns: &[Column],
+    first_columns: usize,
     state: &mut State,
     gains: &Gains,
     cutoff: &Option<Frac>,
 ) -> Result<Option<usize>, Stop> {
+    let first = first_fraction(columns, state, first_columns);
+    if first.is_some() {
+        return Ok(first);
+    }
     if state.model.has_no_costs() {
         return Ok(nearest_to_half(columns, state));
     }
@@ -61,6 +66,16 @@ pub(crate) fn advised(
 
 fn is_fraction(columns: &[Column], state: &State, column: usize) -> bool {
     column < columns.len() && columns[column].integer() && !state.value_of(column).is_whole()
+}
+
+// The first of the columns before `end` that may be split.
+fn first_fraction(columns: &[Column], state: &State, end: usize) -> Option<usize> {
+    for column in 0..end {
+        if is_fraction(columns, state, column) {
+            return Some(column);
+        }
+    }
+    None
 }
 
 // ---- what splits brought

@@ -49,16 +49,19 @@ pub enum Candidate {
 #[derive(Drop)]
 pub struct Proposer {
     steps: u32,
+    first_columns: usize,
     model: Option<Model>,
     gains: Gains,
 }
 
 impl Proposer {
     /// One that takes at most `steps` steps at a node, or a million where that is 0: this search can go in a circle, so it gives up in
-    /// the end where it has no limit, too.
-    pub fn new(alloc: Global, steps: u32) -> Proposer {
+    /// the end where it has no limit, too. Of the columns that may be split it advises the first one before `first_columns`, where
+    /// there is one.
+    pub fn new(alloc: Global, steps: u32, first_columns: usize) -> Proposer {
         Proposer {
             steps: if steps == 0 { MOST_STEPS } else { steps },
+            first_columns,
             model: None,
             gains: Gains::new(alloc),
         }
@@ -192,7 +195,14 @@ impl Proposer {
             }
             End::Optimal => {
                 self.note(state, departure);
-                optimum(alloc, problem.columns(), state, &self.gains, aim.cutoff)
+                optimum(
+                    alloc,
+                    problem.columns(),
+                    self.first_columns,
+                    state,
+                    &self.gains,
+                    aim.cutoff,
+                )
             }
             End::Infeasible(blocked) => contradiction(alloc, state, &blocked),
             End::Unbounded(endless) => endless_ray(alloc, state, &endless),

@@ -28,6 +28,7 @@ fn cost_weights(alloc: Global, state: &State) -> Result<Weights, Stop> {
 pub(crate) fn optimum(
     alloc: Global,
     columns: &[Column],
+    first_columns: usize,
     state: &mut State,
     gains: &Gains,
     cutoff: &Option<Frac>,
@@ -36,7 +37,7 @@ pub(crate) fn optimum(
     let point = point(alloc, state)?;
     let places = places_of(alloc, &state.model, &state.places, &state.at_upper)?;
     let basis = Basis::from_vec(places);
-    let column = advised(alloc, columns, state, gains, cutoff)?;
+    let column = advised(alloc, columns, first_columns, state, gains, cutoff)?;
     Ok(Candidate::Optimal(ProposedOptimum {
         point,
         weights,

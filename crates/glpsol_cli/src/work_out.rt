@@ -187,7 +187,7 @@ fn solved(
     ensures fault { IfErr result (IsFault problem.now settings.now.split_limit settings.now.pivot_limit) }
 {
     let splits = settings.split_limit as usize;
-    match solve(alloc, problem, splits, settings.pivot_limit) {
+    match solve(alloc, problem, 0, splits, settings.pivot_limit) {
         Ok(certificate) => Ok(Boxed::new(alloc, certificate)?),
         Err(fault) => Err(fault),
     }

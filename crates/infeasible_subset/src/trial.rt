@@ -90,7 +90,7 @@ fn tried(alloc: Global, part: &Instance, pivot_limit: u32) -> Result<Trial, Allo
 fn treated(alloc: Global, part: &Instance, pivot_limit: u32) -> Result<Treatment, AllocError>
     ensures { IfOk result (IsTreatment part.now [] pivot_limit [] None) }
 {
-    let mut proposer = Proposer::new(alloc, pivot_limit);
+    let mut proposer = Proposer::new(alloc, pivot_limit, 0);
     let treatment = treated_by(alloc, part, pivot_limit, &mut proposer);
     std::mem::drop(proposer);
     treatment

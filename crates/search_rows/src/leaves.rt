@@ -61,7 +61,7 @@ fn treatment_of(
     if are_none(cuts) {
         root_is_over_columns(problem);
         let hint = no_hint();
-        let mut proposer = Proposer::new(alloc, 100);
+        let mut proposer = Proposer::new(alloc, 100, 0);
         let treatment = treat(alloc, problem, cuts, node, best, 100, &hint, &mut proposer);
         std::mem::drop(hint);
         std::mem::drop(proposer);

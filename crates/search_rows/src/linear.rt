@@ -55,7 +55,7 @@ fn proposed_and_found(alloc: Global, problem: &Instance) -> Result<String, Alloc
 
 // What the search proposes.
 fn proposed(alloc: Global, problem: &Instance) -> Result<&'static str, AllocError> {
-    let candidate = Proposer::new(alloc, 100).propose(
+    let candidate = Proposer::new(alloc, 100, 0).propose(
         alloc,
         problem,
         &SplitsTaken::new(alloc),

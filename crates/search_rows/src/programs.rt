@@ -22,7 +22,7 @@ pub(crate) fn found_by_search(
     limits: &str,
 ) -> Result<String, AllocError> {
     let (splits, steps) = limits_of(limits);
-    let verdict = search(alloc, problem, splits, steps);
+    let verdict = search(alloc, problem, 0, splits, steps);
     let words = match &verdict {
         Ok(certificate) => verdict_words(alloc, certificate),
         Err(fault) => search_fault(fault).to_string(alloc),
@@ -116,7 +116,7 @@ pub(crate) fn verdict_word(certificate: &Certificate) -> &'static str {
 
 /// The point that is proposed for a problem's relaxation, where it is shown to be an optimal one.
 pub(crate) fn shown_optimum(alloc: Global, problem: &Instance) -> Result<String, AllocError> {
-    let candidate = Proposer::new(alloc, 100).propose(
+    let candidate = Proposer::new(alloc, 100, 0).propose(
         alloc,
         problem,
         &SplitsTaken::new(alloc),

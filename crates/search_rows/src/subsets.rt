@@ -29,7 +29,7 @@ pub(crate) fn found_subset(
 fn of_continuous(alloc: Global, problem: &Instance, asked: &str) -> Result<String, AllocError>
     requires { NoneInteger problem.now.columns }
 {
-    let verdict = solve(alloc, problem, 0, 0);
+    let verdict = solve(alloc, problem, 0, 0, 0);
     let words = match &verdict {
         Ok(certificate) => of_certificate(alloc, problem, certificate, asked),
         Err(_) => "no verdict".to_string(alloc),

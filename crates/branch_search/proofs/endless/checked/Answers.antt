@@ -1,4 +1,5 @@
 use Rattle.std.proofs.Common.{refl, sym}
+use Rattle.branch_search.proofs.ColumnSplits.{ray_splits}
 use Rattle.branch_search.proofs.PlainEnds.{ray_plain}
 use Rattle.branch_search.proofs.WholeEnds.{ray_proves, not_refused, ray_fault, stuck_by_ray}
 use Rattle.branch_search.proofs.endless.checked.Goals as goal
@@ -17,3 +18,6 @@ returns-in-Err-clause-fault c =
 
 pub returns-in-Ok-Accepted-clause-plain : goal.returns-in-Ok-Accepted-clause-plain
 returns-in-Ok-Accepted-clause-plain c = λ none. ray_plain c.args.problem.now c.args.point c.args.ray.endless.ray c.of_ray-certificate.result c.of_ray-certificate.ensures c.requires.point c.requires.ray.endless.ray
+
+pub returns-in-Ok-Accepted-clause-splits : goal.returns-in-Ok-Accepted-clause-splits
+returns-in-Ok-Accepted-clause-splits c = ray_splits c.args.problem.now c.args.point c.args.ray.endless.ray c.of_ray-certificate.result c.of_ray-certificate.ensures
