@@ -2,6 +2,7 @@
 #![tactic(auto)]
 
 mod any_problem;
+mod continuous;
 mod endless;
 mod fault;
 mod rounds;
@@ -14,6 +15,7 @@ mod whole_fault;
 mod work;
 
 pub use any_problem::solve;
+pub use continuous::has_no_integer_column;
 pub use fault::{EndlessAt, SearchFault};
 pub use treatment::{Found, Fractional, Treatment};
 pub use whole::search;

@@ -1,5 +1,5 @@
 -- Which words are a command, and what it asks for.
-use Rattle.std.specs.Prelude.{ℕ, Bool, true, false, nat_le, ◌&&◌, List, [], ◌∷◌, Some, None, unwrap_or, codes, if◌then◌else◌}
+use Rattle.std.specs.Prelude.{ℕ, Bool, true, false, nat_le, ◌&&◌, ◌||◌, List, [], ◌∷◌, Some, None, unwrap_or, codes, if◌then◌else◌}
 use Rattle.std.specs.declared.option.Option.{Option}
 use Rattle.std.specs.Option.{option_map_or}
 use Rattle.std.specs.Str.{bytes_eq}
@@ -71,20 +71,21 @@ direction_by false false = Some None
 abbrev pub direction_in : List Row → Option (Option Direction)
 direction_in rows = direction_by (stands (codes "min") rows) (stands (codes "max") rows)
 
--- the files to be written, and whether a subset is to be found
+-- the files to be written, whether a subset is to be found, and whether the search may split on rows
 abbrev pub outputs_in : List Row → Outputs
 outputs_in rows = record {
   report = first_of (codes "output") rows;
   solution = first_of (codes "write") rows;
   certificate = first_of (codes "cert") rows;
   subset = stands (codes "iis") rows;
+  row_splits = stands (codes "rowsplit") rows;
 }
 
--- the task, where no report, no solution and no subset is asked for
+-- the task, where no report, no solution, no subset and no search is asked for
 abbrev pub unsolved : Outputs → Task → Option Task
-unsolved outputs task = option_map_or (λ _. None) outputs.report (option_map_or (λ _. None) outputs.solution (if outputs.subset then None else Some task))
+unsolved outputs task = option_map_or (λ _. None) outputs.report (option_map_or (λ _. None) outputs.solution (if outputs.subset || outputs.row_splits then None else Some task))
 
--- the task, where no file is to be written, and no subset to be found
+-- the task, where no file is to be written, no subset to be found, and no search to be made
 abbrev pub alone : Outputs → Task → Option Task
 alone outputs task = option_map_or (λ _. None) outputs.certificate (unsolved outputs task)
 
@@ -98,7 +99,8 @@ task_by false (Some file) outputs = checking file outputs
 task_by true None outputs = alone outputs Translate
 task_by true (Some file) outputs = None
 
--- `--check` stands with no file to be written, `--checkcert` with that of `--cert` alone, both without `--iis`, and not together
+-- `--check` stands with no file to be written, `--checkcert` with that of `--cert` alone, both without `--iis` and `--rowsplit`,
+-- and not together
 abbrev pub task_in : List Row → Option Task
 task_in rows = task_by (stands (codes "check") rows) (first_of (codes "checkcert") rows) (outputs_in rows)
 

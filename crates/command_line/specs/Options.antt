@@ -47,6 +47,7 @@ rules = file_rule
     ∷ option_rule (codes "nodlim")
     ∷ option_rule (codes "pivlim")
     ∷ flag_rule (codes "iis")
+    ∷ flag_rule (codes "rowsplit")
     ∷ []
 
 -- the command: the words are those after the program's name, and there is no `--help`

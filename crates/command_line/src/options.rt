@@ -46,7 +46,8 @@ fn command<'a>(alloc: Global) -> Result<Command<'a>, AllocError>
         .arg(option(alloc, "checkcert"))?
         .arg(option(alloc, "nodlim"))?
         .arg(option(alloc, "pivlim"))?
-        .arg(flag(alloc, "iis"))
+        .arg(flag(alloc, "iis"))?
+        .arg(flag(alloc, "rowsplit"))
 }
 
 /// `--name`.

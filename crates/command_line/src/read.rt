@@ -171,7 +171,7 @@ fn task_by(translates: bool, certificate: Option<Name>, outputs: Outputs) -> Opt
     }
 }
 
-// The task, where no file is to be written, and no subset to be found.
+// The task, where no file is to be written, no subset to be found, and no search to be made.
 fn alone(outputs: Outputs, task: Task) -> Option<Task>
     ensures { result ≡ alone outputs task }
 {
@@ -179,18 +179,23 @@ fn alone(outputs: Outputs, task: Task) -> Option<Task>
         outputs.report,
         outputs.solution,
         outputs.certificate,
-        outputs.subset,
+        outputs.subset || outputs.row_splits,
     ) {
         (None, None, None, false) => Some(task),
         _ => None,
     }
 }
 
-// A certificate's check, where no file is to be written but the certificate's in version 2, and no subset to be found.
+// A certificate's check, where no file is to be written but the certificate's in version 2, no subset to be found, and no
+// search to be made.
 fn checking(certificate: Name, outputs: Outputs) -> Option<Task>
     ensures { result ≡ checking certificate outputs }
 {
-    match (outputs.report, outputs.solution, outputs.subset) {
+    match (
+        outputs.report,
+        outputs.solution,
+        outputs.subset || outputs.row_splits,
+    ) {
         (None, None, false) => Some(Task::CheckCertificate {
             certificate,
             migrated: outputs.certificate,
@@ -276,6 +281,7 @@ fn outputs_in(alloc: Global, matches: &ArgMatches<'_>) -> Result<Outputs, AllocE
         solution: name_in(alloc, matches, "write")?,
         certificate: name_in(alloc, matches, "cert")?,
         subset: stands(matches, "iis"),
+        row_splits: stands(matches, "rowsplit"),
     })
 }
 

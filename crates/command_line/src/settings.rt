@@ -57,7 +57,7 @@ pub enum Task {
     },
 }
 
-/// What is written when a model is solved, beside the report that is printed.
+/// What is asked for where a model is solved, beside the report that is printed.
 #[derive(Drop)]
 pub struct Outputs {
     /// The file of the report, which is printed too.
@@ -68,6 +68,8 @@ pub struct Outputs {
     pub certificate: Option<Name>,
     /// Where no point is feasible, the report goes on with an irreducible infeasible subset.
     pub subset: bool,
+    /// The search may split on the whole forms of rows, and does so first.
+    pub row_splits: bool,
 }
 
 /// Why words gave no settings.

@@ -45,6 +45,12 @@ wants_subset (Solve outputs) = outputs.subset
 wants_subset Translate = false
 wants_subset (CheckCertificate name migrated) = false
 
+-- a search may split on rows
+abbrev pub splits_rows : Task → Bool
+splits_rows (Solve outputs) = outputs.row_splits
+splits_rows Translate = false
+splits_rows (CheckCertificate name migrated) = false
+
 -- ---- the files that are read
 
 -- the certificate that is to be checked is read last

@@ -14,6 +14,7 @@ use Rattle.branch_search.specs.Plain.{NoneInteger}
 use Rattle.gmpl_generate.specs.declared.fault.ModelFault.{ModelFault}
 use Rattle.branch_search.specs.WholeFaults.{IsWanted, searched}
 use Rattle.branch_search.specs.declared.whole_fault.Wanted.{Wanted}
+use Rattle.row_splits.specs.Searched.{IsSearched}
 use Rattle.certificate_reader.specs.Reading.{read_of}
 use Rattle.certificate_lines.specs.declared.fault.CertFault.{CertFault}
 use Rattle.cert_check.specs.Outcome.{Acceptance as Accepting, Fault, outcome, trials, part_of}
@@ -28,7 +29,7 @@ use Rattle.infeasible_subset.specs.declared.witness.Subset.{Subset as FoundSubse
 use Rattle.outside.specs.Told.{Lacks, Has}
 use Rattle.command_line.specs.Meaning.{settings_of}
 use Rattle.command_line.specs.declared.settings.Settings.{Settings}
-use Rattle.glpsol_cli.specs.Asked.{ToldNames, Solves, Translates, Checks, wants_subset}
+use Rattle.glpsol_cli.specs.Asked.{ToldNames, Solves, Translates, Checks, splits_rows, wants_subset}
 use Rattle.glpsol_cli.specs.Meaning.{Meaning, IsAsked, IsRefused, HasDone, meaning_of}
 use Rattle.glpsol_cli.specs.Texts.{OfFile, OfTexts}
 use Rattle.glpsol_cli.specs.declared.answer.Answer.{Answer}
@@ -169,14 +170,17 @@ IsNoCertificate fault p bytes = read_of bytes ≡ Err fault
 
 -- ---- problems that are not solved
 
--- P of the problem that is searched, and of the settings: the one that is asked about, where a best point is wanted; where
--- any point is wanted, since a ray improves it, the same without its objective
+-- P of the problem that is searched, and of the settings: the one that is asked about, or one with columns for rows where
+-- splits on rows are asked for, where a best point is wanted; where any point is wanted, since a ray improves it, the same
+-- without its objective
 pub record OfSearch (wanted : Wanted) (P : Problem → Settings → Type 0) (s : Settings) (texts : List (List ℕ)) : Type 0 where
   pub problem : Problem
   pub asked : IsAsked s texts problem
   pub solves : Solves s
-  pub is_wanted : IsWanted problem wanted
-  pub holds : P (searched problem wanted) s
+  pub searches : Problem
+  pub is_searched : IsSearched (splits_rows s.task) problem searches
+  pub is_wanted : IsWanted searches wanted
+  pub holds : P (searched searches wanted) s
 
 -- the operation is one of the work at this node, to which splits lead that are all honest, and does not fit
 abbrev pub IsNodeOverflow : Wanted → Node → NoFit → Settings → List (List ℕ) → Type 0

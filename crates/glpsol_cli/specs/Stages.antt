@@ -14,7 +14,7 @@ use Rattle.gmpl_reader.specs.declared.read.Reading.{Reading}
 use Rattle.gmpl_reader.specs.declared.read.ReadingEnd.{ReadingEnd}
 use Rattle.gmpl_reader.specs.declared.read.ReadingEnd.TheVariants as reading_end
 use Rattle.branch_search.specs.Plain.{NoneInteger}
-use Rattle.branch_search.specs.WholeFaults.{IsFault as IsSearchFault}
+use Rattle.row_splits.specs.Searched.{IsFaultOf as IsSearchFault}
 use Rattle.branch_search.specs.declared.whole_fault.VerdictFault.{VerdictFault}
 use Rattle.branch_search.specs.declared.whole_fault.VerdictFault.TheVariants.{NoFit as SearchNoFit, PivotLimit, SplitLimit, NoMemory as SearchNoMemory}
 use Rattle.infeasible_subset.specs.Faults.{IsFault as IsSubsetFault}
@@ -232,7 +232,7 @@ pub record IsRefuted (p : Problem) : Type 0 where
 
 -- why no solution of a problem is found, or no subset that is wanted
 abbrev pub IsUnsolved : Problem → Settings → Bool → Unfound → Type 0
-IsUnsolved p s wanted (Solve fault) = IsSearchFault p s.split_limit s.pivot_limit fault
+IsUnsolved p s wanted (Solve fault) = IsSearchFault (splits_rows s.task) p s.split_limit s.pivot_limit fault
 IsUnsolved p s wanted (Check stop) = ⊥
 IsUnsolved p s wanted (Subset fault) = (wanted ≡ true) × IsRefuted p × IsSubsetFault p s.pivot_limit fault
 IsUnsolved p s wanted SubsetNotLinear = (wanted ≡ true) × ¬ (NoneInteger p.columns)

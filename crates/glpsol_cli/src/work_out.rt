@@ -4,11 +4,11 @@ ghost use Rattle.milp.specs.Problem.{Problem};
 ghost use Rattle.verdicts.specs.Proves.{Proves};
 ghost use Rattle.verdicts.specs.Certificate.{Infeasible as is_infeasible};
 ghost use Rattle.branch_search.specs.Plain.{NoneInteger, IsPlainCertificate};
-ghost use Rattle.branch_search.specs.WholeFaults.{IsFault};
+ghost use Rattle.row_splits.specs.Searched.{IsFaultOf};
 ghost use Rattle.infeasible_subset.specs.Faults.{IsFault as IsSubsetFault};
 ghost use Rattle.certificate_reader.specs.Reading.{read_of};
 ghost use Rattle.cert_check.specs.Outcome.{Acceptance, outcome, trials};
-ghost use Rattle.glpsol_cli.specs.Asked.{names_read};
+ghost use Rattle.glpsol_cli.specs.Asked.{names_read, splits_rows};
 ghost use Rattle.glpsol_cli.specs.Meaning.{IsAsked};
 ghost use Rattle.glpsol_cli.specs.Cause.{IsAccepted, IsSubsetOf};
 ghost use Rattle.glpsol_cli.specs.Stages.{IsFinding, IsUnfound, IsSolution, IsUnsolved, IsCheckStop, OfNext, texts_in};
@@ -16,13 +16,14 @@ ghost use Rattle.glpsol_cli.specs.Stages.{IsFinding, IsUnfound, IsSolution, IsUn
 use crate::found::Finding;
 use crate::inputs::Inputs;
 use crate::stop::{CheckStop, Unfound};
-use branch_search::{VerdictFault, solve};
+use branch_search::{VerdictFault, has_no_integer_column};
 use cert_check::{Checked, check};
 use certificate::{Certificate, Verdict};
 use certificate_reader::CertError;
 use command_line::{Settings, Task};
-use infeasible_subset::{Subset, SubsetFault, has_no_integer_column, subset};
+use infeasible_subset::{Subset, SubsetFault, subset};
 use instance::Instance;
+use row_splits::solve;
 use sqlite_items::Boxed;
 use std::alloc::{AllocError, Global};
 
@@ -184,12 +185,23 @@ fn solved(
 ) -> Result<Boxed<Certificate>, VerdictFault>
     ensures proves { IfOk result (λ c. Proves problem.now c × (outcome (trials problem.now c) ≡ Acceptance)) }
     ensures plain { NoneInteger problem.now.columns → IfOk result (λ c. IsPlainCertificate problem.now c) }
-    ensures fault { IfErr result (IsFault problem.now settings.now.split_limit settings.now.pivot_limit) }
+    ensures fault { IfErr result (IsFaultOf (splits_rows settings.now.task) problem.now settings.now.split_limit settings.now.pivot_limit) }
 {
+    let by_rows = splits_rows(&settings.task);
     let splits = settings.split_limit as usize;
-    match solve(alloc, problem, 0, splits, settings.pivot_limit) {
+    match solve(alloc, problem, by_rows, splits, settings.pivot_limit) {
         Ok(certificate) => Ok(Boxed::new(alloc, certificate)?),
         Err(fault) => Err(fault),
+    }
+}
+
+// Whether a search may split on rows.
+fn splits_rows(task: &Task) -> bool
+    ensures { result ≡ splits_rows task.now }
+{
+    match task {
+        Task::Solve(outputs) => outputs.row_splits,
+        Task::Translate | Task::CheckCertificate { .. } => false,
     }
 }
 

@@ -2,7 +2,6 @@
 #![tactic(auto)]
 
 mod bounds;
-mod continuous;
 mod fault;
 mod leaf;
 mod meeting;
@@ -16,7 +15,6 @@ mod turns;
 mod whole;
 mod witness;
 
-pub use continuous::has_no_integer_column;
 pub use fault::{StuckAt, SubsetFault, TooLong};
 pub use member::{Member, Side};
 pub use members::Members;

@@ -5,7 +5,7 @@ use branch_search::{Treatment, VerdictFault, solve, treat_with};
 use candidate::{Candidate, ProposedOptimum, ProposedRay, Proposer};
 use certificate::{Certificate, DerivedRows, Item, Items, Weights, text};
 use fraction::Frac;
-use infeasible_subset::has_no_integer_column;
+use branch_search::has_no_integer_column;
 use instance::Instance;
 use mps_reader::read_mps;
 use search_node::{Basis, Node, SplitsTaken};

@@ -1,0 +1,92 @@
+// The verdict of a problem by a search over columns for the whole forms of its rows.
+ghost use Rattle.std.specs.Prelude.{◌≡◌, true, IfOk, IfErr};
+ghost use Rattle.verdicts.specs.Certificate.{Two};
+ghost use Rattle.verdicts.specs.Proves.{Proves};
+ghost use Rattle.cert_check.specs.Outcome.{Acceptance, outcome, trials};
+ghost use Rattle.branch_search.specs.Columns.{IsBySplitsOfColumns};
+ghost use Rattle.branch_search.specs.WholeFaults.{IsNotByPivots};
+ghost use Rattle.row_columns.specs.RowForms.{AreRowForms};
+ghost use Rattle.row_columns.specs.Extended.{IsExtended};
+ghost use Rattle.row_splits.specs.Searched.{IsFaultOf};
+
+use branch_search::{VerdictFault, solve};
+use cert_check::{Checked, check};
+use certificate::Certificate;
+use instance::Instance;
+use row_columns::{Extension, restore, with_row_columns};
+use std::alloc::Global;
+
+/// The verdict of a problem, found of the problem with row columns, where that can be restored.
+pub(crate) fn solved_by_rows(
+    alloc: Global,
+    problem: &Instance,
+    split_limit: usize,
+    pivot_limit: u32,
+) -> Result<Certificate, VerdictFault>
+    ensures proves { IfOk result (λ c. Proves problem.now c) }
+    ensures accepted { IfOk result (λ c. outcome (trials problem.now c) ≡ Acceptance) }
+    ensures version { IfOk result (λ c. c.version ≡ Two) }
+    ensures fault { IfErr result (IsFaultOf true problem.now split_limit pivot_limit) }
+    ensures unlimited { pivot_limit ≡ 0 → IfErr result IsNotByPivots }
+{
+    let extension = with_row_columns(alloc, problem)?;
+    by_extension(alloc, problem, &extension, split_limit, pivot_limit)
+}
+
+// The same, with row columns.
+fn by_extension(
+    alloc: Global,
+    problem: &Instance,
+    extension: &Extension,
+    split_limit: usize,
+    pivot_limit: u32,
+) -> Result<Certificate, VerdictFault>
+    requires forms { AreRowForms problem.now problem.now.rows extension.now.forms }
+    requires extended { IsExtended problem.now extension.now.forms extension.now.problem }
+    ensures proves { IfOk result (λ c. Proves problem.now c) }
+    ensures accepted { IfOk result (λ c. outcome (trials problem.now c) ≡ Acceptance) }
+    ensures version { IfOk result (λ c. c.version ≡ Two) }
+    ensures fault { IfErr result (IsFaultOf true problem.now split_limit pivot_limit) }
+    ensures unlimited { pivot_limit ≡ 0 → IfErr result IsNotByPivots }
+{
+    let row_columns = extension.forms.as_slice().len();
+    match solve(
+        alloc,
+        &extension.problem,
+        row_columns,
+        split_limit,
+        pivot_limit,
+    ) {
+        Ok(found) => from_found(alloc, problem, extension, &found, split_limit, pivot_limit),
+        Err(fault) => Err(fault),
+    }
+}
+
+// What is found of the problem with row columns, restored; or else the problem itself is searched.
+fn from_found(
+    alloc: Global,
+    problem: &Instance,
+    extension: &Extension,
+    found: &Certificate,
+    split_limit: usize,
+    pivot_limit: u32,
+) -> Result<Certificate, VerdictFault>
+    requires forms { AreRowForms problem.now problem.now.rows extension.now.forms }
+    requires extended { IsExtended problem.now extension.now.forms extension.now.problem }
+    requires proves_found { Proves extension.now.problem found.now }
+    requires accepted_found { outcome (trials extension.now.problem found.now) ≡ Acceptance }
+    requires version_found { found.now.version ≡ Two }
+    requires splits { IsBySplitsOfColumns found.now }
+    ensures proves { IfOk result (λ c. Proves problem.now c) }
+    ensures accepted { IfOk result (λ c. outcome (trials problem.now c) ≡ Acceptance) }
+    ensures version { IfOk result (λ c. c.version ≡ Two) }
+    ensures fault { IfErr result (IsFaultOf true problem.now split_limit pivot_limit) }
+    ensures unlimited { pivot_limit ≡ 0 → IfErr result IsNotByPivots }
+{
+    let restored = restore(alloc, problem, &extension.forms, found)?;
+    match check(alloc, problem, &restored) {
+        Ok(Checked::Accepted) => Ok(restored),
+        Ok(Checked::Refused(_)) => solve(alloc, problem, 0, split_limit, pivot_limit),
+        Err(_) => solve(alloc, problem, 0, split_limit, pivot_limit),
+    }
+}

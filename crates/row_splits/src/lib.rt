@@ -1,0 +1,7 @@
+//! Verdicts by searches that may split on the whole forms of rows.
+#![tactic(auto)]
+
+mod by_rows;
+mod verdict;
+
+pub use verdict::solve;

@@ -1,0 +1,38 @@
+// The verdict of a problem, by splits of columns or of rows too.
+ghost use Rattle.std.specs.Prelude.{◌≡◌, IfOk, IfErr};
+ghost use Rattle.verdicts.specs.Certificate.{Two};
+ghost use Rattle.verdicts.specs.Proves.{Proves};
+ghost use Rattle.cert_check.specs.Outcome.{Acceptance, outcome, trials};
+ghost use Rattle.branch_search.specs.Plain.{NoneInteger, IsPlainCertificate};
+ghost use Rattle.branch_search.specs.WholeFaults.{IsNotByPivots};
+ghost use Rattle.row_splits.specs.Searched.{IsFaultOf};
+
+use crate::by_rows::solved_by_rows;
+use branch_search::{VerdictFault, has_no_integer_column};
+use certificate::Certificate;
+use instance::Instance;
+use std::alloc::Global;
+
+/// The verdict of a problem as `solve` of branch_search finds it, with its certificate of version 2, which proves it and which the
+/// checker accepts. Where `row_splits` is asked for, it is found of the problem with a column for the whole form of each row that
+/// has one, so that a split may be one of such a form; a node splits on the first such form that isn't whole, before it splits on a
+/// column. Where what is found so can't be restored, since an operation of its test does not fit, the problem itself is searched.
+pub fn solve(
+    alloc: Global,
+    problem: &Instance,
+    row_splits: bool,
+    split_limit: usize,
+    pivot_limit: u32,
+) -> Result<Certificate, VerdictFault>
+    ensures proves { IfOk result (λ c. Proves problem.now c) }
+    ensures accepted { IfOk result (λ c. outcome (trials problem.now c) ≡ Acceptance) }
+    ensures version { IfOk result (λ c. c.version ≡ Two) }
+    ensures plain { NoneInteger problem.now.columns → IfOk result (λ c. IsPlainCertificate problem.now c) }
+    ensures fault { IfErr result (IsFaultOf row_splits problem.now split_limit pivot_limit) }
+    ensures unlimited { pivot_limit ≡ 0 → IfErr result IsNotByPivots }
+{
+    if !row_splits || has_no_integer_column(problem) {
+        return branch_search::solve(alloc, problem, 0, split_limit, pivot_limit);
+    }
+    solved_by_rows(alloc, problem, split_limit, pivot_limit)
+}
