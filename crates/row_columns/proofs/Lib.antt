@@ -5,3 +5,4 @@ mod RestoredTerms
 mod RestoredNodes
 mod RestoredPoints
 mod RestoredCertificates
+mod ExtendedPoints

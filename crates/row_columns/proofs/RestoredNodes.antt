@@ -62,7 +62,7 @@ bound_restored p q forms h (Some v) o r k t =
 
 -- ---- the test of a split
 
-all_at : (p : Problem) (forms : List (List Entry)) (j : ℕ) → list_all (is_whole_form p) forms ≡ true → j < length forms → is_whole_form p (get_or forms j []) ≡ true
+pub all_at : (p : Problem) (forms : List (List Entry)) (j : ℕ) → list_all (is_whole_form p) forms ≡ true → j < length forms → is_whole_form p (get_or forms j []) ≡ true
 all_at p [] j h k = absurd (omega arith)
 all_at p (form ∷ forms) zero h k = (and_parts (is_whole_form p form) (list_all (is_whole_form p) forms) h).0
 all_at p (form ∷ forms) (suc j) h k = all_at p forms j (and_parts (is_whole_form p form) (list_all (is_whole_form p) forms) h).1 (omega arith)
