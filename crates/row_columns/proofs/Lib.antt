@@ -1,0 +1,8 @@
+mod FormValues
+mod SameForms
+mod ExtendedParts
+mod RestoredTerms
+mod RestoredNodes
+mod RestoredPoints
+mod RestoredCertificates
+mod ExtendedPoints
