@@ -2,7 +2,7 @@
 use crate::rows::{Subject, check};
 use std::test::Fail;
 
-// Among them a knapsack and its relaxation, equations that no whole numbers meet, limits of splits that are too small,
+// Among them a knapsack and its relaxation, equations that no whole numbers meet, by splits of columns and of rows, limits of splits that are too small,
 // integer columns of free MPS and MathProg, and rays with and without a feasible point.
 const INTEGER: &str = "\
 0 OPTIMAL$objective obj 21$column a 0$column b 1$column c 1$column d 1$row r.1 14$ <- --lp f <- max$ 8 a + 11 b + 6 c + 4 d$st$ 5 a + 7 b + 4 c + 3 d <= 14$binary$ a b c d$end$
@@ -11,6 +11,10 @@ const INTEGER: &str = "\
 4 UNDECIDED nodes$ <- --lp f --nodlim 3 <- min$ x$st$ 2 x - 2 y = 1$general$ x y$end$
 4 UNDECIDED nodes$ <- --lp f --nodlim 0 <- min$ x$st$ 2 x - 2 y = 1$general$ x y$end$
 0 OPTIMAL$objective obj 1/2$column x 1/2$column y 0$row r.1 1$ <- --lp f --nomip --nodlim 0 <- min$ x$st$ 2 x - 2 y = 1$general$ x y$end$
+0 INFEASIBLE$ <- --lp f --rowsplit --nodlim 1 <- min$ x$st$ 2 x - 2 y = 1$general$ x y$end$
+0 INFEASIBLE$ <- --lp f --rowsplit --nodlim 1 <- min$ a$st$ 2 a + 2 b + 2 c + 2 d + 2 e + 2 f + 2 g + 2 h + 2 i + 2 j + 2 k + 2 l + 2 m + 2 n + 2 o + 2 p + 2 q + 2 r + 2 s + 2 t = 21$general$ a b c d e f g h i j k l m n o p q r s t$end$
+4 UNDECIDED nodes$ <- --lp f --rowsplit --nodlim 0 <- min$ x$st$ 2 x - 2 y = 1$general$ x y$end$
+0 OPTIMAL$objective obj 1/2$column x 1/2$column y 0$row r.1 1$ <- --lp f --nomip --rowsplit --nodlim 0 <- min$ x$st$ 2 x - 2 y = 1$general$ x y$end$
 0 INFEASIBLE$ <- --lp f <- min$ x$st$ 1 <= 3 x <= 2$general$ x$end$
 0 INFEASIBLE$ <- --lp f --nodlim 1 <- min$ x$st$ 1 <= 3 x <= 2$general$ x$end$
 0 INFEASIBLE$ <- --lp f <- min$ - y$st$ 1 <= 3 x <= 2$general$ x$end$
@@ -39,6 +43,7 @@ fn their_certificates_are_accepted(rt: HostRuntime) -> Result<(), Fail> {
 // by its side; by hand.
 const WRITTEN: &str = "\
 0 INFEASIBLE$ <- cert 2$size 1 1$verdict infeasible$derived 0$tree$split 0 1:1$empty r1:1 s1:3$empty r1:-1 s1:3$end$ <- --lp f --cert y <- min$ x$st$ 1 <= 3 x <= 2$general$ x$end$
+0 INFEASIBLE$ <- cert 2$size 1 2$verdict infeasible$derived 0$tree$split 0 1:1 2:-1$empty r1:1/2 s1:1$empty r1:-1/2 s1:1$end$ <- --lp f --rowsplit --cert y <- min$ x$st$ 2 x - 2 y = 1$general$ x y$end$
 0 OPTIMAL$objective obj 1$column x 1$row r.1 2$ <- cert 2$size 1 1$verdict optimal$value 1$point 1$derived 0$tree$split 1 1:1$bound s1:1$empty r1:-1 s1:2$end$ <- --lp f --cert y <- max$ x$st$ 2 x <= 3$general$ x$end$
 ";
 

@@ -102,7 +102,8 @@ fn push_task(text: &mut String, task: &Task) -> Result<(), AllocError> {
             push_file(text, ", solution ", &outputs.solution)?;
             push_file(text, ", cert ", &outputs.certificate)?;
             push_want(text, &outputs.certificate)?;
-            push_subset(text, outputs.subset)
+            push_if(text, outputs.subset, ", subset")?;
+            push_if(text, outputs.row_splits, ", row splits")
         }
         Task::Translate => text.push_str(", translate"),
         Task::CheckCertificate {
@@ -115,9 +116,9 @@ fn push_task(text: &mut String, task: &Task) -> Result<(), AllocError> {
     }
 }
 
-fn push_subset(text: &mut String, subset: bool) -> Result<(), AllocError> {
-    if subset {
-        text.push_str(", subset")?;
+fn push_if(text: &mut String, wanted: bool, word: &str) -> Result<(), AllocError> {
+    if wanted {
+        text.push_str(word)?;
     }
     Ok(())
 }

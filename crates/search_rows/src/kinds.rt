@@ -45,8 +45,10 @@ fn of_problem(
     match word {
         "check" => checked(alloc, problem, rest),
         "search" => found_by_search(alloc, problem, rest),
-        "solve" => found_by_solve(alloc, problem, rest),
-        "written" => written_by_solve(alloc, problem, rest),
+        "solve" => found_by_solve(alloc, problem, false, rest),
+        "solve_by_rows" => found_by_solve(alloc, problem, true, rest),
+        "written" => written_by_solve(alloc, problem, false, rest),
+        "written_by_rows" => written_by_solve(alloc, problem, true, rest),
         "optimum" => shown_optimum(alloc, problem),
         "subset" => found_subset(alloc, problem, rest),
         "board" => played(alloc, problem, rest),

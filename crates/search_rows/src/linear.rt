@@ -1,11 +1,10 @@
 // Linear programs: the certificates that are found for them, and candidates for a verdict, wrong ones and right ones, handed on in place of
 // what the search proposes.
 use crate::texts::{bytes_of, cut, in_marks, numbers_of, point_of};
-use branch_search::{Treatment, VerdictFault, solve, treat_with};
+use branch_search::{Treatment, VerdictFault, has_no_integer_column, solve, treat_with};
 use candidate::{Candidate, ProposedOptimum, ProposedRay, Proposer};
 use certificate::{Certificate, DerivedRows, Item, Items, Weights, text};
 use fraction::Frac;
-use branch_search::has_no_integer_column;
 use instance::Instance;
 use mps_reader::read_mps;
 use search_node::{Basis, Node, SplitsTaken};

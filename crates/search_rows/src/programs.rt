@@ -1,9 +1,10 @@
 // Integer programs, and problems of all kinds, with their verdicts; and optimal points of relaxations.
 use crate::texts::{cut, in_marks, numbers_of};
-use branch_search::{SearchFault, VerdictFault, Wanted, search, solve};
+use branch_search::{SearchFault, VerdictFault, Wanted, search};
 use candidate::{Candidate, ProposedOptimum, Proposer};
 use certificate::{Certificate, DerivedRows, Verdict, text};
 use instance::Instance;
+use row_splits::solve;
 use search_node::SplitsTaken;
 use search_tree::{Path, is_optimal};
 use std::alloc::{AllocError, Global};
@@ -41,14 +42,15 @@ fn search_fault(fault: &SearchFault) -> &'static str {
     }
 }
 
-/// The verdict of any problem within limits, or why there is none and what was wanted.
+/// The verdict of any problem within limits, by splits of columns alone or of rows too, or why there is none and what was wanted.
 pub(crate) fn found_by_solve(
     alloc: Global,
     problem: &Instance,
+    row_splits: bool,
     limits: &str,
 ) -> Result<String, AllocError> {
     let (splits, steps) = limits_of(limits);
-    let verdict = solve(alloc, problem, splits, steps);
+    let verdict = solve(alloc, problem, row_splits, splits, steps);
     let words = match &verdict {
         Ok(certificate) => verdict_words(alloc, certificate),
         Err(fault) => fault_words(alloc, fault),
@@ -61,10 +63,11 @@ pub(crate) fn found_by_solve(
 pub(crate) fn written_by_solve(
     alloc: Global,
     problem: &Instance,
+    row_splits: bool,
     limits: &str,
 ) -> Result<String, AllocError> {
     let (splits, steps) = limits_of(limits);
-    let verdict = solve(alloc, problem, splits, steps);
+    let verdict = solve(alloc, problem, row_splits, splits, steps);
     let words = match &verdict {
         Ok(certificate) => certificate_words(alloc, certificate),
         Err(fault) => fault_words(alloc, fault),

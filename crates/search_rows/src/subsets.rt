@@ -7,9 +7,7 @@ ghost use Rattle.infeasible_subset.specs.Subsets.{AreAccepted};
 use crate::texts::in_marks;
 use branch_search::{has_no_integer_column, solve};
 use certificate::{Certificate, Verdict, text};
-use infeasible_subset::{
-    Member, Side, Subset, SubsetFault, Witness, subset,
-};
+use infeasible_subset::{Member, Side, Subset, SubsetFault, Witness, subset};
 use instance::Instance;
 use std::alloc::{AllocError, Global};
 
