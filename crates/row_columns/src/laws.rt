@@ -1,5 +1,5 @@
 // What certificates of problems with columns for forms prove of the problem without them.
-ghost use Rattle.std.specs.Prelude.{◌≡◌, ◌≤◌, ◌++◌, true, List, drop, length, map};
+ghost use Rattle.std.specs.Prelude.{◌≡◌, ◌++◌, true, List, drop, length, map};
 ghost use Rattle.rational.specs.Rational.{Rational};
 ghost use Rattle.milp.specs.Form.{Entry, sum_at};
 ghost use Rattle.milp.specs.Problem.{Problem};
@@ -24,6 +24,6 @@ pub fn points_extend()
         Feasible p (drop (length forms) x) }
     ensures before { (p q : Problem) (forms : List (List Entry)) (x : List Rational) → IsExtended p forms q →
         list_all (is_whole_form p) forms ≡ true → Feasible p x → Feasible q (map (sum_at x) forms ++ x) }
-    ensures value { (p q : Problem) (forms : List (List Entry)) (x : List Rational) → IsExtended p forms q → length forms ≤ length x →
+    ensures value { (p q : Problem) (forms : List (List Entry)) (x : List Rational) → IsExtended p forms q →
         objective_value q x ≡ objective_value p (drop (length forms) x) }
 {}

@@ -9,4 +9,4 @@ pub returns-clause-before : goal.returns-clause-before
 returns-clause-before c = feasible_before
 
 pub returns-clause-value : goal.returns-clause-value
-returns-clause-value c = λ p q forms x h size. objective_dropped p q forms h x
+returns-clause-value c = λ p q forms x h. objective_dropped p q forms h x
