@@ -6,3 +6,5 @@ mod RestoredNodes
 mod RestoredPoints
 mod RestoredCertificates
 mod ExtendedPoints
+pub mod KeptItems
+pub mod RestoredTree

@@ -3,6 +3,11 @@
 
 mod forms;
 mod laws;
+mod nodes;
+mod points;
+mod restoring;
+mod weights;
 
 pub use forms::Forms;
 pub use laws::{points_extend, restored_prove};
+pub use restoring::restore;
