@@ -1,12 +1,16 @@
 -- What is found of a problem with row columns, and what it says of the problem without them.
-use Rattle.std.proofs.Common.{◌≡◌, ◌∙◌, ◌+◌, ◌==◌, List, [], ◌∷◌, length, Bool, true, false, ◌&&◌, refl, ap, Option, Some, None, if◌then◌else◌}
+use Rattle.std.proofs.Common.{◌≡◌, ◌∙◌, ℕ, ◌+◌, ◌==◌, List, [], ◌∷◌, length, Bool, true, false, ◌&&◌, refl, ap, Option, Some, None, if◌then◌else◌}
 use Rattle.std.proofs.lemmas.Bool.{and_parts, eqb-true}
 use Rattle.std.proofs.lemmas.List.{length-append}
 use Rattle.std.specs.List.{AllByRecursion}
 use Rattle.milp.specs.Form.{Entry}
 use Rattle.milp.specs.Problem.{Column, Problem}
 use Rattle.verdicts.specs.Certificate.{Two, TreeNode, Branch, Empty, Bound, Certificate}
+use Rattle.std.specs.Prelude.{Result, Ok, Err, IfErr}
 use Rattle.verdicts.specs.Proves.{Part, first_failing, verdict_tests, Proves}
+use Rattle.branch_search.specs.WholeFaults.{IsFault}
+use Rattle.branch_search.specs.declared.whole_fault.VerdictFault.{VerdictFault}
+use Rattle.row_splits.specs.Searched.{IsSearched, IsFaultOf}
 use Rattle.branch_search.specs.Columns as found
 use Rattle.row_columns.specs.Extended.{AreFormColumns, IsExtended}
 use Rattle.row_columns.specs.Restored.{IsNodeOfColumns, IsBySplitsOfColumns}
@@ -42,3 +46,8 @@ own_size q c h =
 pub found_size : (p q : Problem) (forms : List (List Entry)) (c : Certificate) → IsExtended p forms q → Proves q c → c.columns ≡ length forms + length p.columns
 found_size p q forms c h proves =
     own_size q c proves ∙ ap length h.all_columns ∙ length-append h.columns p.columns ∙ ap (λ n. n + length p.columns) (columns_count forms h.columns h.are_columns)
+
+-- the cause of a fault in the problem that is searched
+pub fault_in : (by_rows : Bool) (p q : Problem) (splits pivots : ℕ) (r : Result Certificate VerdictFault) → IsSearched by_rows p q → IfErr r (IsFault q splits pivots) → IfErr r (IsFaultOf by_rows p splits pivots)
+fault_in by_rows p q splits pivots (Ok c) searched h = tt
+fault_in by_rows p q splits pivots (Err fault) searched h = (q, searched, h)

@@ -31,7 +31,10 @@ pub fn solve(
     ensures fault { IfErr result (IsFaultOf row_splits problem.now split_limit pivot_limit) }
     ensures unlimited { pivot_limit ≡ 0 → IfErr result IsNotByPivots }
 {
-    if !row_splits || has_no_integer_column(problem) {
+    if !row_splits {
+        return branch_search::solve(alloc, problem, 0, split_limit, pivot_limit);
+    }
+    if has_no_integer_column(problem) {
         return branch_search::solve(alloc, problem, 0, split_limit, pivot_limit);
     }
     solved_by_rows(alloc, problem, split_limit, pivot_limit)
