@@ -7,13 +7,15 @@
 // within one another, as src/room.rt reckons it; where there is no room, memory is wanting. `eval` owns no value, so that its frame
 // is small.
 ghost use Rattle.std.specs.Prelude.{◌≡◌};
-ghost use Rattle.gmpl_value.specs.Outcome.{Gives, then_do};
+ghost use Rattle.gmpl_value.specs.Outcome.{Follows, Gives, then_do};
 ghost use Rattle.gmpl_operations.specs.Functions.{signed};
 ghost use Rattle.gmpl_expr.specs.At as at;
 ghost use Rattle.gmpl_meaning.specs.Expressions as spec;
 ghost use Rattle.gmpl_meaning.specs.Members.{member};
 ghost use Rattle.gmpl_meaning.specs.Right.{AreRight};
+ghost use Rattle.gmpl_resolved.specs.declared.expression.Meaning.TheVariants as meanings;
 
+use crate::in_place::{apply, take};
 use crate::iterations::iterated;
 use crate::members::demanded;
 use crate::parts::{bound_to, nothing, text_value};
@@ -23,7 +25,7 @@ use crate::set_kinds::is_set;
 use crate::values::{braces, called, compared, holds, negation, power, range, symbols};
 use gmpl_data::LoadedModel;
 use gmpl_meaning::Kept;
-use gmpl_operations::{Value, applied, decides, signed, taken};
+use gmpl_operations::{Value, decides, signed};
 use gmpl_resolved::{Expr, Link, Meaning};
 use gmpl_syntax::{Sign, Suffix};
 use gmpl_value::{EvalFault, Tuple};
@@ -184,12 +186,31 @@ fn named(
 {
     match name {
         Meaning::Index(place) => bound_to(alloc, bindings, place),
-        Meaning::Object(place) => {
-            let subscripts = symbols(alloc, model, kept, height, room, subscripts, bindings)?;
-            let value = demanded(alloc, model, kept, height, room, place, suffix, &subscripts)?;
-            Ok(value.into_value(alloc)?)
-        }
+        Meaning::Object(place) => object(
+            alloc, model, kept, height, room, place, subscripts, suffix, bindings,
+        ),
     }
+}
+
+#[cycle(evaluation)]
+fn object(
+    alloc: Global,
+    model: &LoadedModel,
+    kept: &mut Kept,
+    height: u32,
+    room: u32,
+    place: usize,
+    subscripts: &[Expr],
+    suffix: Option<Suffix>,
+    bindings: &Tuple,
+) -> Result<Value, EvalFault>
+    requires right { AreRight model.now kept.old }
+    ensures right { AreRight model.now kept.new }
+    ensures value { Gives result (spec.named (member model.now height) (meanings.Object place) (at.exprs model.now height subscripts.now) suffix bindings.now) }
+{
+    let subscripts = symbols(alloc, model, kept, height, room, subscripts, bindings)?;
+    let value = demanded(alloc, model, kept, height, room, place, suffix, &subscripts)?;
+    Ok(value.into_value(alloc)?)
 }
 
 #[cycle(evaluation)]
@@ -296,11 +317,12 @@ fn links_from(
 {
     let mut value = first;
     for link in links {
-        value = linked(alloc, model, kept, height, room, link, bindings, value)?;
+        linked(alloc, model, kept, height, room, link, bindings, &mut value)?;
     }
     Ok(value)
 }
 
+// One link more: the value takes the place of the left operand.
 #[cycle(evaluation)]
 fn linked(
     alloc: Global,
@@ -310,16 +332,16 @@ fn linked(
     room: u32,
     link: &Link,
     bindings: &Tuple,
-    left: Value,
-) -> Result<Value, EvalFault>
+    left: &mut Value,
+) -> Result<(), EvalFault>
     requires right { AreRight model.now kept.old }
     ensures right { AreRight model.now kept.new }
-    ensures value { Gives result (spec.linked (at.link model.now height link.now) bindings.now left) }
+    ensures value { Follows result left.new (spec.linked (at.link model.now height link.now) bindings.now left.old) }
 {
-    let left = taken(link.operator, left)?;
-    if decides(link.operator, &left) {
-        return Ok(left);
+    take(link.operator, left)?;
+    if decides(link.operator, left) {
+        return Ok(());
     }
     let right = eval(alloc, model, kept, height, room, &link.operand, bindings)?;
-    applied(alloc, link.operator, left, right)
+    apply(alloc, link.operator, left, right)
 }

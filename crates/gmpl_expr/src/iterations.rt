@@ -9,8 +9,9 @@ ghost use Rattle.gmpl_meaning.specs.Right.{AreRight};
 
 use crate::entered::Entered;
 use crate::evaluate::eval;
+use crate::in_place::join;
 use crate::indexing::entry_value;
-use crate::parts::{finished, join};
+use crate::parts::finished;
 use crate::places::inner_of;
 use crate::room::ENTRY;
 use crate::values::holds;

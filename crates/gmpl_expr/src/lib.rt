@@ -6,6 +6,7 @@ mod calls;
 mod context;
 mod entered;
 mod evaluate;
+mod in_place;
 mod indexing;
 mod iterations;
 mod kept_sets;

@@ -17,7 +17,7 @@ use fraction::Frac;
 use gmpl_functions::card;
 use gmpl_meaning::{Asked, Kept};
 use gmpl_members::Value as Given;
-use gmpl_operations::{Value, ended, joined};
+use gmpl_operations::{Value, ended};
 use gmpl_syntax::Iteration;
 use gmpl_text::Text;
 use gmpl_value::{EvalFault, SetValue, Symbol, Tuple, range};
@@ -120,20 +120,6 @@ pub(crate) fn nothing(alloc: Global, is_set: bool) -> Result<Value, AllocError>
     } else {
         Ok(Value::number(Frac::zero()))
     }
-}
-
-/// The value so far with one more.
-pub(crate) fn join(
-    alloc: Global,
-    iteration: Iteration,
-    total: &mut Option<Value>,
-    value: Value,
-) -> Result<(), EvalFault>
-    ensures { Follows result total.new (operations.joined iteration total.old value) }
-{
-    let so_far = total.take();
-    *total = joined(alloc, iteration, so_far, value)?;
-    Ok(())
 }
 
 /// What an iteration comes to.

@@ -122,7 +122,10 @@ abbrev pub decreases-restrictions::memberships_hold : goal.decreases-restriction
 decreases-restrictions::memberships_hold l = 32 * l.room + 5
 
 abbrev pub decreases-evaluate::named : goal.decreases-evaluate::named
-decreases-evaluate::named l = 32 * l.room + 17
+decreases-evaluate::named l = 32 * l.room + 18
+
+abbrev pub decreases-evaluate::object : goal.decreases-evaluate::object
+decreases-evaluate::object l = 32 * l.room + 17
 
 abbrev pub decreases-values::negation : goal.decreases-values::negation
 decreases-values::negation l = 32 * l.room + 2
