@@ -73,7 +73,7 @@ fn proposed(alloc: Global, problem: &Instance) -> Result<&'static str, AllocErro
 }
 
 fn found(alloc: Global, problem: &Instance) -> Result<String, AllocError> {
-    let verdict = solve(alloc, problem, 0, 100);
+    let verdict = solve(alloc, problem, 0, 0, 100);
     let words = verdict_words(alloc, &verdict);
     std::mem::drop(verdict);
     words
