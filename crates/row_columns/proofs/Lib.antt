@@ -1,0 +1,2 @@
+mod ScalingLemmas
+mod RowLemmas

@@ -1,3 +1,4 @@
 pub mod RowForms
+pub mod Scaling
 pub mod Extended
 pub mod Restored

@@ -3,6 +3,8 @@
 
 mod forms;
 mod laws;
+mod row_forms;
+mod scaling;
 
 pub use forms::Forms;
 pub use laws::{points_extend, restored_prove};
