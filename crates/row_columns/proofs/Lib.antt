@@ -1,2 +1,6 @@
 mod ScalingLemmas
 mod RowLemmas
+mod Adding
+mod NewNames
+mod MovedEntries
+mod Extensions

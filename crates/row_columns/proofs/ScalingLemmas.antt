@@ -47,13 +47,13 @@ numerator_some m (a ∷ rest) h = numerator_some (gcd m (unsigned_abs a.numerato
 above_zero : (n : ℕ) → not (n == 0) ≡ true → 0 < n
 above_zero n h = let k = eqb-false n 0 (not-true (n == 0) h) in omega (arith, k)
 
-record IsFirst (least n : ℕ) (e : Entry) (es : List Entry) : Type 0 where
-  low : nat_le least e.column ≡ true
-  high : nat_lt e.column n ≡ true
-  some : not (is_zero e.coefficient) ≡ true
-  rest : are_entries_from (e.column + 1) n es ≡ true
+pub record IsFirst (least n : ℕ) (e : Entry) (es : List Entry) : Type 0 where
+  pub low : nat_le least e.column ≡ true
+  pub high : nat_lt e.column n ≡ true
+  pub some : not (is_zero e.coefficient) ≡ true
+  pub rest : are_entries_from (e.column + 1) n es ≡ true
 
-first_of : (least n : ℕ) (e : Entry) (es : List Entry) → are_entries_from least n (e ∷ es) ≡ true → IsFirst least n e es
+pub first_of : (least n : ℕ) (e : Entry) (es : List Entry) → are_entries_from least n (e ∷ es) ≡ true → IsFirst least n e es
 first_of least n e es h =
     let low = and_parts _ _ h in
     let high = and_parts _ _ low.1 in

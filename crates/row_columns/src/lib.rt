@@ -1,10 +1,16 @@
 //! Columns for the whole forms of rows, on which a search may split, and certificates without them.
 #![tactic(auto)]
 
+mod columns;
+mod extending;
 mod forms;
 mod laws;
+mod moving;
+mod names;
 mod row_forms;
+mod rows;
 mod scaling;
 
+pub use extending::{Extension, with_row_columns};
 pub use forms::Forms;
 pub use laws::{points_extend, restored_prove};
