@@ -24,7 +24,7 @@ all_weaker P Q f (x ∷ xs) a = (f x a.0, all_weaker P Q f xs a.1)
 
 -- ---- the longest name
 
-pub within_more : (m n : ℕ) (names : List (List ℕ)) → m ≤ n → AreWithin m names → AreWithin n names
+within_more : (m n : ℕ) (names : List (List ℕ)) → m ≤ n → AreWithin m names → AreWithin n names
 within_more m n names h a = all_weaker (λ name. length name ≤ m) (λ name. length name ≤ n) (λ name k. omega (arith, h, k)) names a
 
 pub one_more_name : {X : Type 0} (f : X → List ℕ) (xs : List X) (i : ℕ) (x : X) (m n : ℕ) → i < length xs → x ≡ get_or xs i x → m ≤ n → length (f x) ≤ n → AreWithin m (map f (take i xs)) → AreWithin n (map f (take (i + 1) xs))

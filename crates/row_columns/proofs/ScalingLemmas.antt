@@ -33,7 +33,7 @@ abs_of (negsuc k) x e = ap neg_ℤ e
 pub abs_numerator : (a : Rational) → (abs_ℚ a).numerator ≡ pos (unsigned_abs a.numerator)
 abs_numerator a = abs_of a.numerator a refl
 
-pub gcd_fits : (m n b : ℕ) → m ≤ b → n ≤ b → gcd m n ≤ b
+gcd_fits : (m n b : ℕ) → m ≤ b → n ≤ b → gcd m n ≤ b
 gcd_fits m zero b h k = subst (λ g. g ≤ b) (sym (gcd_end m)) h
 gcd_fits m (suc n) b h k = let l : gcd m (suc n) ≤ suc n = le_of_dvd (omega arith) (gcd-is m (suc n)).1 in omega (arith, l, k)
 
@@ -60,7 +60,7 @@ first_of least n e es h =
     let some = and_parts _ _ high.1 in
     record { low = low.0; high = high.0; some = some.0; rest = some.1 }
 
-pub form_numerator_some : (n : ℕ) (form : List Entry) → form ≢ [] → are_entries_from 0 n form ≡ true → 0 < common_numerator 0 (coefficients form)
+form_numerator_some : (n : ℕ) (form : List Entry) → form ≢ [] → are_entries_from 0 n form ≡ true → 0 < common_numerator 0 (coefficients form)
 form_numerator_some n [] some h = absurd (some refl)
 form_numerator_some n (e ∷ es) some h = numerator_some (gcd 0 (unsigned_abs e.coefficient.numerator)) (coefficients es) (gcd_pos 0 (unsigned_abs e.coefficient.numerator) (above_zero (unsigned_abs e.coefficient.numerator) (first_of 0 n e es h).some))
 
@@ -111,13 +111,13 @@ inverse_some a h = false_from_ne_true (is_zero (inv_ℚ a)) never
     never : is_zero (inv_ℚ a) ≡ true → ⊥
     never t = not_zero one_ℚ refl (ap (λ (q : Rational). q.numerator) (one_none t))
 
-pub scale_some : (numbers : List Rational) → 0 < common_numerator 0 numbers → is_zero (scale_between numbers) ≡ false
+scale_some : (numbers : List Rational) → 0 < common_numerator 0 numbers → is_zero (scale_between numbers) ≡ false
 scale_some numbers h = product_some (whole (pos (common_denominator 1 numbers))) (inv_ℚ (whole (pos (common_numerator 0 numbers)))) (whole_some (common_denominator 1 numbers) (denominator_some 1 numbers (omega arith)))
     (inverse_some (whole (pos (common_numerator 0 numbers))) (whole_some (common_numerator 0 numbers) h))
 
 -- ---- a scaled form
 
-pub scaled_entries : (w : Rational) (least n : ℕ) (es : List Entry) → is_zero w ≡ false → are_entries_from least n es ≡ true → are_entries_from least n (scaled w es) ≡ true
+scaled_entries : (w : Rational) (least n : ℕ) (es : List Entry) → is_zero w ≡ false → are_entries_from least n es ≡ true → are_entries_from least n (scaled w es) ≡ true
 scaled_entries w least n [] h k = refl
 scaled_entries w least n (e ∷ es) h k =
     let first = first_of least n e es k in
@@ -128,7 +128,7 @@ neither false t y z h f = refl
 neither true false y z h f = refl
 neither true true y z h f = f h
 
-pub not_on_integers : (p : Problem) (w : Rational) (es : List Entry) → are_on_integers p es ≡ false → is_whole_form p (scaled w es) ≡ false
+not_on_integers : (p : Problem) (w : Rational) (es : List Entry) → are_on_integers p es ≡ false → is_whole_form p (scaled w es) ≡ false
 not_on_integers p w [] h = h
 not_on_integers p w (e ∷ es) h = neither (is_whole (w *ℚ e.coefficient)) (is_integer (slice_get p.columns e.column)) (are_on_integers p es) (is_whole_form p (scaled w es)) h (not_on_integers p w es)
 
@@ -137,7 +137,7 @@ product_unfit w es i e a f h is same unfit = record { place = i; entry = e; is_e
 
 -- ---- the scale and its faults
 
-pub fault_kept : {X : Type 0} (r : Result X NoFit) (e : NoFit) (P : NoFit → Type 0) → IsErrAnd r (λ d. d ≡ e) → P e → IfErr r P
+fault_kept : {X : Type 0} (r : Result X NoFit) (e : NoFit) (P : NoFit → Type 0) → IsErrAnd r (λ d. d ≡ e) → P e → IfErr r P
 fault_kept (Ok u) e P h p = tt
 fault_kept (Err d) e P h p = subst P (sym h) p
 
@@ -180,7 +180,7 @@ by_is form numbers by is made = made ∙ ap scale_between is
 product_unfit_form : (form : List Entry) (by : Rational) → by ≡ scale_of form → IsUnfitProduct by form → IsUnfitForm form
 product_unfit_form form by is u = record { fault = u.fault; unfit = IsScalingFault.of_product u.place u.entry u.is_entry (subst (λ w. mul_answer w u.entry.coefficient ≡ Err u.fault) is u.unfit) }
 
-pub if_none : {A E : Type 0} (r : Result (Option A) E) (P Q : Type 0) → (P → Q) → IfOk r (λ o. IfNone o P) → IfOk r (λ o. IfNone o Q)
+if_none : {A E : Type 0} (r : Result (Option A) E) (P Q : Type 0) → (P → Q) → IfOk r (λ o. IfNone o P) → IfOk r (λ o. IfNone o Q)
 if_none (Err e) P Q f h = tt
 if_none (Ok None) P Q f h = f h
 if_none (Ok (Some a)) P Q f h = tt
