@@ -8,3 +8,9 @@ mod RestoredCertificates
 mod ExtendedPoints
 pub mod KeptItems
 pub mod RestoredTree
+mod ScalingLemmas
+mod RowLemmas
+mod Adding
+mod NewNames
+mod MovedEntries
+mod Extensions

@@ -1,3 +1,5 @@
 pub mod RowForms
+pub mod Scaling
 pub mod Extended
+pub mod Extending
 pub mod Restored

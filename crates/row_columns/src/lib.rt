@@ -1,13 +1,21 @@
 //! Columns for the whole forms of rows, on which a search may split, and certificates without them.
 #![tactic(auto)]
 
+mod columns;
+mod extending;
 mod forms;
 mod laws;
+mod moving;
+mod names;
 mod nodes;
 mod points;
 mod restoring;
+mod row_forms;
+mod rows;
+mod scaling;
 mod weights;
 
+pub use extending::{Extension, with_row_columns};
 pub use forms::Forms;
 pub use laws::{points_extend, restored_prove};
 pub use restoring::restore;
