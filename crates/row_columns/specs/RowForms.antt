@@ -1,5 +1,5 @@
 -- The whole form of a row on integer columns: a multiple of the row's form whose coefficients are whole and have no common factor.
-use Rattle.std.specs.Prelude.{ℕ, pos, unsigned_abs, ◌≡◌, ◌≢◌, ◌⊎◌, true, false, Bool, List, [], ◌∷◌, map, Option, Some, None, slice_get, Err}
+use Rattle.std.specs.Prelude.{ℕ, pos, unsigned_abs, ◌≡◌, ◌≢◌, true, false, List, [], ◌∷◌, map, Option, Some, None, slice_get, Err}
 use Rattle.integer.specs.Gcd.{gcd}
 use Rattle.rational.specs.Rational.{Rational, whole, ◌/ℚ◌}
 use Rattle.rational.specs.Denominators.{common_denominator}
