@@ -1,5 +1,5 @@
 -- What is found of a problem with row columns, and what it says of the problem without them.
-use Rattle.std.proofs.Common.{◌≡◌, ◌∙◌, ℕ, ◌+◌, ◌==◌, List, [], ◌∷◌, length, Bool, true, false, ◌&&◌, refl, ap, Option, Some, None, if◌then◌else◌}
+use Rattle.std.proofs.Common.{◌≡◌, ◌≢◌, ◌∙◌, ℕ, suc, ◌+◌, ◌==◌, List, [], ◌∷◌, length, Bool, true, false, ◌&&◌, refl, ap, Option, Some, None, if◌then◌else◌}
 use Rattle.std.proofs.lemmas.Bool.{and_parts, eqb-true}
 use Rattle.std.proofs.lemmas.List.{length-append}
 use Rattle.std.specs.List.{AllByRecursion}
@@ -9,11 +9,19 @@ use Rattle.verdicts.specs.Certificate.{Two, TreeNode, Branch, Empty, Bound, Cert
 use Rattle.std.specs.Prelude.{Result, Ok, Err, IfErr}
 use Rattle.verdicts.specs.Proves.{Part, first_failing, verdict_tests, Proves}
 use Rattle.branch_search.specs.WholeFaults.{IsFault}
+use Rattle.branch_search.specs.Plain.{NoneInteger}
 use Rattle.branch_search.specs.declared.whole_fault.VerdictFault.{VerdictFault}
-use Rattle.row_splits.specs.Searched.{IsSearched, IsFaultOf}
+use Rattle.branch_search.specs.declared.whole_fault.VerdictFault.TheVariants.{NoFit, PivotLimit, SplitLimit, NoMemory}
+use Rattle.cert_check.specs.Outcome.{Acceptance, Refusal, Fault, outcome, outcome_of, part_of, trials}
+use Rattle.cert_check.specs.declared.part.CheckFault.{CheckFault}
+use Rattle.cert_check.specs.declared.part.Checked.{Checked}
+use Rattle.cert_check.specs.declared.part.Checked.TheVariants.{Accepted, Refused}
+use Rattle.cert_check.specs.declared.part.Part.{Part as CheckedPart}
+use Rattle.row_splits.specs.Searched.{again, continuous, IsSearched, IsFaultOf}
 use Rattle.branch_search.specs.Columns as found
 use Rattle.row_columns.specs.Extended.{AreFormColumns, IsExtended}
-use Rattle.row_columns.specs.Restored.{IsNodeOfColumns, IsBySplitsOfColumns}
+use Rattle.row_columns.specs.RowForms.{AreRowForms}
+use Rattle.row_columns.specs.Restored.{restored, IsNodeOfColumns, IsBySplitsOfColumns}
 
 same_node : (n : TreeNode) → found.IsNodeOfColumns n → IsNodeOfColumns n
 same_node (Branch s) h = h
@@ -29,9 +37,9 @@ by_columns c version h = record { version = version; derived = h.derived; nodes 
 
 pub columns_count : (forms : List (List Entry)) (columns : List Column) → AreFormColumns forms columns → length columns ≡ length forms
 columns_count [] [] h = refl
-columns_count [] (c ∷ columns) h = absurd (ap length h)
+columns_count [] (c ∷ columns) h = cc
 columns_count (form ∷ forms) [] h = absurd h
-columns_count (form ∷ forms) (c ∷ columns) h = ap (λ n. 1 + n) (columns_count forms columns h.1)
+columns_count (form ∷ forms) (c ∷ columns) h = ap suc (columns_count forms columns h.1)
 
 passes_so : (b : Bool) (o : Option Part) (part : Part) → (if b then o else Some part) ≡ None → b ≡ true
 passes_so true o part h = refl
@@ -48,6 +56,43 @@ found_size p q forms c h proves =
     own_size q c proves ∙ ap length h.all_columns ∙ length-append h.columns p.columns ∙ ap (λ n. n + length p.columns) (columns_count forms h.columns h.are_columns)
 
 -- the cause of a fault in the problem that is searched
-pub fault_in : (by_rows : Bool) (p q : Problem) (splits pivots : ℕ) (r : Result Certificate VerdictFault) → IsSearched by_rows p q → IfErr r (IsFault q splits pivots) → IfErr r (IsFaultOf by_rows p splits pivots)
-fault_in by_rows p q splits pivots (Ok c) searched h = tt
-fault_in by_rows p q splits pivots (Err fault) searched h = (q, searched, h)
+pub fault_of : (rows : Bool) (p q : Problem) (splits pivots : ℕ) (fault : VerdictFault) → IsSearched rows p q → IsFault q splits pivots fault → IsFaultOf rows p splits pivots fault
+fault_of rows p q splits pivots (NoFit wanted site) searched h = (q, searched, h)
+fault_of rows p q splits pivots (PivotLimit wanted bases) searched h = (q, searched, h)
+fault_of rows p q splits pivots (SplitLimit wanted board) searched h = (q, searched, h)
+fault_of rows p q splits pivots NoMemory searched h = tt
+
+pub fault_in : (rows : Bool) (p q : Problem) (splits pivots : ℕ) (r : Result Certificate VerdictFault) → IsSearched rows p q → IfErr r (IsFault q splits pivots) → IfErr r (IsFaultOf rows p splits pivots)
+fault_in rows p q splits pivots (Ok c) searched h = tt
+fault_in rows p q splits pivots (Err fault) searched h = fault_of rows p q splits pivots fault searched h
+
+-- the problem itself is searched where no splits on rows are asked for, and where no column is integer
+pub itself : (rows : Bool) (p : Problem) → rows ≡ false → IsSearched rows p p
+itself false p h = refl
+itself true p h = cc
+
+pub continuous_itself : (rows : Bool) (p : Problem) → rows ≡ true → NoneInteger p.columns → IsSearched rows p p
+continuous_itself true p h none = continuous none refl
+continuous_itself false p h none = cc
+
+-- a certificate that the checker refuses, or of which an operation does not fit, is not accepted
+pub refused : (p : Problem) (c : Certificate) (r : Checked) (part : CheckedPart) → r ≡ Refused part → outcome_of (Ok r) ≡ outcome (trials p c) → outcome (trials p c) ≢ Acceptance
+refused p c Accepted part h is accepted = cc
+refused p c (Refused other) part h is accepted = let never : Refusal (part_of other) ≡ Acceptance = is ∙ accepted in cc
+
+pub unfit : (p : Problem) (c : Certificate) (e : CheckFault) → outcome_of (Err e) ≡ outcome (trials p c) → outcome (trials p c) ≢ Acceptance
+unfit p c e is accepted = let never : Fault (part_of e.part) e.fault ≡ Acceptance = is ∙ accepted in cc
+
+-- the problem itself is searched again where what is found is not accepted once it is restored
+module _ (p q : Problem) (forms : List (List Entry)) (are_forms : AreRowForms p p.rows forms) (extended : IsExtended p forms q) (c : Certificate) (version : c.version ≡ Two) (splits : found.IsBySplitsOfColumns c) (accepted : outcome (trials q c) ≡ Acceptance) where
+  pub searched_again : (made : Certificate) → made ≡ restored p forms c → outcome (trials p made) ≢ Acceptance → IsSearched true p p
+  searched_again made is none = again (record {
+    forms = forms;
+    are_forms = are_forms;
+    problem = q;
+    extended = extended;
+    certificate = c;
+    splits = by_columns c version splits;
+    accepted = accepted;
+    not_accepted = λ h. none (ap (λ d. outcome (trials p d)) is ∙ h);
+  }) refl

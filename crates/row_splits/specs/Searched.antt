@@ -7,6 +7,7 @@ use Rattle.cert_check.specs.Outcome.{Acceptance, outcome, trials}
 use Rattle.branch_search.specs.Plain.{NoneInteger}
 use Rattle.branch_search.specs.WholeFaults.{IsFault}
 use Rattle.branch_search.specs.declared.whole_fault.VerdictFault.{VerdictFault}
+use Rattle.branch_search.specs.declared.whole_fault.VerdictFault.TheVariants.{NoFit, PivotLimit, SplitLimit, NoMemory}
 use Rattle.row_columns.specs.RowForms.{AreRowForms}
 use Rattle.row_columns.specs.Extended.{IsExtended, HasRowColumns}
 use Rattle.row_columns.specs.Restored.{restored, IsBySplitsOfColumns}
@@ -37,4 +38,7 @@ IsSearched true p q = IsSearchedByRows p q
 
 -- the cause of a fault, in the problem that is searched
 abbrev pub IsFaultOf : Bool → Problem → ℕ → ℕ → VerdictFault → Type 0
-IsFaultOf by_rows p splits pivots fault = (q : Problem) × IsSearched by_rows p q × IsFault q splits pivots fault
+IsFaultOf rows p splits pivots (NoFit wanted site) = (q : Problem) × IsSearched rows p q × IsFault q splits pivots (NoFit wanted site)
+IsFaultOf rows p splits pivots (PivotLimit wanted bases) = (q : Problem) × IsSearched rows p q × IsFault q splits pivots (PivotLimit wanted bases)
+IsFaultOf rows p splits pivots (SplitLimit wanted board) = (q : Problem) × IsSearched rows p q × IsFault q splits pivots (SplitLimit wanted board)
+IsFaultOf rows p splits pivots NoMemory = Unit {0}
