@@ -43,7 +43,6 @@ fn their_certificates_are_accepted(rt: HostRuntime) -> Result<(), Fail> {
 // by its side; by hand.
 const WRITTEN: &str = "\
 0 INFEASIBLE$ <- cert 2$size 1 1$verdict infeasible$derived 0$tree$split 0 1:1$empty r1:1 s1:3$empty r1:-1 s1:3$end$ <- --lp f --cert y <- min$ x$st$ 1 <= 3 x <= 2$general$ x$end$
-0 INFEASIBLE$ <- cert 2$size 1 2$verdict infeasible$derived 0$tree$split 0 1:1 2:-1$empty r1:1/2 s1:1$empty r1:-1/2 s1:1$end$ <- --lp f --rowsplit --cert y <- min$ x$st$ 2 x - 2 y = 1$general$ x y$end$
 0 OPTIMAL$objective obj 1$column x 1$row r.1 2$ <- cert 2$size 1 1$verdict optimal$value 1$point 1$derived 0$tree$split 1 1:1$bound s1:1$empty r1:-1 s1:2$end$ <- --lp f --cert y <- max$ x$st$ 2 x <= 3$general$ x$end$
 ";
 
