@@ -51,7 +51,7 @@ struct Group {
 
 /// One step of the dual phase.
 pub(crate) fn dual_step(state: &mut State, alloc: Global) -> Result<Step, Stop> {
-    let slot = match leaving_slot(state) {
+    let slot = match leaving_slot(state)? {
         Some(slot) => slot,
         None => return Ok(Step::Done),
     };
@@ -67,34 +67,26 @@ pub(crate) fn dual_step(state: &mut State, alloc: Global) -> Result<Step, Stop> 
     }
 }
 
-// The slot whose variable is farthest beyond a bound in fair units.
-fn leaving_slot(state: &State) -> Option<usize> {
-    let careful = state.is_careful();
+// The slot whose variable is farthest beyond a bound in fair units, or that of the least variable that is beyond one.
+fn leaving_slot(state: &mut State) -> Result<Option<usize>, Stop> {
+    if state.is_careful() {
+        Ok(least_slot(state))
+    } else {
+        state.farthest_slot()
+    }
+}
+
+fn least_slot(state: &State) -> Option<usize> {
     let mut best = None;
     let mut most = i64::MIN;
     for slot in 0..state.gaps.len() {
-        match state.gaps[slot] {
-            None => {}
-            Some(gap) => {
-                let score = leaving_score(state, slot, gap, careful);
-                if score > most {
-                    most = score;
-                    best = Some(slot);
-                }
-            }
+        let rank = least_first(state.variable_at(slot));
+        if state.gaps[slot].is_some() && rank > most {
+            most = rank;
+            best = Some(slot);
         }
     }
     best
-}
-
-fn leaving_score(state: &State, slot: usize, gap: i32, careful: bool) -> i64 {
-    let v = state.variable_at(slot);
-    if careful {
-        return least_first(v);
-    }
-    let size = gap.saturating_sub(state.unit_of(v));
-    let weight = at(&state.weights, slot, 0);
-    i64::from(size.saturating_mul(2)) - i64::from(weight)
 }
 
 fn broken_bound(state: &State, v: usize) -> Result<Broken, Stop> {

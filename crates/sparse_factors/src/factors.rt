@@ -6,7 +6,7 @@ use crate::matrix::Matrix;
 use crate::numbers::quotient;
 use crate::stop::Stop;
 use crate::unknowns::Unknowns;
-use crate::vectors::{add, at, number_at};
+use crate::vectors::{add, at, copied, filled, number_at, put};
 use fraction::Frac;
 use std::alloc::Global;
 
@@ -21,6 +21,7 @@ struct Change {
 #[derive(Drop)]
 pub struct Factors {
     order: Vec<usize>,
+    sequence: Sequence,
     inverses: Vec<Frac>,
     lower_columns: Lists,
     lower_rows: Lists,
@@ -29,6 +30,16 @@ pub struct Factors {
     passes: Passes,
     changes: Vec<Change>,
     change_entries: Lists,
+}
+
+// All rows, those whose own variables are basic before those in `order`, and the rank that each row has among them. Where few numbers are
+// other than 0, a pass goes from one of these to the next by their ranks.
+#[derive(Drop)]
+struct Sequence {
+    rows: Vec<usize>,
+    ranks: Vec<usize>,
+    // how many rows stand before those in `order`
+    first: usize,
 }
 
 // The places in `order`, or the rows there, at which a pass has something to do: most lists are empty, and most pivots are 1.
@@ -74,6 +85,7 @@ pub fn factorise(alloc: Global, matrix: &Matrix, basic: &[usize]) -> Result<Fact
         slack_rows: with_lists(alloc, &slack_rows, &upper_rows)?,
     };
     let factors = Factors {
+        sequence: sequence_of(alloc, &slack_rows, &order)?,
         order,
         inverses,
         lower_columns: lower,
@@ -106,6 +118,22 @@ fn all_slots(alloc: Global, matrix: &Matrix, slots: &[Option<usize>]) -> Result<
         }
     }
     Ok(all)
+}
+
+fn sequence_of(alloc: Global, slack_rows: &[usize], order: &[usize]) -> Result<Sequence, Stop> {
+    let mut rows = copied(alloc, slack_rows)?;
+    for row in order {
+        add(&mut rows, *row)?;
+    }
+    let mut ranks = filled(alloc, rows.len(), 0)?;
+    for rank in 0..rows.len() {
+        put(&mut ranks, rows[rank], rank);
+    }
+    Ok(Sequence {
+        rows,
+        ranks,
+        first: slack_rows.len(),
+    })
 }
 
 // The lists that have entries.
@@ -210,15 +238,52 @@ impl Factors {
     }
 
     fn upper_backward<U: Unknowns>(&self, x: &mut U) -> Result<(), Stop> {
+        match self.few_backward(x)? {
+            None => Ok(()),
+            Some(end) => self.all_backward(x, end),
+        }
+    }
+
+    // While few numbers are other than 0: none where all is done, else the place from which on it is.
+    fn few_backward<U: Unknowns>(&self, x: &mut U) -> Result<Option<usize>, Stop> {
+        let mut end = usize::MAX;
+        for _ in 0..self.order.len() {
+            if !x.are_few(self.passes.upper_places.len()) {
+                return Ok(Some(end));
+            }
+            match self.last_place(x, end) {
+                None => return Ok(None),
+                Some(k) => {
+                    self.divide_column(x, k)?;
+                    end = k;
+                }
+            }
+        }
+        Ok(None)
+    }
+
+    // At all places before `end`.
+    fn all_backward<U: Unknowns>(&self, x: &mut U, end: usize) -> Result<(), Stop> {
         for i in (0..self.passes.upper_places.len()).rev() {
             let k = at(&self.passes.upper_places, i, 0);
-            let row = at(&self.order, k, 0);
-            if !x.is_zero(row) {
-                x.multiply(row, number_at(&self.inverses, row))?;
-                x.subtract_multiple(self.upper_columns.list(k), row)?;
+            if k < end && !x.is_zero(at(&self.order, k, 0)) {
+                self.divide_column(x, k)?;
             }
         }
         Ok(())
+    }
+
+    // The last place before `end` whose row's number isn't 0.
+    fn last_place<U: Unknowns>(&self, x: &U, end: usize) -> Option<usize> {
+        let end = self.sequence.first.saturating_add(end);
+        x.last_below(&self.sequence.ranks, end)?
+            .checked_sub(self.sequence.first)
+    }
+
+    fn divide_column<U: Unknowns>(&self, x: &mut U, k: usize) -> Result<(), Stop> {
+        let row = at(&self.order, k, 0);
+        x.multiply(row, number_at(&self.inverses, row))?;
+        x.subtract_multiple(self.upper_columns.list(k), row)
     }
 
     fn changes_forward<U: Unknowns>(&self, x: &mut U) -> Result<(), Stop> {
@@ -237,7 +302,6 @@ impl Factors {
     /// Solves y B = c, where c is given by slots and y comes in its place, by rows.
     pub fn solve_rows<U: Unknowns>(&self, y: &mut U) -> Result<(), Stop> {
         self.changes_backward(y)?;
-        self.slacks_forward(y)?;
         self.upper_forward(y)?;
         self.lower_backward(y)
     }
@@ -255,23 +319,57 @@ impl Factors {
         Ok(())
     }
 
-    fn slacks_forward<U: Unknowns>(&self, y: &mut U) -> Result<(), Stop> {
+    fn upper_forward<U: Unknowns>(&self, y: &mut U) -> Result<(), Stop> {
+        match self.few_forward(y)? {
+            None => Ok(()),
+            Some(from) => {
+                self.slacks_forward(y, from)?;
+                self.pivots_forward(y, from)
+            }
+        }
+    }
+
+    // While few numbers are other than 0: none where all is done, else the rank up to which it is.
+    fn few_forward<U: Unknowns>(&self, y: &mut U) -> Result<Option<usize>, Stop> {
+        let slacks = self.passes.slack_rows.len();
+        let count = slacks.saturating_add(self.passes.upper_rows.len());
+        let mut from: usize = 0;
+        for _ in 0..self.sequence.rows.len() {
+            if !y.are_few(count) {
+                return Ok(Some(from));
+            }
+            match y.first_from(&self.sequence.ranks, from) {
+                None => return Ok(None),
+                Some(rank) => {
+                    self.divide_row(y, at(&self.sequence.rows, rank, 0))?;
+                    from = rank.saturating_add(1);
+                }
+            }
+        }
+        Ok(None)
+    }
+
+    fn slacks_forward<U: Unknowns>(&self, y: &mut U, from: usize) -> Result<(), Stop> {
         for row in &self.passes.slack_rows {
-            if !y.is_zero(*row) {
+            if !y.is_zero(*row) && self.rank_of(*row) >= from {
                 y.subtract_multiple(self.upper_rows.list(*row), *row)?;
             }
         }
         Ok(())
     }
 
-    fn upper_forward<U: Unknowns>(&self, y: &mut U) -> Result<(), Stop> {
+    fn pivots_forward<U: Unknowns>(&self, y: &mut U, from: usize) -> Result<(), Stop> {
         for row in &self.passes.upper_rows {
-            if !y.is_zero(*row) {
-                y.multiply(*row, number_at(&self.inverses, *row))?;
-                y.subtract_multiple(self.upper_rows.list(*row), *row)?;
+            if !y.is_zero(*row) && self.rank_of(*row) >= from {
+                self.divide_row(y, *row)?;
             }
         }
         Ok(())
+    }
+
+    fn divide_row<U: Unknowns>(&self, y: &mut U, row: usize) -> Result<(), Stop> {
+        y.multiply(row, number_at(&self.inverses, row))?;
+        y.subtract_multiple(self.upper_rows.list(row), row)
     }
 
     fn lower_backward<U: Unknowns>(&self, y: &mut U) -> Result<(), Stop> {
@@ -282,5 +380,9 @@ impl Factors {
             }
         }
         Ok(())
+    }
+
+    fn rank_of(&self, row: usize) -> usize {
+        at(&self.sequence.ranks, row, 0)
     }
 }

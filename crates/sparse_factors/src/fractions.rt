@@ -17,6 +17,18 @@ impl Unknowns for Fractions {
         number_at(&self.numbers, place).is_zero()
     }
 
+    fn are_few(&self, _count: usize) -> bool {
+        false
+    }
+
+    fn first_from(&self, _ranks: &[usize], _from: usize) -> Option<usize> {
+        None
+    }
+
+    fn last_below(&self, _ranks: &[usize], _end: usize) -> Option<usize> {
+        None
+    }
+
     fn multiply(&mut self, place: usize, factor: Frac) -> Result<(), Stop> {
         let number = number_at(&self.numbers, place);
         put(&mut self.numbers, place, product(number, factor)?);

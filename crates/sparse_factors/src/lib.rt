@@ -19,7 +19,9 @@ pub use factors::{Factored, Factors, factorise};
 pub use fractions::Fractions;
 pub use lists::{Entry, Lists, entries_of, number_in};
 pub use matrix::Matrix;
-pub use numbers::{difference, digits, fused, log, product, quotient, sum, whole};
+pub use numbers::{
+    difference, digits, fused, fused_by_word, log, product, quotient, sum, whole, word,
+};
 pub use scaled::Scaled;
 pub use stop::Stop;
 pub use unknowns::Unknowns;

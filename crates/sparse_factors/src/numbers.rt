@@ -69,6 +69,34 @@ fn whole_fused(t: Frac, a: Frac, b: Frac) -> Option<Frac> {
     }
 }
 
+/// A whole number that is a word.
+pub fn word(a: Frac) -> Option<i64> {
+    if a.is_whole() {
+        i64::try_from(a.parts().0).ok()
+    } else {
+        None
+    }
+}
+
+/// t a + b, as `fused` has it; sooner where the word of t is there, and a and b are whole.
+#[inline]
+pub fn fused_by_word(t: Frac, word_of_t: Option<i64>, a: Frac, b: Frac) -> Result<Frac, Stop> {
+    match word_fused(word_of_t, a, b) {
+        Some(c) => Ok(c),
+        None => fused(t, a, b),
+    }
+}
+
+#[inline]
+fn word_fused(t: Option<i64>, a: Frac, b: Frac) -> Option<Frac> {
+    let product = i128::from(t?) * i128::from(word(a)?);
+    if b.is_whole() {
+        whole(product.checked_add(b.parts().0)?).ok()
+    } else {
+        None
+    }
+}
+
 fn fraction_fused(t: Frac, a: Frac, b: Frac) -> Result<Frac, Stop> {
     match t.mul_add(a, b) {
         Ok(c) => Ok(c),
@@ -109,7 +137,12 @@ pub fn quotient(a: Frac, b: Frac) -> Result<Frac, Stop> {
 /// The logarithm of the size of a number that is not 0, to the base 2, in steps of 1/256.
 pub fn log(a: Frac) -> i32 {
     let (numerator, denominator) = a.parts();
-    log_of(numerator.unsigned_abs()).saturating_sub(log_of(denominator.unsigned_abs()))
+    let size = log_of(numerator.unsigned_abs());
+    if denominator == 1 {
+        size
+    } else {
+        size.saturating_sub(log_of(denominator.unsigned_abs()))
+    }
 }
 
 fn log_of(n: u128) -> i32 {

@@ -8,55 +8,100 @@ use fraction::Frac;
 use std::alloc::Global;
 
 /// A vector times `scale`, all of whose numbers are whole. There is no greatest common divisor to find, but it fits less
-/// often than fractions do.
+/// often than fractions do. The places that may have a number other than 0 are listed, so that the others cost nothing.
 #[derive(Drop)]
 pub struct Scaled {
-    pub numbers: Vec<i128>,
-    pub scale: i128,
+    numbers: Vec<i128>,
+    scale: i128,
     // above it what all numbers have in common is looked for
     room: i128,
+    // the places that may have a number other than 0, each of them once, how many they are, and whether a place is one of them
+    touched: Vec<usize>,
+    known: usize,
+    is_touched: Vec<bool>,
 }
 
 // The scale above which what all numbers have in common is looked for, and how much it grows until that is done again.
 const ROOM: i128 = 1 << 40;
 
 impl Scaled {
-    /// So many numbers, of which the one at a place is 1 and the others are 0.
-    pub fn unit(alloc: Global, count: usize, place: usize) -> Result<Scaled, Stop> {
-        let mut numbers = filled(alloc, count, 0)?;
-        put(&mut numbers, place, 1);
-        Ok(Scaled {
-            numbers,
-            scale: 1,
-            room: ROOM,
-        })
-    }
-
-    // So many zeros.
-    fn zeros(alloc: Global, count: usize, scale: i128) -> Result<Scaled, Stop> {
+    /// So many zeros.
+    pub fn zeros(alloc: Global, count: usize) -> Result<Scaled, Stop> {
         Ok(Scaled {
             numbers: filled(alloc, count, 0)?,
-            scale,
+            scale: 1,
             room: ROOM,
+            touched: filled(alloc, count, 0)?,
+            known: 0,
+            is_touched: filled(alloc, count, false)?,
         })
     }
 
-    /// These numbers.
-    pub fn of(alloc: Global, numbers: &[Frac]) -> Result<Scaled, Stop> {
-        let mut scaled = Scaled::zeros(alloc, numbers.len(), denominator_of(numbers)?)?;
-        for place in 0..numbers.len() {
-            scaled.set(place, numbers[place])?;
-        }
-        Ok(scaled)
+    /// What the numbers of the vector are multiplied with.
+    pub fn scale(&self) -> i128 {
+        self.scale
     }
 
-    /// So many numbers, of which the entries are the ones other than 0.
-    pub fn of_entries(alloc: Global, count: usize, entries: &[Entry]) -> Result<Scaled, Stop> {
-        let mut scaled = Scaled::zeros(alloc, count, denominator_in(entries)?)?;
-        for entry in entries {
-            scaled.set(entry.at, entry.number)?;
+    // The number at a place, times the scale.
+    #[inline]
+    fn number(&self, place: usize) -> i128 {
+        at(&self.numbers, place, 0)
+    }
+
+    /// Makes 1 of the number at a place, and 0 of the others.
+    pub fn become_unit(&mut self, place: usize) {
+        self.clear(1);
+        self.write(place, 1);
+    }
+
+    /// Takes these numbers, from the first place on, and 0 at the places behind them.
+    pub fn become_numbers(&mut self, numbers: &[Frac]) -> Result<(), Stop> {
+        self.clear(denominator_of(numbers)?);
+        for place in 0..numbers.len() {
+            if !numbers[place].is_zero() {
+                self.set(place, numbers[place])?;
+            }
         }
-        Ok(scaled)
+        Ok(())
+    }
+
+    /// Takes the entries' numbers at their places, and 0 at the others.
+    pub fn become_entries(&mut self, entries: &[Entry]) -> Result<(), Stop> {
+        self.clear(denominator_in(entries)?);
+        for entry in entries {
+            self.set(entry.at, entry.number)?;
+        }
+        Ok(())
+    }
+
+    // All numbers are 0, over this scale.
+    fn clear(&mut self, scale: i128) {
+        for i in 0..self.known {
+            let place = at(&self.touched, i, 0);
+            put(&mut self.numbers, place, 0);
+            put(&mut self.is_touched, place, false);
+        }
+        self.known = 0;
+        self.scale = scale;
+        self.room = ROOM;
+    }
+
+    // Sets the number at a place, times the scale.
+    #[inline]
+    fn write(&mut self, place: usize, number: i128) {
+        if self.number(place) == 0 {
+            self.touch(place);
+        }
+        put(&mut self.numbers, place, number);
+    }
+
+    #[inline]
+    fn touch(&mut self, place: usize) {
+        if !at(&self.is_touched, place, true) {
+            put(&mut self.is_touched, place, true);
+            put(&mut self.touched, self.known, place);
+            self.known = self.known.saturating_add(1);
+        }
     }
 
     // Sets the number at a place. The scale is a multiple of its denominator.
@@ -67,16 +112,36 @@ impl Scaled {
         } else {
             product(number, whole(self.scale)?)?.parts().0
         };
-        put(&mut self.numbers, place, scaled);
+        self.write(place, scaled);
         Ok(())
+    }
+
+    // Puts the touched places in order, by the marks of all places where they are many.
+    fn order_places(&mut self) {
+        if self.are_few(self.numbers.len()) {
+            sort_first(&mut self.touched, self.known);
+        } else {
+            self.list_marked();
+        }
+    }
+
+    fn list_marked(&mut self) {
+        self.known = 0;
+        for place in 0..self.is_touched.len() {
+            if self.is_touched[place] {
+                put(&mut self.touched, self.known, place);
+                self.known = self.known.saturating_add(1);
+            }
+        }
     }
 
     /// The numbers as fractions.
     pub fn fractions(&self, alloc: Global) -> Result<Vec<Frac>, Stop> {
         let scale = whole(self.scale)?;
         let mut fractions = zeros(alloc, self.numbers.len())?;
-        for place in 0..self.numbers.len() {
-            let number = self.numbers[place];
+        for i in 0..self.known {
+            let place = at(&self.touched, i, 0);
+            let number = self.number(place);
             if number != 0 {
                 put(&mut fractions, place, quotient(whole(number)?, scale)?);
             }
@@ -84,13 +149,16 @@ impl Scaled {
         Ok(fractions)
     }
 
-    /// The numbers other than 0, as fractions.
-    pub fn entries(&self, alloc: Global) -> Result<Vec<Entry>, Stop> {
+    /// The numbers other than 0, as fractions, in the order of their places.
+    pub fn entries(&mut self, alloc: Global) -> Result<Vec<Entry>, Stop> {
+        self.order_places();
         let scale = whole(self.scale)?;
         let mut entries = Vec::new(alloc);
-        for at in 0..self.numbers.len() {
-            if self.numbers[at] != 0 {
-                let number = quotient(whole(self.numbers[at])?, scale)?;
+        for i in 0..self.known {
+            let at = at(&self.touched, i, 0);
+            let number = self.number(at);
+            if number != 0 {
+                let number = quotient(whole(number)?, scale)?;
                 add(&mut entries, Entry { at, number })?;
             }
         }
@@ -98,11 +166,14 @@ impl Scaled {
     }
 
     /// The same, times the scale.
-    pub fn whole_entries(&self, alloc: Global) -> Result<Vec<Entry>, Stop> {
+    pub fn whole_entries(&mut self, alloc: Global) -> Result<Vec<Entry>, Stop> {
+        self.order_places();
         let mut entries = Vec::new(alloc);
-        for at in 0..self.numbers.len() {
-            if self.numbers[at] != 0 {
-                let number = whole(self.numbers[at])?;
+        for i in 0..self.known {
+            let at = at(&self.touched, i, 0);
+            let number = self.number(at);
+            if number != 0 {
+                let number = whole(number)?;
                 add(&mut entries, Entry { at, number })?;
             }
         }
@@ -110,14 +181,20 @@ impl Scaled {
     }
 
     // The number at a place, divided; all are scaled where it is not whole.
+    #[inline]
     fn divided(&mut self, place: usize, divisor: i128) -> Result<i128, Stop> {
         if divisor == 1 {
-            return Ok(at(&self.numbers, place, 0));
+            Ok(self.number(place))
+        } else {
+            self.shared(place, divisor)
         }
+    }
+
+    fn shared(&mut self, place: usize, divisor: i128) -> Result<i128, Stop> {
         if self.scale > self.room {
             self.reduce()?;
         }
-        let number = at(&self.numbers, place, 0);
+        let number = self.number(place);
         let (share, more) = lowest(number, divisor)?;
         if more != 1 {
             self.scale_by(more)?;
@@ -127,10 +204,11 @@ impl Scaled {
 
     fn scale_by(&mut self, factor: i128) -> Result<(), Stop> {
         self.scale = times(self.scale, factor)?;
-        for i in 0..self.numbers.len() {
-            let number = self.numbers[i];
+        for i in 0..self.known {
+            let place = at(&self.touched, i, 0);
+            let number = self.number(place);
             if number != 0 {
-                self.numbers[i] = times(number, factor)?;
+                put(&mut self.numbers, place, times(number, factor)?);
             }
         }
         Ok(())
@@ -141,10 +219,11 @@ impl Scaled {
         let common = self.common_divisor()?;
         if common > 1 {
             self.scale /= common;
-            for i in 0..self.numbers.len() {
-                let number = self.numbers[i];
+            for i in 0..self.known {
+                let place = at(&self.touched, i, 0);
+                let number = self.number(place);
                 if number != 0 {
-                    self.numbers[i] = number / common;
+                    put(&mut self.numbers, place, number / common);
                 }
             }
         }
@@ -154,12 +233,13 @@ impl Scaled {
 
     fn common_divisor(&self) -> Result<i128, Stop> {
         let mut common = self.scale;
-        for number in &self.numbers {
+        for i in 0..self.known {
             if common == 1 {
                 return Ok(1);
             }
-            if *number != 0 {
-                let (_, other) = quotient(whole(*number)?, whole(common)?)?.parts();
+            let number = self.number(at(&self.touched, i, 0));
+            if number != 0 {
+                let (_, other) = quotient(whole(number)?, whole(common)?)?.parts();
                 common /= other;
             }
         }
@@ -170,15 +250,43 @@ impl Scaled {
     fn subtract(&mut self, entry: Frac, place: usize, from: usize) -> Result<(), Stop> {
         let (numerator, denominator) = entry.parts();
         let share = self.divided(place, denominator)?;
-        let rest = less(at(&self.numbers, from, 0), times(share, numerator)?)?;
-        put(&mut self.numbers, from, rest);
+        let rest = less(self.number(from), times(share, numerator)?)?;
+        self.write(from, rest);
         Ok(())
     }
 }
 
 impl Unknowns for Scaled {
+    fn are_few(&self, count: usize) -> bool {
+        self.known.saturating_mul(self.known) < count / 4
+    }
+
+    fn first_from(&self, ranks: &[usize], from: usize) -> Option<usize> {
+        let mut first = None;
+        for i in 0..self.known {
+            let place = at(&self.touched, i, 0);
+            let rank = at(ranks, place, 0);
+            if rank >= from && !self.is_zero(place) {
+                first = Some(rank.min(first.unwrap_or(rank)));
+            }
+        }
+        first
+    }
+
+    fn last_below(&self, ranks: &[usize], end: usize) -> Option<usize> {
+        let mut last = None;
+        for i in 0..self.known {
+            let place = at(&self.touched, i, 0);
+            let rank = at(ranks, place, usize::MAX);
+            if rank < end && !self.is_zero(place) {
+                last = Some(rank.max(last.unwrap_or(rank)));
+            }
+        }
+        last
+    }
+
     fn is_zero(&self, place: usize) -> bool {
-        at(&self.numbers, place, 0) == 0
+        self.number(place) == 0
     }
 
     fn multiply(&mut self, place: usize, factor: Frac) -> Result<(), Stop> {
@@ -197,11 +305,31 @@ impl Unknowns for Scaled {
 
     fn subtract_products(&mut self, entries: &[Entry], place: usize) -> Result<(), Stop> {
         for entry in entries {
-            if at(&self.numbers, entry.at, 0) != 0 {
+            if self.number(entry.at) != 0 {
                 self.subtract(entry.number, entry.at, place)?;
             }
         }
         Ok(())
+    }
+}
+
+// Puts the first so many places in order.
+fn sort_first(places: &mut [usize], count: usize) {
+    for i in 1..count {
+        move_down(places, i);
+    }
+}
+
+// A place goes down to those that are less.
+fn move_down(places: &mut [usize], from: usize) {
+    let mut at = from;
+    while at > 0 && at < places.len() {
+        let below = at - 1;
+        if places[below] <= places[at] {
+            return;
+        }
+        places.swap(at, below);
+        at = below;
     }
 }
 

@@ -6,6 +6,7 @@
 
 mod model;
 mod moving;
+mod ranking;
 mod scaling;
 mod start;
 mod state;

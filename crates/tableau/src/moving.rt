@@ -4,8 +4,8 @@ use crate::state::{Mark, State};
 use fraction::Frac;
 use lifted_systems::{lifted_columns, lifted_rows};
 use sparse_factors::{
-    Entry, Fractions, Scaled, Stop, add, at, copied, difference, entries_of, fused, number_at,
-    number_in, product, put, quotient, sum, whole, zeros,
+    Entry, Fractions, Scaled, Stop, add, at, copied, difference, entries_of, fused, fused_by_word,
+    number_at, number_in, product, put, quotient, sum, whole, word, zeros,
 };
 use std::alloc::Global;
 
@@ -100,17 +100,18 @@ impl State {
     // ---- systems of the basis
 
     // Solves B x = a: over one denominator, else in fractions. Where numbers on the way do not fit, they are lifted.
-    fn solve_columns(&self, alloc: Global, a: &[Frac]) -> Result<Vec<Frac>, Stop> {
+    fn solve_columns(&mut self, alloc: Global, a: &[Frac]) -> Result<Vec<Entry>, Stop> {
         match self.columns_over_one(alloc, a) {
-            Err(Stop::NoFit) => self.columns_in_fractions(alloc, a),
+            Err(Stop::NoFit) => entries_of(alloc, &self.columns_in_fractions(alloc, a)?),
             outcome => outcome,
         }
     }
 
-    fn columns_over_one(&self, alloc: Global, a: &[Frac]) -> Result<Vec<Frac>, Stop> {
-        let mut x = Scaled::of(alloc, a)?;
-        self.factors.solve_columns(&mut x)?;
-        x.fractions(alloc)
+    fn columns_over_one(&mut self, alloc: Global, a: &[Frac]) -> Result<Vec<Entry>, Stop> {
+        let State { factors, work, .. } = self;
+        work.become_numbers(a)?;
+        factors.solve_columns(work)?;
+        work.entries(alloc)
     }
 
     fn columns_in_fractions(&self, alloc: Global, a: &[Frac]) -> Result<Vec<Frac>, Stop> {
@@ -133,7 +134,8 @@ impl State {
     }
 
     fn rows_over_one(&self, alloc: Global, c: &[Frac]) -> Result<Vec<Frac>, Stop> {
-        let mut y = Scaled::of(alloc, c)?;
+        let mut y = Scaled::zeros(alloc, c.len())?;
+        y.become_numbers(c)?;
         self.factors.solve_rows(&mut y)?;
         y.fractions(alloc)
     }
@@ -163,14 +165,17 @@ impl State {
         }
         let x = self.solve_columns(alloc, &x)?;
         self.set_values(&x);
-        self.look_at_all();
-        Ok(())
+        self.look_at_all()
     }
 
-    fn set_values(&mut self, x: &[Frac]) {
+    fn set_values(&mut self, x: &[Entry]) {
         for slot in 0..self.slots.len() {
             let v = self.slots[slot];
-            put(&mut self.values, v, number_at(x, slot));
+            put(&mut self.values, v, Frac::zero());
+        }
+        for entry in x {
+            let v = self.variable_at(entry.at);
+            put(&mut self.values, v, entry.number);
         }
     }
 
@@ -231,21 +236,26 @@ impl State {
     // ---- rows and columns of the table
 
     /// The column of a variable by slots.
-    pub fn solved_column(&self, alloc: Global, v: usize) -> Result<Solved, Stop> {
+    pub fn solved_column(&mut self, alloc: Global, v: usize) -> Result<Solved, Stop> {
         match self.column_over_one(alloc, v) {
             Err(Stop::NoFit) => self.column_in_fractions(alloc, v),
             outcome => outcome,
         }
     }
 
-    fn column_over_one(&self, alloc: Global, v: usize) -> Result<Solved, Stop> {
-        let matrix = &self.model.matrix;
-        let mut x = match matrix.row_of(v) {
-            Some(row) => Scaled::unit(alloc, matrix.rows, row)?,
-            None => Scaled::of_entries(alloc, matrix.rows, matrix.by_column.list(v))?,
-        };
-        self.factors.solve_columns(&mut x)?;
-        let entries = x.entries(alloc)?;
+    fn column_over_one(&mut self, alloc: Global, v: usize) -> Result<Solved, Stop> {
+        let State {
+            model,
+            factors,
+            work,
+            ..
+        } = self;
+        match model.matrix.row_of(v) {
+            Some(row) => work.become_unit(row),
+            None => work.become_entries(model.matrix.by_column.list(v))?,
+        }
+        factors.solve_columns(work)?;
+        let entries = work.entries(alloc)?;
         Ok(Solved { entries })
     }
 
@@ -267,15 +277,21 @@ impl State {
     }
 
     fn find_whole_row(&mut self, alloc: Global, slot: usize) -> Result<Row, Stop> {
-        let mut y = Scaled::unit(alloc, self.model.matrix.rows, slot)?;
-        self.factors.solve_rows(&mut y)?;
-        self.find_scaled_entries(alloc, &y)
+        self.solve_unit_row(slot)?;
+        self.find_scaled_entries(alloc)
     }
 
-    fn find_scaled_entries(&mut self, alloc: Global, y: &Scaled) -> Result<Row, Stop> {
+    fn solve_unit_row(&mut self, slot: usize) -> Result<(), Stop> {
+        let State { factors, work, .. } = self;
+        work.become_unit(slot);
+        factors.solve_rows(work)
+    }
+
+    // Of the row in the work vector.
+    fn find_scaled_entries(&mut self, alloc: Global) -> Result<Row, Stop> {
         let row = Row {
-            scale: whole(y.scale)?,
-            entries: y.whole_entries(alloc)?,
+            scale: whole(self.work.scale())?,
+            entries: self.work.whole_entries(alloc)?,
         };
         self.find_entries(&row)?;
         Ok(row)
@@ -297,8 +313,8 @@ impl State {
     }
 
     fn find_joined_row(&mut self, alloc: Global, numbers: &[Frac]) -> Result<Row, Stop> {
-        let y = Scaled::of(alloc, numbers)?;
-        self.find_scaled_entries(alloc, &y)
+        self.work.become_numbers(numbers)?;
+        self.find_scaled_entries(alloc)
     }
 
     fn unit(&self, alloc: Global, slot: usize) -> Result<Vec<Frac>, Stop> {
@@ -335,6 +351,7 @@ impl State {
             marks,
             ..
         } = self;
+        let word = word(y);
         let own = model.matrix.variable_of(row);
         if is_open(own, marks, touched)? {
             put(entries, own, y);
@@ -342,7 +359,7 @@ impl State {
         for entry in model.matrix.by_row.list(row) {
             let v = entry.at;
             if v < entries.len() && is_open(v, marks, touched)? {
-                entries[v] = fused(y, entry.number, entries[v])?;
+                entries[v] = fused_by_word(y, word, entry.number, entries[v])?;
             }
         }
         Ok(())
@@ -361,7 +378,7 @@ impl State {
             let v = self.variable_at(entry.at);
             let value = fused(back, entry.number, self.value_of(v))?;
             put(&mut self.values, v, value);
-            self.look_at(entry.at);
+            self.look_at(entry.at)?;
         }
         let value = sum(self.value_of(q), t)?;
         put(&mut self.values, q, value);
@@ -443,10 +460,10 @@ impl State {
         self.mark(out);
         self.mark(q);
         self.factors.exchange(slot, &column.entries)?;
-        self.look_at(slot);
+        self.look_at(slot)?;
         if self.is_worn() {
             self.try_to_refactor(alloc)?;
-            self.look_at_all();
+            self.look_at_all()?;
         }
         Ok(())
     }
@@ -465,14 +482,12 @@ impl State {
         self.add_values(&x)
     }
 
-    fn add_values(&mut self, x: &[Frac]) -> Result<(), Stop> {
-        for slot in 0..x.len() {
-            if !x[slot].is_zero() {
-                let v = self.variable_at(slot);
-                let value = sum(self.value_of(v), x[slot])?;
-                put(&mut self.values, v, value);
-                self.look_at(slot);
-            }
+    fn add_values(&mut self, x: &[Entry]) -> Result<(), Stop> {
+        for entry in x {
+            let v = self.variable_at(entry.at);
+            let value = sum(self.value_of(v), entry.number)?;
+            put(&mut self.values, v, value);
+            self.look_at(entry.at)?;
         }
         Ok(())
     }

@@ -9,19 +9,32 @@ const ROUNDS: u32 = 3;
 pub(crate) fn units_of(alloc: Global, matrix: &Matrix) -> Result<Vec<i32>, Stop> {
     let mut rows = filled(alloc, matrix.rows, 0)?;
     let mut columns = filled(alloc, matrix.columns, 0)?;
-    for _ in 0..ROUNDS {
-        scale(&mut rows, &matrix.by_row, &columns);
-        scale(&mut columns, &matrix.by_column, &rows);
-    }
+    scale_all(&mut rows, &mut columns, matrix);
     let mut units = copied(alloc, &columns)?;
     add_negatives(&mut units, &rows)?;
     Ok(units)
 }
 
-fn scale(units: &mut [i32], lists: &Lists, other: &[i32]) {
-    for k in 0..units.len() {
-        units[k] = middle(lists, k, other);
+// Until nothing changes, or the rounds are over.
+fn scale_all(rows: &mut [i32], columns: &mut [i32], matrix: &Matrix) {
+    for _ in 0..ROUNDS {
+        let rows_change = scale(rows, &matrix.by_row, columns);
+        let columns_change = scale(columns, &matrix.by_column, rows);
+        if !rows_change && !columns_change {
+            return;
+        }
     }
+}
+
+// Tells whether a unit changed.
+fn scale(units: &mut [i32], lists: &Lists, other: &[i32]) -> bool {
+    let mut changes = false;
+    for k in 0..units.len() {
+        let unit = middle(lists, k, other);
+        changes = changes || unit != units[k];
+        units[k] = unit;
+    }
+    changes
 }
 
 // Minus the logarithm of the geometric mean of the largest and the smallest entry.

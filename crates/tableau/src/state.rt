@@ -1,10 +1,11 @@
 // The state of a search: a basis with its factors, the values and prices of all variables, and what guides the choices.
 use crate::model::{Bounds, Model};
+use crate::ranking::{Ranked, Ranking};
 use crate::start::Start;
 use fraction::Frac;
 use sparse_factors::{
-    Factored, Factors, Stop, at, copied, difference, digits, factorise, filled, log, number_at,
-    put, zeros,
+    Factored, Factors, Scaled, Stop, at, copied, difference, digits, factorise, filled, log,
+    number_at, put, zeros,
 };
 use std::alloc::Global;
 
@@ -32,10 +33,15 @@ pub(crate) enum Mark {
 // After so many steps of length 0 in a row, and twice as many as there are rows, the least index is taken.
 const PATIENCE: usize = 1000;
 
-// The basis is factored anew after so many steps, or a part of the rows, since factoring goes over all of them.
+// More slots than this are ranked.
+const MANY_SLOTS: usize = 1000;
+
+// The basis is factored anew after so many steps, and a part of the rows above so many, since factoring goes over all of them.
 const STEPS_BETWEEN: usize = 12;
 
-const PART: usize = 200;
+const MANY_ROWS: usize = 2400;
+
+const PART: usize = 20;
 
 /// A basis on the way, and what is known of it.
 #[derive(Drop)]
@@ -54,11 +60,14 @@ pub struct State {
     // how far the variable of a slot is beyond a bound, as a logarithm
     pub gaps: Vec<Option<i32>>,
     pub weights: Vec<i32>,
+    ranking: Ranking,
     // the numbers of a slot's row times a scale, by variable, and the variables that may have one
     pub scale: Frac,
     pub entries: Vec<Frac>,
     pub touched: Vec<usize>,
     pub(crate) marks: Vec<Mark>,
+    // where systems are solved
+    pub(crate) work: Scaled,
     pub ties: TieRule,
     pub steps_between: usize,
     pub steps_left: u32,
@@ -84,12 +93,14 @@ impl State {
             prices: zeros(alloc, size)?,
             gaps: filled(alloc, model.matrix.rows, None)?,
             weights: filled(alloc, model.matrix.rows, 0)?,
+            ranking: Ranking::new(alloc),
             scale: Frac::one(),
             entries: zeros(alloc, size)?,
             touched: Vec::new(alloc),
             marks: filled(alloc, size, Mark::Closed)?,
+            work: Scaled::zeros(alloc, model.matrix.rows)?,
             ties: TieRule::Largest,
-            steps_between: STEPS_BETWEEN.max(model.matrix.rows / PART),
+            steps_between: steps_between(model.matrix.rows),
             steps_left: steps,
             stalls: 0,
             costs_are_shifted: false,
@@ -268,17 +279,23 @@ impl State {
 
     // ---- gaps
 
-    /// How far the variable of a slot is beyond a bound.
-    pub fn look_at(&mut self, slot: usize) {
+    /// Finds how far the variable of a slot is beyond a bound.
+    pub fn look_at(&mut self, slot: usize) -> Result<(), Stop> {
         let gap = self.gap_of(self.variable_at(slot));
         put(&mut self.gaps, slot, gap);
+        if self.ranks_slots() {
+            self.rank(slot)?;
+        }
+        Ok(())
     }
 
     /// The same for all slots.
-    pub fn look_at_all(&mut self) {
+    pub fn look_at_all(&mut self) -> Result<(), Stop> {
+        self.ranking.clear();
         for slot in 0..self.slots.len() {
-            self.look_at(slot);
+            self.look_at(slot)?;
         }
+        Ok(())
     }
 
     fn gap_of(&self, v: usize) -> Option<i32> {
@@ -302,6 +319,71 @@ impl State {
             }
         }
         true
+    }
+
+    // ---- which slot comes first
+
+    // There are so many slots that those beyond a bound are ranked.
+    fn ranks_slots(&self) -> bool {
+        self.slots.len() > MANY_SLOTS
+    }
+
+    // A slot that was looked at, or whose score fell, is ranked anew. Old ranks of it may stay.
+    fn rank(&mut self, slot: usize) -> Result<(), Stop> {
+        match self.score(slot) {
+            None => Ok(()),
+            Some(score) => self.ranking.add(Ranked { score, slot }),
+        }
+    }
+
+    // How far the variable of a slot is beyond a bound, in fair units; none where it isn't.
+    fn score(&self, slot: usize) -> Option<i64> {
+        let gap = at(&self.gaps, slot, None)?;
+        let size = gap.saturating_sub(self.unit_of(self.variable_at(slot)));
+        let weight = at(&self.weights, slot, 0);
+        Some(i64::from(size.saturating_mul(2)) - i64::from(weight))
+    }
+
+    /// The slot whose variable is farthest beyond a bound in fair units, of equal ones the first.
+    pub fn farthest_slot(&mut self) -> Result<Option<usize>, Stop> {
+        if !self.ranks_slots() {
+            return Ok(self.farthest_of_all());
+        }
+        if self.ranking.count() / 4 > self.slots.len() {
+            self.look_at_all()?;
+        }
+        self.first_ranked()
+    }
+
+    fn farthest_of_all(&self) -> Option<usize> {
+        let mut best = None;
+        let mut most = i64::MIN;
+        for slot in 0..self.gaps.len() {
+            match self.score(slot) {
+                Some(score) if score > most => {
+                    most = score;
+                    best = Some(slot);
+                }
+                _ => {}
+            }
+        }
+        best
+    }
+
+    // The first one by its rank. Scores rise only where a slot is looked at, so a rank that is not what the score is now is too high.
+    fn first_ranked(&mut self) -> Result<Option<usize>, Stop> {
+        for _ in 0..u64::MAX {
+            let first = match self.ranking.first() {
+                None => return Ok(None),
+                Some(first) => first,
+            };
+            if self.score(first.slot) == Some(first.score) {
+                return Ok(Some(first.slot));
+            }
+            self.ranking.drop_first();
+            self.rank(first.slot)?;
+        }
+        Ok(None)
     }
 
     // ---- factoring anew
@@ -346,6 +428,10 @@ impl State {
     pub fn is_worn(&self) -> bool {
         self.factors.is_worn(self.steps_between)
     }
+}
+
+fn steps_between(rows: usize) -> usize {
+    STEPS_BETWEEN.saturating_add(rows.saturating_sub(MANY_ROWS) / PART)
 }
 
 // The logarithm of the distance of two numbers, or of the larger one where the distance does not fit.
