@@ -1,18 +1,15 @@
 -- Splits of one column: which bounds they narrow, that they are of whole forms, and the value of their forms.
-use Rattle.std.proofs.Common.{◌≡◌, ◌∙◌, ℕ, ◌==◌, ◌&&◌, Bool, true, false, is_some, List, slice_get, refl, ap}
+use Rattle.std.proofs.Common.{◌≡◌, ◌∙◌, ℕ, ◌==◌, ◌&&◌, Bool, true, false, List, slice_get, refl, ap}
 use Rattle.rational.specs.Rational.{Rational}
 use Rattle.rational.proofs.Laws as Q
 use Rattle.milp.specs.Form.{Entry, number_at, sum_at}
 use Rattle.milp.specs.Problem.{Problem}
-use Rattle.verdicts.specs.Certificate.{One, Split}
-use Rattle.verdicts.specs.Proves.{unit_column, is_column, narrows, may_split, is_integer, is_whole_form}
+use Rattle.verdicts.specs.Certificate.{Split}
+use Rattle.verdicts.specs.Proves.{unit_column, is_column, narrows, is_integer, is_whole_form}
 use Rattle.certificate.specs.Written.{column_form, split_column}
 
 pub column_narrows : (s : Split) (j : ℕ) → s.form ≡ column_form (split_column s) → narrows s j ≡ (split_column s == j)
 column_narrows s j h = ap (λ (form : List Entry). is_column (unit_column form) j) h
-
-pub column_may_split : (s : Split) → s.form ≡ column_form (split_column s) → may_split One s.form ≡ true
-column_may_split s h = ap (λ (form : List Entry). is_some (unit_column form)) h
 
 pub column_is_whole : (p : Problem) (s : Split) → s.form ≡ column_form (split_column s) → is_whole_form p s.form ≡ is_integer (slice_get p.columns (split_column s))
 column_is_whole p s h = ap (is_whole_form p) h ∙ and_all (is_integer (slice_get p.columns (split_column s)))

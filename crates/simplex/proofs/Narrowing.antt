@@ -5,7 +5,6 @@ use mathlib.Core.Path.{ap₂}
 use Rattle.std.proofs.Math.Decide.{dec_lt}
 use Rattle.std.proofs.lemmas.Bool.Decides.{nat_tests}
 use Rattle.std.proofs.lemmas.Option.{slice_get_past, slice_get_within, slice_get_read}
-use Rattle.std.proofs.lemmas.List.{take_all}
 use Rattle.rational.specs.Rational.{Rational, one_ℚ, whole, ◌+ℚ◌}
 use Rattle.rational.proofs.Laws.{whole-add}
 use Rattle.milp.specs.Problem.{Problem}
@@ -136,9 +135,6 @@ one_more_split p taken i t old new on e is f g =
     g ∙ ap (λ l. set l (split_column t.split) (narrowed_by (side_of t.split t.side) (bounds_at l (split_column t.split)))) f
     ∙ one_more_side p (sides_of (take i taken)) (side_of t.split t.side) n (split_column t.split) (form_is t.split t.side ∙ is.form) (split_on n taken i t on e is)
     ∙ ap (λ sides. column_bounds p sides 0 n) (sym (sides_more (take i taken) t)) ∙ ap (λ l. column_bounds p (sides_of l) 0 n) (sym (take_more taken i t e)) ∙ ap (λ m. column_bounds p (sides_of (take m taken)) 0 n) one
-
-pub all_splits : (p : Problem) (taken : List SplitTaken) (i : ℕ) (bounds : List Bounds) → length taken ≤ i → bounds ≡ column_bounds p (sides_of (take i taken)) 0 (length p.columns) → bounds ≡ column_bounds p (sides_of taken) 0 (length p.columns)
-all_splits p taken i bounds h e = e ∙ ap (λ l. column_bounds p (sides_of l) 0 (length p.columns)) (take_all i taken h)
 
 pub split_read : (taken : List SplitTaken) (i : ℕ) (t : SplitTaken) → i < length taken → t ≡ get_or taken i t → slice_get taken i ≡ Some t
 split_read taken i t h e = slice_get_read taken (length taken) i t refl h e
