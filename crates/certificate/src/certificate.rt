@@ -1,5 +1,5 @@
 // Certificates.
-ghost use Rattle.std.specs.Prelude.{◌≡◌, [], length, IsTrue, Some, None};
+ghost use Rattle.std.specs.Prelude.{◌≡◌, ◌≢◌, [], length, IsTrue, Some, None};
 ghost use Rattle.std.specs.Option.{option_map};
 ghost use Rattle.std.specs.List.{AllByRecursion};
 ghost use Rattle.fraction.specs.Fits.{fits};
@@ -207,6 +207,44 @@ impl Certificate {
         ensures { option_map (λ p. p.now) result ≡ self.now.ray }
     {
         self.ray.as_ref()
+    }
+
+    /// The best value, of a verdict that shows an optimal point.
+    pub fn optimal_value(&self) -> Frac
+        requires { self.now.verdict ≡ is_optimal }
+        ensures { Some result ≡ self.now.value }
+    {
+        let _rows = self.rows();
+        match self.value() {
+            None => unreachable!(),
+            Some(value) => value,
+        }
+    }
+
+    /// The point of a verdict that shows one, with a number for each column.
+    pub fn shown_point(&self) -> &Point
+        requires { self.now.verdict ≢ is_infeasible }
+        ensures point { Some result.now ≡ self.now.point }
+        ensures size { length result.now ≡ self.now.columns }
+    {
+        let _rows = self.rows();
+        match self.point() {
+            None => unreachable!(),
+            Some(point) => point,
+        }
+    }
+
+    /// The ray that is to improve the point without end, with a number for each column.
+    pub fn improving_ray(&self) -> &Point
+        requires { self.now.verdict ≡ is_unbounded }
+        ensures ray { Some result.now ≡ self.now.ray }
+        ensures size { length result.now ≡ self.now.columns }
+    {
+        let _rows = self.rows();
+        match self.ray() {
+            None => unreachable!(),
+            Some(ray) => ray,
+        }
     }
 
     /// The derived rows.

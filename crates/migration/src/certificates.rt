@@ -1,5 +1,5 @@
 // Certificates of version 1 as certificates of version 2.
-ghost use Rattle.std.specs.Prelude.{◌≡◌, ◌≢◌, length, Some, IfOk};
+ghost use Rattle.std.specs.Prelude.{◌≡◌, IfOk};
 ghost use Rattle.milp.specs.Problem.{Problem};
 ghost use Rattle.verdicts.specs.Certificate.{One, Optimal, Infeasible, Unbounded};
 ghost use Rattle.verdicts.specs.Proves.{Proves};
@@ -7,8 +7,7 @@ ghost use Rattle.verdicts.specs.Migrated.{migrated};
 
 use crate::nodes::migrated_tree;
 use certificate::{Certificate, Verdict, Version};
-use fraction::Frac;
-use instance::{Instance, Point};
+use instance::Instance;
 use std::alloc::{AllocError, Global};
 
 /// The same certificate in version 2: each branch is the split of its column, and each weight of a column at a leaf whose
@@ -54,8 +53,8 @@ fn migrated_optimal(
     ensures { IfOk result (λ d. d ≡ migrated problem.now certificate.now) }
 {
     let rows = certificate.rows();
-    let value = value_of(certificate);
-    let point = point_of(certificate).copy(alloc)?;
+    let value = certificate.optimal_value();
+    let point = certificate.shown_point().copy(alloc)?;
     let derived = certificate.derived().copy(alloc)?;
     let tree = migrated_tree(alloc, problem, certificate.tree())?;
     let columns = certificate.columns();
@@ -83,46 +82,8 @@ fn migrated_unbounded(alloc: Global, certificate: &Certificate) -> Result<Certif
     ensures { (problem : Problem) → IfOk result (λ d. d ≡ migrated problem certificate.now) }
 {
     let rows = certificate.rows();
-    let point = point_of(certificate).copy(alloc)?;
-    let ray = ray_of(certificate).copy(alloc)?;
+    let point = certificate.shown_point().copy(alloc)?;
+    let ray = certificate.improving_ray().copy(alloc)?;
     let columns = certificate.columns();
     Ok(Certificate::unbounded(alloc, Version::Two, rows, columns, point, ray))
-}
-
-// The best value.
-fn value_of(certificate: &Certificate) -> Frac
-    requires { certificate.now.verdict ≡ Optimal }
-    ensures { Some result ≡ certificate.now.value }
-{
-    let _rows = certificate.rows();
-    match certificate.value() {
-        None => unreachable!(),
-        Some(value) => value,
-    }
-}
-
-// The point.
-fn point_of(certificate: &Certificate) -> &Point
-    requires { certificate.now.verdict ≢ Infeasible }
-    ensures point { Some result.now ≡ certificate.now.point }
-    ensures size { length result.now ≡ certificate.now.columns }
-{
-    let _rows = certificate.rows();
-    match certificate.point() {
-        None => unreachable!(),
-        Some(point) => point,
-    }
-}
-
-// The ray.
-fn ray_of(certificate: &Certificate) -> &Point
-    requires { certificate.now.verdict ≡ Unbounded }
-    ensures ray { Some result.now ≡ certificate.now.ray }
-    ensures size { length result.now ≡ certificate.now.columns }
-{
-    let _rows = certificate.rows();
-    match certificate.ray() {
-        None => unreachable!(),
-        Some(ray) => ray,
-    }
 }

@@ -1,5 +1,5 @@
 // Certificates of problems with columns for forms, as certificates of the problems without them.
-ghost use Rattle.std.specs.Prelude.{◌≡◌, ◌≢◌, ◌+◌, length, Some, IfOk};
+ghost use Rattle.std.specs.Prelude.{◌≡◌, ◌+◌, length, IfOk};
 ghost use Rattle.verdicts.specs.Certificate.{Optimal, Infeasible, Unbounded};
 ghost use Rattle.row_columns.specs.Restored.{restored, IsBySplitsOfColumns};
 
@@ -7,8 +7,7 @@ use crate::forms::Forms;
 use crate::nodes::restored_tree;
 use crate::points::point_behind;
 use certificate::{Certificate, DerivedRows, Verdict, Version};
-use fraction::Frac;
-use instance::{Instance, Point};
+use instance::Instance;
 use std::alloc::{AllocError, Global};
 
 /// The certificate of a problem with columns for these forms, before its own, as one of the problem without them.
@@ -41,8 +40,8 @@ fn restored_optimal(
     ensures { IfOk result (λ made. made ≡ restored problem.now forms.now certificate.now) }
 {
     let _rows = certificate.rows();
-    let value = value_of(certificate);
-    let point = point_behind(alloc, forms, point_of(certificate))?;
+    let value = certificate.optimal_value();
+    let point = point_behind(alloc, forms, certificate.shown_point())?;
     let tree = restored_tree(alloc, problem, forms, certificate.tree())?;
     let rows = row_count(problem);
     let columns = column_count(problem);
@@ -79,8 +78,8 @@ fn restored_unbounded(
     ensures { IfOk result (λ made. made ≡ restored problem.now forms.now certificate.now) }
 {
     let _rows = certificate.rows();
-    let point = point_behind(alloc, forms, point_of(certificate))?;
-    let ray = point_behind(alloc, forms, ray_of(certificate))?;
+    let point = point_behind(alloc, forms, certificate.shown_point())?;
+    let ray = point_behind(alloc, forms, certificate.improving_ray())?;
     let rows = row_count(problem);
     let columns = column_count(problem);
     Ok(Certificate::unbounded(alloc, Version::Two, rows, columns, point, ray))
@@ -98,42 +97,4 @@ fn column_count(problem: &Instance) -> u32
 {
     problem.keeps_its_limits();
     problem.columns().len() as u32
-}
-
-// The best value.
-fn value_of(certificate: &Certificate) -> Frac
-    requires { certificate.now.verdict ≡ Optimal }
-    ensures { Some result ≡ certificate.now.value }
-{
-    let _rows = certificate.rows();
-    match certificate.value() {
-        None => unreachable!(),
-        Some(value) => value,
-    }
-}
-
-// The point.
-fn point_of(certificate: &Certificate) -> &Point
-    requires { certificate.now.verdict ≢ Infeasible }
-    ensures point { Some result.now ≡ certificate.now.point }
-    ensures size { length result.now ≡ certificate.now.columns }
-{
-    let _rows = certificate.rows();
-    match certificate.point() {
-        None => unreachable!(),
-        Some(point) => point,
-    }
-}
-
-// The ray.
-fn ray_of(certificate: &Certificate) -> &Point
-    requires { certificate.now.verdict ≡ Unbounded }
-    ensures ray { Some result.now ≡ certificate.now.ray }
-    ensures size { length result.now ≡ certificate.now.columns }
-{
-    let _rows = certificate.rows();
-    match certificate.ray() {
-        None => unreachable!(),
-        Some(ray) => ray,
-    }
 }
