@@ -1,5 +1,5 @@
 -- The walk over the turns on the way to a node finds the bounds there.
-use Rattle.std.proofs.Common.{◌≡◌, ◌∙◌, ℕ, Bool, true, false, if◌then◌else◌, List, ◌∷◌, Option, Some, None, Result, Ok, Err, refl, sym, ap}
+use Rattle.std.proofs.Common.{◌≡◌, ◌∙◌, ℕ, Bool, true, false, if◌then◌else◌, List, [], ◌∷◌, Option, Some, None, Result, Ok, Err, refl, sym, ap}
 use Rattle.rational.specs.Rational.{Rational, ◌≤ℚ◌, whole}
 use Rattle.rational.proofs.Laws as Q
 use Rattle.fraction.specs.declared.frac.NoFit.{NoFit}
@@ -7,7 +7,7 @@ use Rattle.instance.specs.Sums.{and_then}
 use Rattle.milp.specs.Problem.{Problem}
 use Rattle.verdicts.specs.Certificate.{Side, Low, High}
 use Rattle.rational.specs.Compare.{is_at_most}
-use Rattle.verdicts.specs.Proves.{narrows, greater, lesser, upper_under}
+use Rattle.verdicts.specs.Proves.{narrows, greater, lesser, lower_under, upper_under}
 use Rattle.rational.proofs.Laws.{at_most_true, at_most_false}
 use Rattle.cert_check.specs.Sums.{lower_answer, next_answer}
 use Rattle.cert_check.specs.Walk.{found_lower, found_upper, merged_lower, merged_upper, merged_answer}
@@ -134,3 +134,37 @@ lower_more p side here sides j found f all is e inv = ap (λ r. and_then r (λ f
 
 pub upper_more : (p : Problem) (side : Side) (here sides : List Side) (j : ℕ) (found f : Option Rational) (all : Option Rational) → here ≡ side ∷ sides → f ≡ found_upper found side j → merged_upper found (upper_under p here j) ≡ all → merged_upper f (upper_under p sides j) ≡ all
 upper_more p side here sides j found f all is e inv = ap (λ f. merged_upper f (upper_under p sides j)) e ∙ sym (upper_turn p side sides j found) ∙ (rw is at inv)
+
+-- ---- the walk on, from the root
+
+lower_both : (one found rest : Option Rational) → merged_lower one (merged_lower found rest) ≡ merged_lower (merged_lower one found) rest
+unfolding larger
+lower_both None found rest = refl
+lower_both (Some b) None rest = refl
+lower_both (Some b) (Some a) None = refl
+lower_both (Some b) (Some a) (Some r) = ap Some (larger_turn r a b ∙ ap (larger r) (larger_comm b a))
+
+upper_both : (one found rest : Option Rational) → merged_upper one (merged_upper found rest) ≡ merged_upper (merged_upper one found) rest
+unfolding smaller
+upper_both None found rest = refl
+upper_both (Some b) None rest = refl
+upper_both (Some b) (Some a) None = refl
+upper_both (Some b) (Some a) (Some r) = ap Some (smaller_turn r a b ∙ ap (smaller r) (smaller_comm b a))
+
+none_found : (r : Result (Option Rational) NoFit) → merged_answer None r ≡ r
+none_found (Ok o) = refl
+none_found (Err e) = refl
+
+-- one more turn, the latest
+pub lower_later : (p : Problem) (side : Side) (sides here : List Side) (j : ℕ) (found one new : Option Rational) → here ≡ side ∷ sides → found_lower None side j ≡ Ok one → new ≡ merged_lower one found
+    → lower_answer p sides j ≡ Ok (merged_lower found (lower_under p [] j)) → lower_answer p here j ≡ Ok (merged_lower new (lower_under p [] j))
+lower_later p side sides here j found one new is e f inv =
+    ap (λ l. lower_answer p l j) is ∙ sym (none_found _) ∙ lower_turn p side sides j None
+    ∙ ap (λ r. and_then r (λ f. merged_answer f (lower_answer p sides j))) e ∙ ap (merged_answer one) inv
+    ∙ ap Ok (lower_both one found (lower_under p [] j) ∙ ap (λ n. merged_lower n (lower_under p [] j)) (sym f))
+
+pub upper_later : (p : Problem) (side : Side) (sides here : List Side) (j : ℕ) (found one new : Option Rational) → here ≡ side ∷ sides → one ≡ found_upper None side j → new ≡ merged_upper one found
+    → upper_under p sides j ≡ merged_upper found (upper_under p [] j) → upper_under p here j ≡ merged_upper new (upper_under p [] j)
+upper_later p side sides here j found one new is e f inv =
+    ap (λ l. upper_under p l j) is ∙ upper_turn p side sides j None ∙ ap (λ o. merged_upper o (upper_under p sides j)) (sym e) ∙ ap (merged_upper one) inv
+    ∙ upper_both one found (upper_under p [] j) ∙ ap (λ n. merged_upper n (upper_under p [] j)) (sym f)

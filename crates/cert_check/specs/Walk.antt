@@ -21,10 +21,10 @@ sides_to p = way p.nodes p.place
 abbrev pub turn_side : Turn → Side
 turn_side t = side_of t.split.now t.side
 
--- turns from the root on, as sides of which the latest stands first, onto earlier ones
-abbrev pub sides_onto : List Side → List Turn → List Side
-sides_onto sides [] = sides
-sides_onto sides (t ∷ ts) = sides_onto (turn_side t ∷ sides) ts
+-- from a low side to the high side of the same split
+abbrev pub over_side : Side → Option Side
+over_side (Low s) = Some (High s)
+over_side (High s) = None
 
 -- the way to the place behind a subtree: from the latest low side to its high side
 abbrev pub turned : List Side → List Side

@@ -1,7 +1,8 @@
 // The bounds of columns under the splits on the way to a node.
-ghost use Rattle.std.specs.Prelude.{◌≡◌, ◌≤◌, ◌+ℤ◌, pos, [], ◌∷◌, length, unsigned_abs, IfSome};
+ghost use Rattle.std.specs.Prelude.{◌≡◌, ◌≤◌, ◌+ℤ◌, pos, [], ◌∷◌, length, unsigned_abs, Ok, IfSome};
+ghost use Rattle.rational.specs.Rational.{whole};
 ghost use Rattle.fraction.specs.Fits.{part_max};
-ghost use Rattle.verdicts.specs.Proves.{unit_column, narrows, lower_under, upper_under};
+ghost use Rattle.verdicts.specs.Proves.{unit_column, is_column, narrows, lower_under, upper_under};
 ghost use Rattle.certificate.specs.Ways.{side_of, way};
 ghost use Rattle.cert_check.specs.Sums.{next_answer, lower_answer};
 ghost use Rattle.cert_check.specs.Walk.{found_lower, found_upper, merged_lower, merged_upper};
@@ -102,7 +103,14 @@ fn unit_entry(entry: Entry) -> Option<u32>
 fn is_split_of(split: &Split, column: u32) -> bool
     ensures { result ≡ narrows split.now column }
 {
-    match unit_column(split.form().as_slice()) {
+    is_column(unit_column(split.form().as_slice()), column)
+}
+
+// The column that was found, if there is one, is this column.
+pub(crate) fn is_column(found: Option<u32>, column: u32) -> bool
+    ensures { result ≡ is_column found column }
+{
+    match found {
         None => false,
         Some(own) => own == column,
     }
@@ -112,12 +120,20 @@ fn is_split_of(split: &Split, column: u32) -> bool
 pub(crate) fn next(at: WholeNumber) -> Result<Frac, NoFit>
     ensures { result ≡ next_answer at }
 {
-    match one_more(at) {
-        Some(next) => {
-            whole_numbers();
-            Ok(next.to_frac())
-        }
+    match next_whole(at) {
+        Some(next) => Ok(next.to_frac()),
         None => at.to_frac().add(Frac::one()),
+    }
+}
+
+// at + 1, where it is within plus or minus 2^127 - 1.
+pub(crate) fn next_whole(at: WholeNumber) -> Option<WholeNumber>
+    ensures { IfSome result (λ next. next_answer at ≡ Ok (whole next)) }
+{
+    whole_numbers();
+    match one_more(at) {
+        None => None,
+        Some(next) => Some(next),
     }
 }
 
@@ -133,7 +149,7 @@ fn one_more(at: WholeNumber) -> Option<WholeNumber>
     }
 }
 
-fn over_own(found: Option<Frac>, problem: &Instance, column: u32) -> Option<Frac>
+pub(crate) fn over_own(found: Option<Frac>, problem: &Instance, column: u32) -> Option<Frac>
     ensures { result ≡ merged_lower found (lower_under problem.now [] column) }
 {
     let own = own_lower(problem, column);
@@ -143,7 +159,7 @@ fn over_own(found: Option<Frac>, problem: &Instance, column: u32) -> Option<Frac
     }
 }
 
-fn under_own(found: Option<Frac>, problem: &Instance, column: u32) -> Option<Frac>
+pub(crate) fn under_own(found: Option<Frac>, problem: &Instance, column: u32) -> Option<Frac>
     ensures { result ≡ merged_upper found (upper_under problem.now [] column) }
 {
     let own = own_upper(problem, column);

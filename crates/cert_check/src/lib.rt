@@ -6,6 +6,7 @@ mod by_column;
 mod checking;
 mod derived;
 mod forms;
+mod kept;
 mod kind;
 mod leaves;
 mod lookup;

@@ -16,7 +16,7 @@ use instance::Instance;
 use std::alloc::Global;
 use std::marker::Model;
 
-// A place of a tree, with the turns on the way to it where there is memory for them.
+// A place of a tree, with the turns on the way to it where there is memory for them and their numbers fit.
 #[derive(Drop)]
 pub(crate) struct Way<'t> {
     tree: &'t Tree,
@@ -115,7 +115,7 @@ impl<'t> Way<'t> {
         way
     }
 
-    // On to the next place. Where there is no memory for a turn, none are kept from there on.
+    // On to the next place. Where there is no memory for a turn, or its number does not fit, none are kept from there on.
     pub(crate) fn advance(&mut self)
         requires { self.old.place < length self.old.nodes }
         ensures { self.new ≡ record { nodes = self.old.nodes; place = self.old.place + 1 } }
@@ -147,13 +147,19 @@ impl<'t> Way<'t> {
     pub(crate) fn lower(&self, problem: &Instance, column: u32) -> Result<Option<Frac>, NoFit>
         ensures { result ≡ lower_answer problem.now (sides_to self.now) column }
     {
-        lower_at(problem, self.tree, self.place, column)
+        match &self.turns {
+            None => lower_at(problem, self.tree, self.place, column),
+            Some(turns) => Ok(turns.lower(problem, column)),
+        }
     }
 
     // The upper bound of a column under the splits on the way that are of this column alone.
     pub(crate) fn upper(&self, problem: &Instance, column: u32) -> Option<Frac>
         ensures { result ≡ upper_under problem.now (sides_to self.now) column }
     {
-        upper_at(problem, self.tree, self.place, column)
+        match &self.turns {
+            None => upper_at(problem, self.tree, self.place, column),
+            Some(turns) => turns.upper(problem, column),
+        }
     }
 }
