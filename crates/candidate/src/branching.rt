@@ -1,6 +1,6 @@
 // Which integer column is split.
 use crate::dual::step_gain;
-use crate::gains::{Gains, STEPS, in_steps, share};
+use crate::gains::{Gains, MOST, STEPS, in_steps, share};
 use crate::search::objective;
 use fraction::Frac;
 use instance::Column;
@@ -43,8 +43,9 @@ impl Choice {
 }
 
 /// An integer column whose number is not whole, if there is one: the first of those before `first_columns`, or else the one of
-/// which both sides may bring most, by what splits of it brought and, at some, what one step of the dual phase brings; one with a
-/// side without a point or bounded by the cutoff comes first. Where no cost is other than 0, the one that is nearest to a half.
+/// which both sides may bring most, by what splits of it brought and, at some, what one step of the dual phase brings; a side
+/// bounded by the cutoff brings most of all, and one with a side without a point comes first. Where no cost is other than 0, the one
+/// that is nearest to a half.
 pub(crate) fn advised(
     alloc: Global,
     columns: &[Column],
@@ -131,7 +132,7 @@ fn behind_point(value: Frac) -> Result<Frac, Stop> {
 
 // What is found out of a column.
 enum Trial {
-    // One of its sides is closed at once.
+    // One of its sides has no point, or the cutoff bounds both.
     Closed,
     Open(Choice),
 }
@@ -232,13 +233,17 @@ fn after_step(
     choice: Choice,
     gain: Gain,
 ) -> Trial {
-    if reaches(state, cutoff, gain.low) || reaches(state, cutoff, gain.high) {
+    let low_ends = reaches(state, cutoff, gain.low);
+    let high_ends = reaches(state, cutoff, gain.high);
+    if low_ends && high_ends {
         return Trial::Closed;
     }
     let column = choice.column;
+    let low = at_least(choice.low, gains.low(column).count, gain.low);
+    let high = at_least(choice.high, gains.high(column).count, gain.high);
     Trial::Open(Choice {
-        low: at_least(choice.low, gains.low(column).count, gain.low),
-        high: at_least(choice.high, gains.high(column).count, gain.high),
+        low: if low_ends { MOST } else { low },
+        high: if high_ends { MOST } else { high },
         ..choice
     })
 }

@@ -10,8 +10,8 @@ use tableau::State;
 /// So many steps are one: what guides the choice of a column is counted in whole steps.
 pub(crate) const STEPS: i64 = 1_048_576;
 
-// What is larger is cut off.
-const MOST: i64 = 1_152_921_504_606_846_976;
+/// What is larger is cut off.
+pub(crate) const MOST: i64 = 1_152_921_504_606_846_976;
 
 /// A number in whole steps, cut off where it is very large.
 pub(crate) fn in_steps(number: Frac) -> i64 {
