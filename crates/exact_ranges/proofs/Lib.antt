@@ -1,0 +1,12 @@
+mod Results
+mod Lists
+mod Accepted
+mod Told
+mod Entries
+mod ReachedForms
+mod Naming
+mod CostProblems
+mod CostEnds
+mod BoundProblems
+mod UsedBounds
+mod BoundEnds

@@ -1,0 +1,10 @@
+pub mod Ranges
+pub mod ShownBest
+pub mod Sought
+pub mod Faults
+pub mod Ends
+pub mod Reached
+pub mod CostParts
+pub mod Parts
+pub mod BoundParts
+pub mod Text
