@@ -1,5 +1,7 @@
+mod EntryLists
+mod EntrySums
 mod RowNumbers
-mod StartLemmas
+mod SparseRows
 mod StartPoint
 mod StartTable
 mod SumLemmas

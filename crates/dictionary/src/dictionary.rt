@@ -1,4 +1,4 @@
-// Dictionaries, kept dense.
+// Dictionaries.
 ghost use Rattle.std.specs.Prelude.{ℕ, pos, List, [], length, get_or, ◌≡◌, ◌≢◌, ◌<◌, OnOk, IfOk, IfErr};
 ghost use Rattle.milp.specs.Form.{number_at};
 ghost use Rattle.basis.specs.System.{System as SystemOf};
@@ -6,14 +6,16 @@ ghost use Rattle.basis.specs.Dictionary.{place_of, IsBasic, IsResting, IsDiction
 ghost use Rattle.basis.specs.Bland.{exchanged, IsStart};
 ghost use Rattle.basis.specs.Pivots.{IsPivoted};
 ghost use Rattle.basis.specs.declared.Place.TheVariants.{Basic};
+ghost use Rattle.dictionary.specs.Faults.{IfNoFit};
 ghost use Rattle.dictionary.specs.Rows.{IsSolved, IsSubstituted, IsSolvingFault, IsSubstitutionFault};
 ghost use Rattle.dictionary.specs.Table.{is_basic, dictionary_of, IsTable, AreSubstituted, IsRowsFault, moved_positions, ArePivoted, IsPivotedFault, IsPivotFault};
 
+use crate::fault::Fault;
 use crate::row::Row;
-use crate::start::{dense, places_of, positions_of, rows_of};
+use crate::start::{places_of, positions_of, row_of, rows_of};
 use crate::system::System;
 use basis::Place;
-use fraction::{Frac, NoFit};
+use fraction::Frac;
 use std::alloc::{AllocError, Global};
 use std::marker::Model;
 use std::mem;
@@ -49,7 +51,7 @@ impl Dictionary {
         let places = places_of(alloc, system)?;
         let positions = positions_of(alloc, columns, forms.len())?;
         let rows = rows_of(alloc, columns, forms)?;
-        let gains = dense(alloc, columns, system.objective())?;
+        let gains = row_of(alloc, columns, system.objective())?;
         Ok(Dictionary {
             places,
             positions,
@@ -108,14 +110,14 @@ impl Dictionary {
     }
 
     /// Makes q basic in the place of r, which rests at the place that is given.
-    pub fn pivot(self, alloc: Global, q: usize, r: usize, place: Place) -> Result<Dictionary, NoFit>
+    pub fn pivot(self, alloc: Global, q: usize, r: usize, place: Place) -> Result<Dictionary, Fault>
         requires enters { IsResting self.places q }
         requires leaves { IsBasic self.places r }
         requires stops { place ≢ Basic }
         requires some_rate { (rate_of (dictionary_of self) q r).numerator ≢ pos 0 }
         ensures basis { IfOk result (λ d. d.places ≡ exchanged self.places q r place) }
         ensures numbers { IfOk result (λ d. IsPivoted self.places (dictionary_of self) (dictionary_of d) q r) }
-        ensures fault { IfErr result (IsPivotFault self q r) }
+        ensures fault { IfErr result (IfNoFit (IsPivotFault self q r)) }
     {
         let Dictionary {
             mut places,
@@ -195,32 +197,38 @@ fn pivot_rows(
     gains: &mut Row,
     line: usize,
     column: usize,
-) -> Result<(), NoFit>
+) -> Result<(), Fault>
     requires known { line < length rows.old }
     requires widths { (i : ℕ) → i < length rows.old → length (get_or rows.old i []) ≡ length gains.old }
     requires inside { column < length gains.old }
     requires some { (number_at (get_or rows.old line []) column).numerator ≢ pos 0 }
     ensures ok { OnOk result (ArePivoted rows.old gains.old line column rows.new gains.new) }
-    ensures err { IfErr result (IsPivotedFault rows.old gains.old line column) }
+    ensures err { IfErr result (IfNoFit (IsPivotedFault rows.old gains.old line column)) }
 {
     let mut solved = mem::replace(&mut rows[line], Row::new(alloc));
     solved.solve(column)?;
-    substitute_all(rows, &solved, line, column)?;
-    gains.substitute(&solved, column)?;
+    substitute_all(alloc, rows, &solved, line, column)?;
+    gains.substitute(alloc, &solved, column)?;
     rows[line] = solved;
     Ok(())
 }
 
 // Puts the row `solved` in for the place `column` in each row but the one at `line`, which stays.
-fn substitute_all(rows: &mut [Row], solved: &Row, line: usize, column: usize) -> Result<(), NoFit>
+fn substitute_all(
+    alloc: Global,
+    rows: &mut [Row],
+    solved: &Row,
+    line: usize,
+    column: usize,
+) -> Result<(), Fault>
     requires widths { (i : ℕ) → i < length rows.old → i ≢ line → length (get_or rows.old i []) ≡ length solved.now }
     requires inside { column < length solved.now }
     ensures ok { OnOk result (AreSubstituted rows.old solved.now line column rows.new) }
-    ensures err { IfErr result (IsRowsFault rows.old solved.now line column) }
+    ensures err { IfErr result (IfNoFit (IsRowsFault rows.old solved.now line column)) }
 {
     for i in 0..rows.len() {
         if i != line {
-            rows[i].substitute(solved, column)?;
+            rows[i].substitute(alloc, solved, column)?;
         }
     }
     Ok(())

@@ -1,26 +1,39 @@
 // Rows of numbers.
-ghost use Rattle.std.specs.Prelude.{ℕ, pos, [], length, true, ◌≡◌, ◌≢◌, ◌<◌, OnOk, IfOk, IfErr};
+ghost use Rattle.std.specs.Prelude.{ℕ, pos, [], length, map, true, ◌≡◌, ◌≢◌, ◌<◌, OnOk, IfOk, IfErr};
 ghost use Rattle.rational.specs.Rational.{Rational, neg_ℚ, ◌+ℚ◌, ◌*ℚ◌, ◌/ℚ◌};
 ghost use Rattle.milp.specs.Form.{number_at};
+ghost use Rattle.verdicts.specs.WeightedSums.{AllBelow, coefficient_of};
+ghost use Rattle.dictionary.specs.Ascending.{IsAscending};
+ghost use Rattle.dictionary.specs.Faults.{IfNoFit};
 ghost use Rattle.dictionary.specs.Rows.{IsSolved, IsSubstituted, IsSolvingFault, IsSubstitutionFault, IsProductOrSum, IsQuotient};
+ghost use Rattle.dictionary.specs.Sparse.{numbers_of, dividend_of, solved_entry};
 
+use crate::entries::{coefficient_of, first_coefficient, first_from, merged};
+use crate::fault::Fault;
 use fraction::{Frac, NoFit};
+use instance::Entry;
 use std::alloc::Global;
 use std::marker::Model;
 
-/// A list of numbers.
+/// A list of numbers, of which those other than 0 are kept, as entries of the places at which they stand.
 #[derive(Drop)]
 pub(crate) struct Row {
-    numbers: Vec<Frac>,
+    width: usize,
+    entries: Vec<Entry>,
 }
 
 impl Model for Row {
     ghost use Rattle.std.specs.Prelude.{List};
     ghost use Rattle.rational.specs.Rational.{Rational};
+    ghost use Rattle.verdicts.specs.WeightedSums.{AllBelow};
+    ghost use Rattle.dictionary.specs.Ascending.{IsAscending};
+    ghost use Rattle.dictionary.specs.Sparse.{numbers_of};
 
     ghost Value = { List Rational };
 
-    ghost view = { λ r. r.numbers.items };
+    ghost view = { λ r. numbers_of r.width r.entries.items };
+
+    ghost invariant = { λ r. IsAscending 0 r.entries.items × AllBelow r.width r.entries.items };
 }
 
 impl Row {
@@ -29,15 +42,18 @@ impl Row {
         ensures { result ≡ [] }
     {
         Row {
-            numbers: Vec::new(alloc),
+            width: 0,
+            entries: Vec::new(alloc),
         }
     }
 
-    /// The row of these numbers. It takes no memory.
-    pub(crate) fn from_vec(numbers: Vec<Frac>) -> Self
-        ensures { result ≡ numbers.items }
+    /// The row of this many numbers, 0 where no entry stands. It takes no memory.
+    pub(crate) fn from_vec(width: usize, entries: Vec<Entry>) -> Self
+        requires ascending { IsAscending 0 entries.items }
+        requires below { AllBelow width entries.items }
+        ensures { result ≡ numbers_of width entries.items }
     {
-        Row { numbers }
+        Row { width, entries }
     }
 
     /// The number at a place.
@@ -45,7 +61,7 @@ impl Row {
         requires { place < length self.now }
         ensures { result ≡ number_at self.now place }
     {
-        self.numbers[place]
+        coefficient_of(&self.entries, place)
     }
 
     /// Solves the row for the place `at`: the number there becomes 1 over itself, and each other one its quotient by it,
@@ -56,37 +72,64 @@ impl Row {
         ensures ok { OnOk result (IsSolved self.old at self.new) }
         ensures err { IfErr result (IsSolvingFault self.old at) }
     {
-        solve(&mut self.numbers, at)
+        let divisor = coefficient_of(&self.entries, at);
+        solve(&mut self.entries, at, divisor)
     }
 
     /// Puts the row `solved` in for the place `at`.
-    pub(crate) fn substitute(&mut self, solved: &Row, at: usize) -> Result<(), NoFit>
+    pub(crate) fn substitute(&mut self, alloc: Global, solved: &Row, at: usize) -> Result<(), Fault>
         requires same_length { length self.old ≡ length solved.now }
         requires inside { at < length self.old }
         ensures ok { OnOk result (IsSubstituted self.old solved.now at self.new) }
-        ensures err { IfErr result (IsSubstitutionFault self.old solved.now at) }
+        ensures err { IfErr result (IfNoFit (IsSubstitutionFault self.old solved.now at)) }
     {
+        let place = first_from(&self.entries, at);
+        let factor = first_coefficient(&self.entries[place..], at);
         // times 0 it adds nothing
-        if self.at(at).is_zero() {
+        if factor.is_zero() {
             return Ok(());
         }
-        substitute(&mut self.numbers, &solved.numbers, at)
+        self.entries.remove(place);
+        self.entries = merged(alloc, &self.entries, factor, &solved.entries)?;
+        Ok(())
     }
 }
 
-// Each number by the one at `at`, with the sign turned, where that one counts as -1.
-fn solve(row: &mut [Frac], at: usize) -> Result<(), NoFit>
-    requires inside { at < length row.old }
-    requires some { (number_at row.old at).numerator ≢ pos 0 }
-    ensures ok { OnOk result (IsSolved row.old at row.new) }
-    ensures err { IfErr result (IsSolvingFault row.old at) }
+// Solves each entry for the column `at`, at which the row's number is `divisor`.
+fn solve(entries: &mut [Entry], at: usize, divisor: Frac) -> Result<(), NoFit>
+    requires { divisor.numerator ≢ pos 0 }
+    ensures ok { OnOk result (entries.new ≡ map (solved_entry at divisor) entries.old) }
+    ensures err { IsAscending 0 entries.old → divisor ≡ coefficient_of entries.old at → (width : ℕ) → AllBelow width entries.old → IfErr result (IsSolvingFault (numbers_of width entries.old) at) }
+    ensures columns { IsAscending 0 entries.old → IsAscending 0 entries.new }
+    ensures below { (width : ℕ) → AllBelow width entries.old → AllBelow width entries.new }
 {
-    let divisor = row[at];
-    row[at] = Frac::whole(-1);
-    for place in 0..row.len() {
-        row[place] = minus_quotient(row[place], divisor)?;
+    for i in 0..entries.len() {
+        entries[i] = solved_entry(entries[i], at, divisor)?;
     }
     Ok(())
+}
+
+fn solved_entry(entry: Entry, at: usize, divisor: Frac) -> Result<Entry, NoFit>
+    requires { divisor.numerator ≢ pos 0 }
+    ensures ok { IfOk result (λ solved. solved ≡ solved_entry at divisor entry) }
+    ensures err { IfErr result (IsQuotient (dividend_of at entry) divisor) }
+{
+    let coefficient = minus_quotient(dividend(entry, at), divisor)?;
+    Ok(Entry {
+        column: entry.column,
+        coefficient,
+    })
+}
+
+// The entry's coefficient, or -1 at the column `at`.
+fn dividend(entry: Entry, at: usize) -> Frac
+    ensures { result ≡ dividend_of at entry }
+{
+    if entry.column as usize == at {
+        Frac::whole(-1)
+    } else {
+        entry.coefficient
+    }
 }
 
 // -(a / b)
@@ -96,26 +139,6 @@ fn minus_quotient(a: Frac, b: Frac) -> Result<Frac, NoFit>
     ensures err { IfErr result (IsQuotient a b) }
 {
     Ok(a.div(b)?.neg())
-}
-
-// Each number plus its neighbour in `solved` times the one at `at`, which counts as 0.
-fn substitute(row: &mut [Frac], solved: &[Frac], at: usize) -> Result<(), NoFit>
-    requires same_length { length row.old ≡ length solved.now }
-    requires inside { at < length row.old }
-    ensures ok { OnOk result (IsSubstituted row.old solved.now at row.new) }
-    ensures err { IfErr result (IsSubstitutionFault row.old solved.now at) }
-{
-    let factor = row[at];
-    row[at] = Frac::zero();
-    for place in 0..row.len() {
-        let number = solved[place];
-        // times 0 it adds nothing
-        if number.is_zero() {
-            continue;
-        }
-        row[place] = mul_add(factor, number, row[place])?;
-    }
-    Ok(())
 }
 
 // factor * a + b, or the first of the product and the sum that does not fit.

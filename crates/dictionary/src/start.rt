@@ -8,7 +8,6 @@ ghost use Rattle.dictionary.specs.Start.{IsDense, AreDense, AreCounted, AreBasic
 use crate::row::Row;
 use crate::system::{Bounds, System};
 use basis::Place;
-use fraction::Frac;
 use instance::Entries;
 use std::alloc::{AllocError, Global};
 
@@ -72,22 +71,19 @@ pub(crate) fn rows_of(
 {
     let mut rows = Vec::new(alloc);
     for form in forms {
-        rows.push(dense(alloc, columns, form)?)?;
+        rows.push(row_of(alloc, columns, form)?)?;
     }
     Ok(rows)
 }
 
 /// The coefficients of a form before each column.
-pub(crate) fn dense(alloc: Global, columns: usize, form: &Entries) -> Result<Row, AllocError>
+pub(crate) fn row_of(alloc: Global, columns: usize, form: &Entries) -> Result<Row, AllocError>
     requires below { AllBelow columns form.now }
     requires ascending { IsAscending 0 form.now }
     ensures { IfOk result (λ row. IsDense columns form.now row) }
 {
-    let mut numbers = vec![in alloc; Frac::zero(); columns]?;
-    for entry in form.as_slice() {
-        numbers[entry.column as usize] = entry.coefficient;
-    }
-    Ok(Row::from_vec(numbers))
+    let entries = form.as_slice().to_vec(alloc)?;
+    Ok(Row::from_vec(columns, entries))
 }
 
 // 0, 1, .., `count` numbers more.

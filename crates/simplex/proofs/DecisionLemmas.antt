@@ -27,7 +27,7 @@ use Rattle.simplex.proofs.Choices.{lower_at, upper_at}
 use Rattle.dictionary.proofs.Laws.{is_direction}
 use Rattle.simplex.proofs.RatioLemmas.{way_fault}
 
-pub if_err : {X : Type 0} (r : Result X NoFit) (P R : NoFit → Type 0) → ((e : NoFit) → P e → R e) → IfErr r P → IfErr r R
+if_err : {X : Type 0} (r : Result X NoFit) (P R : NoFit → Type 0) → ((e : NoFit) → P e → R e) → IfErr r P → IfErr r R
 if_err (Ok u) P R f h = tt
 if_err (Err e) P R f h = f e h
 

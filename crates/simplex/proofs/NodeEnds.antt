@@ -17,12 +17,14 @@ use Rattle.fraction.specs.declared.frac.NoFit.{NoFit}
 use Rattle.dictionary.specs.Table.{Table, dictionary_of, operation_of}
 use Rattle.simplex.specs.Ratio.{along}
 use Rattle.simplex.specs.Narrowed.{AreSplitFaults}
-use Rattle.simplex.specs.Rays.{IsFault, IsRayFault, whole_ray}
+use Rattle.dictionary.specs.Faults.{IfNoFit}
+use Rattle.dictionary.proofs.Laws.{handed_on}
+use Rattle.simplex.specs.Rays.{IsRayFault, whole_ray}
 use Rattle.simplex.specs.Sources.{weights_from}
 use Rattle.simplex.specs.Run.{IsEnded, IsFaultOf}
 use Rattle.simplex.specs.Answer.{IsNodeFault, IsNodeStop, source_of, stop_of}
-use Rattle.simplex.specs.declared.fault.Fault.{Fault}
-use Rattle.simplex.specs.declared.fault.Fault.TheVariants as F
+use Rattle.dictionary.specs.declared.fault.Fault.{Fault}
+use Rattle.dictionary.specs.declared.fault.Fault.TheVariants as F
 use Rattle.simplex.specs.declared.runs.End.TheVariants.{Optimal, Blocked, Endless}
 use Rattle.simplex.specs.declared.runs.RunFault.{RunFault}
 use Rattle.simplex.specs.declared.runs.RunFault.TheVariants as R
@@ -31,13 +33,9 @@ use Rattle.simplex.specs.declared.weights.Source.TheVariants as W
 
 -- ---- faults on their way
 
-pub fault_kept : {X : Type 0} (r : Result X Fault) (e : Fault) (P Q : NoFit → Type 0) → IsErrAnd r (λ d. d ≡ e) → ((f : NoFit) → P f → Q f) → IsFault P e → IfErr r (IsFault Q)
+pub fault_kept : {X : Type 0} (r : Result X Fault) (e : Fault) (P Q : NoFit → Type 0) → IsErrAnd r (λ d. d ≡ e) → ((f : NoFit) → P f → Q f) → IfNoFit P e → IfErr r (IfNoFit Q)
 fault_kept (Ok x) e P Q h k p = tt
-fault_kept (Err d) e P Q h k p = subst (IsFault Q) (sym h) (go e p)
-  where
-    go : (g : Fault) → IsFault P g → IsFault Q g
-    go (F.NoFit f) q = k f q
-    go F.NoMemory q = tt
+fault_kept (Err d) e P Q h k p = subst (IfNoFit Q) (sym h) (handed_on P Q e k p)
 
 pub stop_kept : {X : Type 0} (r : Result X RunFault) (e : RunFault) (P : RunFault → Type 0) → IsErrAnd r (λ d. d ≡ e) → P e → IfErr r P
 stop_kept (Ok x) e P h p = tt
@@ -119,9 +117,9 @@ module _ (p : Problem) (ds : List Derived) (sides : List Side) where
     not_fit = h.fault.not_fit;
   }
 
-  pub split_stop : (limit : ℕ) (e : Fault) (g : RunFault) → g ≡ stop_of e → IsFault (AreSplitFaults sides) e → IsNodeStop p ds sides limit g
+  pub split_stop : (limit : ℕ) (e : Fault) (g : RunFault) → g ≡ stop_of e → IfNoFit (AreSplitFaults sides) e → IsNodeStop p ds sides limit g
   split_stop limit e g same h = subst (IsNodeStop p ds sides limit) (sym same) (go e h)
     where
-      go : (d : Fault) → IsFault (AreSplitFaults sides) d → IsNodeStop p ds sides limit (stop_of d)
+      go : (d : Fault) → IfNoFit (AreSplitFaults sides) d → IsNodeStop p ds sides limit (stop_of d)
       go (F.NoFit f) k = split_site f k
       go F.NoMemory k = tt

@@ -13,14 +13,15 @@ use Rattle.basis.specs.Weights.{numbers_from}
 use Rattle.basis.proofs.Laws.{length-numbers, numbers-below}
 use Rattle.fraction.specs.declared.frac.NoFit.{NoFit}
 use Rattle.fraction.specs.Denominators.{IsDenominatorFault}
-use Rattle.simplex.specs.Rays.{IsFault, IsProduct, IsProductFault, IsRayFault, AreScaled, numbers_to_be_whole, denominator_of, whole_ray}
-use Rattle.simplex.specs.declared.fault.Fault.{Fault}
-use Rattle.simplex.specs.declared.fault.Fault.TheVariants as F
+use Rattle.dictionary.specs.Faults.{IfNoFit}
+use Rattle.simplex.specs.Rays.{IsProduct, IsProductFault, IsRayFault, AreScaled, numbers_to_be_whole, denominator_of, whole_ray}
+use Rattle.dictionary.specs.declared.fault.Fault.{Fault}
+use Rattle.dictionary.specs.declared.fault.Fault.TheVariants as F
 use Rattle.simplex.proofs.PointNumbers.{first_numbers, one_more_number, numbers_alike}
 
-pub fault_from : {X : Type 0} (r : Result X Fault) (f : NoFit) (P : NoFit → Type 0) → IsErrAnd r (λ e. e ≡ F.NoFit f) → P f → IfErr r (IsFault P)
+pub fault_from : {X : Type 0} (r : Result X Fault) (f : NoFit) (P : NoFit → Type 0) → IsErrAnd r (λ e. e ≡ F.NoFit f) → P f → IfErr r (IfNoFit P)
 fault_from (Ok x) f P h p = tt
-fault_from (Err e) f P h p = subst (IsFault P) (sym h) p
+fault_from (Err e) f P h p = subst (IfNoFit P) (sym h) p
 
 integer_number : (columns : List Column) (xs : List Rational) (j : ℕ) (c : Column) (a r : Rational) → j < length columns → c ≡ get_or columns j c → a ≡ number_at xs j → r ≡ cond c.integer a zero_ℚ
     → r ≡ cond (is_integer (slice_get columns j)) (number_at xs j) zero_ℚ

@@ -18,17 +18,20 @@ use Rattle.fraction.specs.Answers.{result_fits}
 use Rattle.fraction.specs.declared.frac.NoFit.{NoFit}
 use Rattle.search_node.specs.Bases.{next_bases}
 use Rattle.search_node.specs.declared.bases.Exchange.{Exchange}
+use Rattle.dictionary.specs.Faults.{IfNoFit}
+use Rattle.dictionary.specs.declared.fault.Fault.{Fault}
+use Rattle.dictionary.specs.declared.fault.Fault.TheVariants as F
 use Rattle.dictionary.specs.Rows.{IsProductOrSum}
 use Rattle.dictionary.specs.Sums.{IsTermFault, IsStartFault, AreStartNumbers}
 use Rattle.dictionary.specs.Table.{Table, dictionary_of, operation_of, IsPivotFault}
 use Rattle.dictionary.specs.Values.{direction_of, AreMoved, IsVariableFault}
+use Rattle.simplex.specs.Answer.{stop_of}
 use Rattle.simplex.specs.Run.{IsRunFault, IsFaultOf}
 use Rattle.simplex.specs.Steps.{IsReached, CanLeave, IsStep, IsStepOperation, IsStepFailure}
 use Rattle.simplex.specs.declared.decision.Step.{Step}
 use Rattle.simplex.specs.declared.runs.RunFault.{RunFault}
 use Rattle.simplex.specs.declared.runs.RunFault.TheVariants.{NoFit as NotFitting, PivotLimit, NoMemory}
-use Rattle.simplex.proofs.DecisionLemmas.{if_err}
-use Rattle.dictionary.proofs.Laws.{is_direction, is_over_resting}
+use Rattle.dictionary.proofs.Laws.{handed_on, is_direction, is_over_resting}
 
 pub failed : {X : Type 0} (r : Result X RunFault) (f : RunFault) (P : RunFault → Type 0) → IsErrAnd r (λ d. d ≡ f) → P f → IfErr r P
 failed (Ok u) f P h p = tt
@@ -80,7 +83,7 @@ pub leaves_basic : (t : Table) (step : Step) → CanLeave t step → step.leaves
 leaves_basic t step (inl same) differ = absurd (differ same)
 leaves_basic t step (inr h) differ = h
 
-pub pivoted_dictionary : (t : Table) (q r : ℕ) (place : Place) (res : Result Table NoFit) → IsResting t.places q → IsBasic t.places r × ((rate_of (dictionary_of t) q r).numerator ≢ pos 0) → place ≢ Basic → IfOk res (λ d. d.places ≡ exchanged t.places q r place)
+pub pivoted_dictionary : (t : Table) (q r : ℕ) (place : Place) (res : Result Table Fault) → IsResting t.places q → IsBasic t.places r × ((rate_of (dictionary_of t) q r).numerator ≢ pos 0) → place ≢ Basic → IfOk res (λ d. d.places ≡ exchanged t.places q r place)
     → IfOk res (λ d. IsPivoted t.places (dictionary_of t) (dictionary_of d) q r) → IfOk res (λ d. (s : System) → IsDictionary s t.places (dictionary_of t) → IsDictionary s d.places (dictionary_of d))
 pivoted_dictionary t q r place (Err e) enters leaves stops basis pivoted = tt
 pivoted_dictionary t q r place (Ok d) enters leaves stops basis pivoted = λ s h.
@@ -88,8 +91,13 @@ pivoted_dictionary t q r place (Ok d) enters leaves stops basis pivoted = λ s h
     let R = is_over_resting d in
     subst P (sym basis) (pivot_keeps s t.places (dictionary_of t) (dictionary_of d) q r place h leaves.0 enters stops leaves.1 pivoted (rw (← basis) R)))
 
-pub pivoted_fault : (t : Table) (q r : ℕ) (res : Result Table NoFit) → IsBasic t.places r → IfErr res (IsPivotFault t q r) → IfErr res (λ e. IsBasic t.places r × IsPivotFault t q r e)
-pivoted_fault t q r res h k = if_err res (IsPivotFault t q r) (λ e. IsBasic t.places r × IsPivotFault t q r e) (λ e f. (h, f)) k
+pub pivoted_fault : (t : Table) (q r : ℕ) (res : Result Table Fault) → IsBasic t.places r → IfErr res (IfNoFit (IsPivotFault t q r)) → IfErr res (IfNoFit (λ e. IsBasic t.places r × IsPivotFault t q r e))
+pivoted_fault t q r (Ok u) h k = tt
+pivoted_fault t q r (Err f) h k = handed_on (IsPivotFault t q r) (λ e. IsBasic t.places r × IsPivotFault t q r e) f (λ e g. (h, g)) k
+
+pub pivot_failure : (t : Table) (xs : List Rational) (step : Step) (f : Fault) → IfNoFit (λ e. IsBasic t.places step.leaves × IsPivotFault t step.enters step.leaves e) f → IsStepFailure t xs step (stop_of f)
+pivot_failure t xs step (F.NoFit e) h = IsStepOperation.pivot h.0 h.1
+pivot_failure t xs step F.NoMemory h = tt
 
 -- ---- a step from a state
 

@@ -16,8 +16,8 @@ use Rattle.search_node.specs.declared.fault.Stuck.{Stuck}
 use Rattle.search_node.specs.declared.fault.Stuck.TheVariants as S
 use Rattle.dictionary.specs.Table.{dictionary_of, operation_of}
 use Rattle.simplex.specs.Run.{IsLimited}
-use Rattle.simplex.specs.declared.fault.Fault.{Fault}
-use Rattle.simplex.specs.declared.fault.Fault.TheVariants as F
+use Rattle.dictionary.specs.declared.fault.Fault.{Fault}
+use Rattle.dictionary.specs.declared.fault.Fault.TheVariants as F
 use Rattle.simplex.specs.declared.runs.RunFault.{RunFault}
 use Rattle.simplex.specs.declared.runs.RunFault.TheVariants as R
 use Rattle.simplex.specs.declared.answers.Relaxed.{Relaxed}

@@ -10,13 +10,6 @@ use Rattle.fraction.specs.Answers.{DoesNotFit}
 use Rattle.fraction.specs.Denominators.{IsDenominatorFault}
 use Rattle.fraction.specs.declared.frac.NoFit.{NoFit}
 use Rattle.fraction.specs.declared.frac.Op.TheVariants.{Mul}
-use Rattle.simplex.specs.declared.fault.Fault.{Fault}
-use Rattle.simplex.specs.declared.fault.Fault.TheVariants as F
-
--- the fault is an operation of which P holds, or want of memory
-abbrev pub IsFault : (NoFit → Type 0) → Fault → Type 0
-IsFault P (F.NoFit f) = P f
-IsFault P F.NoMemory = Unit {0}
 
 -- the numbers on the columns that are to be whole, and 0 for the others
 abbrev pub numbers_to_be_whole : List Column → (ℕ → Rational) → List Rational

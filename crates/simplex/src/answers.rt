@@ -6,21 +6,20 @@ ghost use Rattle.search_node.specs.Sides.{sides_of};
 ghost use Rattle.basis.specs.System.{AreBoundsInOrder};
 ghost use Rattle.basis.specs.Node.{system_of, IsOverColumns};
 ghost use Rattle.basis.specs.Weights.{IsContradictory};
-ghost use Rattle.simplex.specs.Rays.{IsFault};
+ghost use Rattle.dictionary.specs.Faults.{IfNoFit};
 ghost use Rattle.simplex.specs.Run.{IsEnded, IsFaultOf};
-ghost use Rattle.simplex.specs.Answer.{IsRelaxed, IsNodeFault, IsNodeStop, IsStuck, IsUnlimited, source_of, stop_of};
+ghost use Rattle.simplex.specs.Answer.{IsRelaxed, IsNodeFault, IsNodeStop, IsStuck, IsUnlimited, source_of};
 ghost use Rattle.simplex.specs.declared.runs.End.TheVariants as EndOf;
 
 use crate::contradiction::{contradiction, contradiction_weights};
-use crate::fault::Fault;
 use crate::point::point_of;
 use crate::ray::ray;
 use crate::relaxation::node_system;
-use crate::runs::{End, Ended, RunFault, run};
+use crate::runs::{End, Ended, RunFault, run, stop_of};
 use crate::weights::{Source, weights};
 use basis::Place;
 use certificate::{DerivedRows, Weights};
-use dictionary::{Dictionary, System};
+use dictionary::{Dictionary, Fault, System};
 use fraction::Frac;
 use instance::{Instance, Point};
 use search_node::{Node, Site, Stuck};
@@ -108,15 +107,6 @@ fn from_system(
     }
 }
 
-fn stop_of(fault: Fault) -> RunFault
-    ensures { result ≡ stop_of fault }
-{
-    match fault {
-        Fault::NoFit(fault) => RunFault::NoFit(fault),
-        Fault::NoMemory => RunFault::NoMemory,
-    }
-}
-
 // Contradictory bounds come first.
 fn solved(
     alloc: Global,
@@ -190,7 +180,7 @@ fn answer(
 ) -> Result<Relaxed, Fault>
     requires { IsEnded (system_of instance.now derived.now (sides_of node.now.splits)) ended.dictionary ended.values.items ended.end }
     ensures ok { IfOk result (IsRelaxed instance.now derived.now (sides_of node.now.splits)) }
-    ensures err { IfErr result (IsFault (IsNodeFault instance.now derived.now (sides_of node.now.splits))) }
+    ensures err { IfErr result (IfNoFit (IsNodeFault instance.now derived.now (sides_of node.now.splits))) }
 {
     match ended.end {
         End::Optimal => Ok(optimal(alloc, instance, node, derived, ended)?),
@@ -261,7 +251,7 @@ fn unbounded(
 ) -> Result<Relaxed, Fault>
     requires { IsEnded (system_of instance.now derived.now (sides_of node.now.splits)) ended.now.dictionary ended.now.values.items (EndOf.Endless q rises) }
     ensures ok { IfOk result (IsRelaxed instance.now derived.now (sides_of node.now.splits)) }
-    ensures err { IfErr result (IsFault (IsNodeFault instance.now derived.now (sides_of node.now.splits))) }
+    ensures err { IfErr result (IfNoFit (IsNodeFault instance.now derived.now (sides_of node.now.splits))) }
 {
     let columns = instance.columns();
     let point = point_of(alloc, &ended.values, columns.len())?;

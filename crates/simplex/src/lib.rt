@@ -5,7 +5,6 @@ mod answers;
 mod choose;
 mod contradiction;
 mod decision;
-mod fault;
 mod point;
 mod ratio;
 mod ray;

@@ -5,12 +5,12 @@ ghost use Rattle.milp.specs.Form.{number_at};
 ghost use Rattle.fraction.specs.Fits.{part_max};
 ghost use Rattle.basis.specs.Dictionary.{IsResting};
 ghost use Rattle.basis.specs.Weights.{numbers_from};
+ghost use Rattle.dictionary.specs.Faults.{IfNoFit};
 ghost use Rattle.simplex.specs.Ratio.{along};
-ghost use Rattle.simplex.specs.Rays.{IsFault, IsRayFault, IsProduct, IsProductFault, AreScaled, numbers_to_be_whole, whole_ray};
+ghost use Rattle.simplex.specs.Rays.{IsRayFault, IsProduct, IsProductFault, AreScaled, numbers_to_be_whole, whole_ray};
 
-use crate::fault::Fault;
 use crate::ratio::{change, turned};
-use dictionary::Dictionary;
+use dictionary::{Dictionary, Fault};
 use fraction::{Frac, NoFit, common_denominator};
 use instance::{Column, Point};
 use std::alloc::{AllocError, Global};
@@ -27,7 +27,7 @@ pub(crate) fn ray(
     requires known { length columns.now ≤ length dictionary.now.places }
     requires resting { IsResting dictionary.now.places q }
     ensures ok { IfOk result (λ ray. ray ≡ whole_ray columns.now (along dictionary.now q rises)) }
-    ensures err { IfErr result (IsFault (IsRayFault columns.now (along dictionary.now q rises))) }
+    ensures err { IfErr result (IfNoFit (IsRayFault columns.now (along dictionary.now q rises))) }
 {
     let mut numbers = direction(alloc, dictionary, q, rises, columns.len())?;
     let integers = to_be_whole(alloc, columns, &numbers)?;

@@ -11,11 +11,10 @@ ghost use Rattle.search_node.specs.Sides.{sides_of};
 ghost use Rattle.basis.specs.Node.{system_of, row_bounds, derived_bounds, column_bounds as column_bounds_under, IsOverColumns};
 ghost use Rattle.simplex.specs.Bounds.{column_bounds};
 ghost use Rattle.simplex.specs.Narrowed.{narrowed_by, bounds_at, IsNextFault, IsSplitFault, AreSplitFaults, AreOnColumns};
-ghost use Rattle.simplex.specs.Rays.{IsFault};
+ghost use Rattle.dictionary.specs.Faults.{IfNoFit};
 
-use crate::fault::Fault;
 use certificate::{ColumnSplit, Derived, DerivedRows, Side};
-use dictionary::{Bounds, System};
+use dictionary::{Bounds, Fault, System};
 use fraction::{Frac, NoFit};
 use instance::{Column, Direction, Entries, Entry, Instance, Row, greater, lesser, signed};
 use search_node::{Node, SplitTaken};
@@ -31,7 +30,7 @@ pub(crate) fn node_system(
 ) -> Result<System, Fault>
     requires { IsOverColumns instance.now derived.now (sides_of node.now.splits) }
     ensures ok { IfOk result (λ s. s ≡ system_of instance.now derived.now (sides_of node.now.splits)) }
-    ensures err { IfErr result (IsFault (AreSplitFaults (sides_of node.now.splits))) }
+    ensures err { IfErr result (IfNoFit (AreSplitFaults (sides_of node.now.splits))) }
 {
     basis::node_systems();
     instance.keeps_its_limits();
@@ -59,7 +58,7 @@ fn node_bounds(
 ) -> Result<Vec<Bounds>, Fault>
     requires { AreOnColumns (length instance.now.columns) node.now.splits }
     ensures ok { IfOk result (λ bounds. bounds.items ≡ column_bounds_under instance.now (sides_of node.now.splits) 0 (length instance.now.columns) ++ (map row_bounds instance.now.rows ++ map derived_bounds derived.now)) }
-    ensures err { IfErr result (IsFault (AreSplitFaults (sides_of node.now.splits))) }
+    ensures err { IfErr result (IfNoFit (AreSplitFaults (sides_of node.now.splits))) }
 {
     let mut bounds = narrowed_bounds(alloc, instance, node.splits.as_slice())?;
     add_bounds(&mut bounds, instance.rows())?;
@@ -75,7 +74,7 @@ fn narrowed_bounds(
 ) -> Result<Vec<Bounds>, Fault>
     requires { AreOnColumns (length instance.now.columns) splits.now }
     ensures ok { IfOk result (λ bounds. bounds.items ≡ column_bounds_under instance.now (sides_of splits.now) 0 (length instance.now.columns)) }
-    ensures err { IfErr result (IsFault (AreSplitFaults (sides_of splits.now))) }
+    ensures err { IfErr result (IfNoFit (AreSplitFaults (sides_of splits.now))) }
 {
     let mut bounds = bounds_of(alloc, instance.columns())?;
     for taken in splits {

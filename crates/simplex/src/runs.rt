@@ -1,6 +1,7 @@
 // Runs of Bland's rule.
 ghost use Rattle.std.specs.Prelude.{ℕ, length, ◌≡◌, ◌≢◌, ◌+◌, IfOk, IfErr};
 ghost use Rattle.basis.specs.System.{AreBoundsInOrder};
+ghost use Rattle.simplex.specs.Answer.{stop_of};
 ghost use Rattle.simplex.specs.Run.{IsEnded, IsFaultOf};
 ghost use Rattle.simplex.specs.Steps.{IsAt, IsProgress};
 ghost use Rattle.simplex.specs.declared.runs.RunFault.TheVariants.{NoFit as NotFitting, NoMemory};
@@ -8,7 +9,7 @@ ghost use Rattle.simplex.specs.declared.runs.RunFault.TheVariants.{NoFit as NotF
 use crate::decision::{Choice, decide};
 use crate::state::State;
 use basis::Place;
-use dictionary::{Dictionary, System};
+use dictionary::{Dictionary, Fault, System};
 use fraction::{Frac, NoFit};
 use search_node::Bases;
 use std::alloc::{AllocError, Global};
@@ -56,6 +57,24 @@ impl From<NoFit> for RunFault {
 
     fn from(error: NoFit) -> RunFault {
         RunFault::NoFit(error)
+    }
+}
+
+impl From<Fault> for RunFault {
+    ghost from_gives = { λ error fault. fault ≡ stop_of error };
+
+    fn from(error: Fault) -> RunFault {
+        stop_of(error)
+    }
+}
+
+// The fault of work on a dictionary, or beside the run, as one of the run.
+pub(crate) fn stop_of(fault: Fault) -> RunFault
+    ensures { result ≡ stop_of fault }
+{
+    match fault {
+        Fault::NoFit(fault) => RunFault::NoFit(fault),
+        Fault::NoMemory => RunFault::NoMemory,
     }
 }
 

@@ -4,6 +4,7 @@ ghost use Rattle.basis.specs.System.{System as SystemOf, IsSystem, AreBoundsInOr
 ghost use Rattle.basis.specs.Dictionary.{IsBasic, IsResting, IsDictionary};
 ghost use Rattle.basis.specs.Bland.{exchanged};
 ghost use Rattle.basis.specs.declared.Place.TheVariants.{Basic};
+ghost use Rattle.dictionary.specs.Faults.{IfNoFit};
 ghost use Rattle.dictionary.specs.Sums.{IsStartFault, AreStartNumbers};
 ghost use Rattle.dictionary.specs.Table.{dictionary_of, IsPivotFault};
 ghost use Rattle.simplex.specs.Run.{IsFaultOf};
@@ -11,8 +12,8 @@ ghost use Rattle.simplex.specs.Steps.{IsAt, CanLeave, IsAdvanced, IsStepFailure}
 
 use crate::decision::Step;
 use crate::runs::RunFault;
-use dictionary::{Dictionary, System, first_values, move_variables, set_forms};
-use fraction::{Frac, NoFit};
+use dictionary::{Dictionary, Fault, System, first_values, move_variables, set_forms};
+use fraction::Frac;
 use search_node::{Bases, Exchange};
 use std::alloc::Global;
 
@@ -74,13 +75,13 @@ impl State {
 }
 
 // Exchanges two variables of the basis, or lets one rest at another place.
-fn exchange(alloc: Global, mut dictionary: Dictionary, step: Step) -> Result<Dictionary, NoFit>
+fn exchange(alloc: Global, mut dictionary: Dictionary, step: Step) -> Result<Dictionary, Fault>
     requires enters { IsResting dictionary.places step.enters }
     requires leaves { CanLeave dictionary step }
     requires stops { step.place ≢ Basic }
     ensures basis { IfOk result (λ d. d.places ≡ exchanged dictionary.places step.enters step.leaves step.place) }
     ensures dictionary { IfOk result (λ d. (s : SystemOf) → IsDictionary s dictionary.places (dictionary_of dictionary) → IsDictionary s d.places (dictionary_of d)) }
-    ensures fault { IfErr result (λ e. IsBasic dictionary.places step.leaves × IsPivotFault dictionary step.enters step.leaves e) }
+    ensures fault { IfErr result (IfNoFit (λ e. IsBasic dictionary.places step.leaves × IsPivotFault dictionary step.enters step.leaves e)) }
 {
     if step.leaves == step.enters {
         dictionary.flip(step.enters, step.place);

@@ -1,10 +1,24 @@
-use Rattle.dictionary.proofs.RowNumbers.{solved_all, solving_fault, err_from}
+use Rattle.dictionary.proofs.RowNumbers.{err_from}
+use Rattle.dictionary.proofs.SparseRows.{partly_ascending, partly_below, one_solved, not_solved}
 use Rattle.dictionary.proofs.row.solve.Goals as goal
 
-pub returns-clause-ok : goal.returns-clause-ok
-returns-clause-ok c = solved_all _ _ c.args.at c.loop-place.place c.index-row-at.result c.whole.result c.requires.inside c.index-row-at.is c.whole.ensures c.loop-place.invariant.0 c.loop-place.invariant.1 c.loop-place-test.false
+pub returns-in_err-entries-clause-err : goal.returns-in_err-entries-clause-err
+returns-in_err-entries-clause-err c = λ ascending is width below.
+    (err_from c.from_residual.result _ _ c.from_residual.ensures.1
+    (not_solved c.args.entries.now c.loop-i.entries c.loop-i.i c.args.at c.args.divisor c.loop-i.invariant width c.index-entries-i.result c.in_err-entries.field-0.0 ascending is below c.loop-i-test.true c.index-entries-i.is c.in_err-entries.ensures.err))
 
-pub returns-in_err-row-clause-err : goal.returns-in_err-row-clause-err
-returns-in_err-row-clause-err c =
-    err_from c.from_residual.result c.in_err-row.field-0.0 _ c.from_residual.ensures.1
-    (solving_fault _ _ c.args.at c.loop-place.place c.index-row-at.result c.whole.result c.index-row-place.result c.in_err-row.field-0.0 c.requires.inside c.index-row-at.is c.whole.ensures c.loop-place-test.true c.loop-place.invariant.0 c.loop-place.invariant.2 c.index-row-place.is c.in_err-row.ensures.err)
+pub returns-in_err-entries-clause-columns : goal.returns-in_err-entries-clause-columns
+returns-in_err-entries-clause-columns c = partly_ascending c.args.entries.now c.loop-i.entries c.loop-i.i c.args.at c.args.divisor c.loop-i.invariant
+
+pub returns-in_err-entries-clause-below : goal.returns-in_err-entries-clause-below
+returns-in_err-entries-clause-below c = partly_below c.args.entries.now c.loop-i.entries c.loop-i.i c.args.at c.args.divisor c.loop-i.invariant
+
+pub loop-i-preserved : goal.loop-i-preserved
+loop-i-preserved c =
+    one_solved c.args.entries.now c.loop-i.entries c.loop-i.i c.args.at c.args.divisor c.loop-i.invariant c.index-entries-i.result c.in_ok-entries.field-0 c.loop-i-test.true c.index-entries-i.is c.in_ok-entries.ensures.ok
+
+pub returns-clause-columns : goal.returns-clause-columns
+returns-clause-columns c = partly_ascending c.args.entries.now c.loop-i.entries c.loop-i.i c.args.at c.args.divisor c.loop-i.invariant
+
+pub returns-clause-below : goal.returns-clause-below
+returns-clause-below c = partly_below c.args.entries.now c.loop-i.entries c.loop-i.i c.args.at c.args.divisor c.loop-i.invariant

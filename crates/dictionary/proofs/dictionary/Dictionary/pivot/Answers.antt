@@ -1,9 +1,9 @@
 use Rattle.std.proofs.Common.{rules}
 use Rattle.std.proofs.lemmas.List.{with_items_is, places}
-use Rattle.dictionary.proofs.RowNumbers.{err_from}
+use Rattle.dictionary.proofs.RowNumbers.{err_from, handed_on}
 use Rattle.dictionary.proofs.TableMade.{some_number, made_table, made_numbers, made_fault}
 use Rattle.std.proofs.Common.{◌≡◌, subst}
-use Rattle.dictionary.specs.Table.{Table, IsTable}
+use Rattle.dictionary.specs.Table.{Table, IsTable, IsPivotFault}
 use Rattle.dictionary.proofs.dictionary.Dictionary.pivot.Goals as goal
 
 own : (t u : Table) → u ≡ t → IsTable u.places u.positions u.rows u.gains → IsTable t.places t.positions t.rows t.gains
@@ -15,7 +15,9 @@ pivot_rows-requires-clause-some c = some_number c.args.self c.args.q c.args.r c.
 pub returns-in_err-pivot_rows-clause-fault : goal.returns-in_err-pivot_rows-clause-fault
 returns-in_err-pivot_rows-clause-fault c =
     err_from c.from_residual.result c.in_err-pivot_rows.field-0.0 _ c.from_residual.ensures.1
-    (made_fault c.args.self c.args.q c.args.r _ _ c.position-line.result c.position-column.result c.in_err-pivot_rows.field-0.0 (own c.args.self _ c.self.view_is c.self.invariant) c.requires.enters c.requires.leaves (search rules) (search rules) (search rules) (search rules) c.in_err-pivot_rows.ensures.err)
+    (handed_on _ (IsPivotFault c.args.self c.args.q c.args.r) c.in_err-pivot_rows.field-0.0
+    (λ e. made_fault c.args.self c.args.q c.args.r _ _ c.position-line.result c.position-column.result e (own c.args.self _ c.self.view_is c.self.invariant) c.requires.enters c.requires.leaves (search rules) (search rules) (search rules) (search rules))
+    c.in_err-pivot_rows.ensures.err)
 
 pub invariant_of-result : goal.invariant_of-result
 invariant_of-result c =

@@ -2,14 +2,13 @@ use Rattle.std.proofs.Common.{rules, subst, List}
 use Rattle.std.proofs.lemmas.List.{with_items_is, places}
 use Rattle.rational.specs.Rational.{Rational}
 use Rattle.dictionary.specs.Values.{AreMoved}
-use Rattle.simplex.specs.Steps.{IsStepOperation}
-use Rattle.simplex.proofs.StateLemmas.{failed}
+use Rattle.simplex.proofs.StateLemmas.{failed, pivot_failure}
 use Rattle.simplex.proofs.state.State.advance.Goals as goal
 
 pub returns-in_err-dictionary-clause-fault : goal.returns-in_err-dictionary-clause-fault
 returns-in_err-dictionary-clause-fault c =
     failed c.from_residual-in_err-dictionary.result _ _ c.from_residual-in_err-dictionary.ensures.1
-    (IsStepOperation.pivot c.in_err-dictionary.ensures.fault.0 c.in_err-dictionary.ensures.fault.1)
+    (pivot_failure c.args.self.dictionary c.args.self.values.items c.args.step c.in_err-dictionary.field-0.0 c.in_err-dictionary.ensures.fault)
 
 pub returns-clause-state : goal.returns-clause-state
 returns-clause-state c =

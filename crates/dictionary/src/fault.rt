@@ -1,13 +1,13 @@
-// Where the work beside the pivots fails.
+// Where work on a dictionary fails.
 ghost use Rattle.std.specs.Prelude.{◌≡◌};
-ghost use Rattle.simplex.specs.declared.fault.Fault.TheVariants.{NoFit as no_fit, NoMemory as no_memory};
+ghost use Rattle.dictionary.specs.declared.fault.Fault.TheVariants.{NoFit as no_fit, NoMemory as no_memory};
 
 use fraction::NoFit;
 use std::alloc::AllocError;
 
 /// An operation whose result does not fit, or want of memory.
 #[derive(Clone, Copy)]
-pub(crate) enum Fault {
+pub enum Fault {
     NoFit(NoFit),
     NoMemory,
 }
