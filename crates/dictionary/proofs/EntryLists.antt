@@ -175,24 +175,29 @@ pub removed : (a : ℕ) (form : List Entry) (i at : ℕ) → IsAscending a form 
 removed a [] zero at h low high some = absurd (some refl)
 removed a [] (suc i) at h low high some = absurd (some refl)
 removed a (e ∷ es) zero at h low high some = elim (ℕ_discrete e.column at) [
-  | yes same ↦ (omega arith, record {
-    ascending = let k : a ≤ e.column = h.0 in ascending_less (e.column + 1) a es (omega arith) h.1;
-    below = λ n b. b.1;
-    here = before (e.column + 1) es at h.1 (omega arith);
-    others = λ j differ. sym (skipped e es j (λ w. differ (sym w ∙ same)));
-  })
+  | yes same ↦ (
+    omega arith,
+    record {
+      ascending = let k : a ≤ e.column = h.0 in ascending_less (e.column + 1) a es (omega arith) h.1;
+      below = λ n b. b.1;
+      here = before (e.column + 1) es at h.1 (omega arith);
+      others = λ j differ. sym (skipped e es j (λ w. differ (sym w ∙ same)));
+    },
+  )
   | no differ ↦ absurd (some (sym (first_is_not at e es high differ)))
 ]
 removed a (e ∷ es) (suc i) at h low high some =
     let rest = removed (e.column + 1) es i at h.1 low.1 high some in
     let inside : i < length es = rest.0 in
-    let under : e.column < at = low.0 in
-    (omega arith, record {
-      ascending = (h.0, rest.1.ascending);
-      below = λ n b. (b.0, rest.1.below n b.1);
-      here = skipped e (remove es i) at (λ w. absurd (omega arith)) ∙ rest.1.here;
-      others = λ j differ. ap (λ t. cond (e.column == j) e.coefficient zero_ℚ +ℚ t) (rest.1.others j differ);
-    })
+    let under : e.column < at = low.0 in (
+      omega arith,
+      record {
+        ascending = (h.0, rest.1.ascending);
+        below = λ n b. (b.0, rest.1.below n b.1);
+        here = skipped e (remove es i) at (λ w. absurd (omega arith)) ∙ rest.1.here;
+        others = λ j differ. ap (λ t. cond (e.column == j) e.coefficient zero_ℚ +ℚ t) (rest.1.others j differ);
+      },
+    )
 
 -- ---- an entry that is left out where its coefficient is 0
 

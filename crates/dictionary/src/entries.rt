@@ -91,10 +91,14 @@ fn add_entry<'a>(
     let column = entry.column as usize;
     let (before, rest) = rest.split_at(first_from(rest, column));
     let number = mul_add(factor, entry.coefficient, first_coefficient(rest, column))?;
-    extend(done, before, Entry {
-        column: entry.column,
-        coefficient: number,
-    })?;
+    extend(
+        done,
+        before,
+        Entry {
+            column: entry.column,
+            coefficient: number,
+        },
+    )?;
     Ok(behind(rest, column))
 }
 

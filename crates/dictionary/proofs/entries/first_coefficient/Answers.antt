@@ -15,8 +15,8 @@ returns-in-Some c =
 pub returns-in_default : goal.returns-in_default
 returns-in_default c =
     let none : zero_ℚ ≡ coefficient_of c.args.form.now c.args.column =
-        elim c.in_default.branch [
-          | in_default-via-in-Some+else-entry-column w ↦ first_other c.args.column c.args.form.now w.in-Some.entry.now (record { column = w.entry.inside.column; coefficient = w.entry.inside.coefficient }) c.requires w.in-Some.ensures.value w.entry.view_is w.if-entry-column.false
-          | in_default-via-in_default w ↦ first_none c.args.column c.args.form.now (option_copied c.first.result) (ap option_copied w.in_default.is) c.first.ensures.value
-        ] in
+    elim c.in_default.branch [
+      | in_default-via-in-Some+else-entry-column w ↦ first_other c.args.column c.args.form.now w.in-Some.entry.now (record { column = w.entry.inside.column; coefficient = w.entry.inside.coefficient }) c.requires w.in-Some.ensures.value w.entry.view_is w.if-entry-column.false
+      | in_default-via-in_default w ↦ first_none c.args.column c.args.form.now (option_copied c.first.result) (ap option_copied w.in_default.is) c.first.ensures.value
+    ] in
     c.zero.ensures ∙ none

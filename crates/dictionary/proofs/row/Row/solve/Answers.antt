@@ -15,9 +15,10 @@ solve-requires c =
 
 pub invariant_of-self : goal.invariant_of-self
 invariant_of-self c =
-    rw (with_items_is c.self.inside.entries c.solve.new.entries (search (rules, places)))
-    (c.solve.ensures.columns (subst (λ (es : List Entry). IsAscending 0 es) (sym c.deref_mut.ensures.value) c.self.invariant.0),
-    c.solve.ensures.below c.self.inside.width (subst (λ (es : List Entry). AllBelow c.self.inside.width es) (sym c.deref_mut.ensures.value) c.self.invariant.1))
+    rw (with_items_is c.self.inside.entries c.solve.new.entries (search (rules, places))) (
+      c.solve.ensures.columns (subst (λ (es : List Entry). IsAscending 0 es) (sym c.deref_mut.ensures.value) c.self.invariant.0),
+      c.solve.ensures.below c.self.inside.width (subst (λ (es : List Entry). AllBelow c.self.inside.width es) (sym c.deref_mut.ensures.value) c.self.invariant.1),
+    )
 
 pub returns-clause-ok : goal.returns-clause-ok
 returns-clause-ok c =
