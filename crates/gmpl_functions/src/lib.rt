@@ -11,6 +11,7 @@ mod scaling;
 mod strings;
 mod terms;
 mod variable;
+mod words;
 
 pub use amount::Amount;
 pub use form::Form;
@@ -23,3 +24,4 @@ pub use scaling::Scaling;
 pub use strings::{card, join, length, plain_text, substring, substring_from};
 pub use terms::Sign;
 pub use variable::Variable;
+pub use words::{word_difference, word_product, word_remainder, word_sum};

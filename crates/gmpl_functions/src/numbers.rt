@@ -5,6 +5,7 @@ ghost use Rattle.gmpl_functions.specs.Numbers.{number_of, read_number, truth_of,
 ghost use Rattle.fraction.specs.Literal.{read_of};
 
 use crate::rounding::{floor, trunc};
+use crate::words::word_remainder;
 use fraction::Frac;
 use gmpl_value::{EvalFault, Symbol};
 
@@ -112,6 +113,15 @@ pub fn div(a: Frac, b: Frac) -> Result<Frac, EvalFault>
 
 /// What is left of `a` when `b` is taken off as often as the floor of their quotient says: it has `b`'s sign.
 pub fn modulo(a: Frac, b: Frac) -> Result<Frac, EvalFault>
+    ensures { Gives result (mod_of a b) }
+{
+    match word_remainder(a, b) {
+        Some(left) => Ok(left),
+        None => left_by_quotient(a, b),
+    }
+}
+
+fn left_by_quotient(a: Frac, b: Frac) -> Result<Frac, EvalFault>
     ensures { Gives result (mod_of a b) }
 {
     let times = floor(quotient(a, b)?);

@@ -4,6 +4,7 @@ ghost use Rattle.gmpl_value.specs.Outcome.{Gives};
 ghost use Rattle.gmpl_functions.specs.Scalings.{scaled_number};
 
 use crate::quotient;
+use crate::words::product;
 use fraction::Frac;
 use gmpl_value::EvalFault;
 
@@ -26,8 +27,8 @@ impl Scaling {
         ensures { Gives result (scaled_number self.now number) }
     {
         match self {
-            Scaling::By(factor) => Ok(number.mul(*factor)?),
-            Scaling::Of(factor) => Ok(factor.mul(number)?),
+            Scaling::By(factor) => Ok(product(number, *factor)?),
+            Scaling::Of(factor) => Ok(product(*factor, number)?),
             Scaling::Over(divisor) => quotient(number, *divisor),
             Scaling::Negated => Ok(number.neg()),
         }

@@ -7,6 +7,7 @@ ghost use Rattle.gmpl_functions.specs.Scalings.{value_at, with_value_at};
 ghost use Rattle.gmpl_functions.specs.Sums.{operation, put};
 
 use crate::variable::Variable;
+use crate::words::{difference, sum};
 use fraction::Frac;
 use gmpl_value::EvalFault;
 use indexmap::IndexMap;
@@ -25,8 +26,8 @@ impl Sign {
         ensures { Gives result (operation self a b) }
     {
         match self {
-            Sign::Plus => Ok(a.add(b)?),
-            Sign::Minus => Ok(a.sub(b)?),
+            Sign::Plus => Ok(sum(a, b)?),
+            Sign::Minus => Ok(difference(a, b)?),
         }
     }
 }
