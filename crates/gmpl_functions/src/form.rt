@@ -95,10 +95,7 @@ impl Form {
     pub fn combine(&mut self, alloc: Global, sign: Sign, other: &Form) -> Result<(), EvalFault>
         ensures { Follows result self.new (combined sign self.old other.now) }
     {
-        let none = FormTerms::Many(IndexMap::new(alloc));
-        let mut terms = replace(&mut self.parts.terms, none).into_map(alloc)?;
-        put_all(alloc, &mut terms, sign, other)?;
-        self.parts.terms = FormTerms::Many(terms);
+        put_kept(alloc, &mut self.parts.terms, sign, other)?;
         self.parts.constant = sign.applied(self.parts.constant, other.constant())?;
         Ok(())
     }
@@ -146,6 +143,20 @@ impl Form {
         form.scale(scaling)?;
         Ok(form)
     }
+}
+
+// One term becomes a map; a map stays where it is.
+fn put_kept(alloc: Global, terms: &mut FormTerms, sign: Sign, other: &Form) -> Result<(), EvalFault>
+    ensures { Follows result (terms_seen terms.new) (put_all sign (terms_seen terms.old) other.now.terms) }
+{
+    if let FormTerms::Many(terms) = terms {
+        return put_all(alloc, terms, sign, other);
+    }
+    let none = FormTerms::Many(IndexMap::new(alloc));
+    let mut map = replace(terms, none).into_map(alloc)?;
+    put_all(alloc, &mut map, sign, other)?;
+    *terms = FormTerms::Many(map);
+    Ok(())
 }
 
 fn put_all(
