@@ -2,8 +2,10 @@
 use Rattle.std.proofs.Common.{◌≡◌, ◌∙◌, ℕ, ◌<◌, ◌≤◌, ◌≢◌, List, length, refl, sym, ap, subst, arith, Bool, true, false, cond, ◌==◌}
 use Rattle.std.specs.Prelude.{Result, Ok, Err, IfOk}
 use Rattle.std.proofs.lemmas.Bool.Decides.{nat_tests}
+use Rattle.rational.specs.Compare.{is_zero}
 use Rattle.rational.specs.Rational.{Rational, zero_ℚ, one_ℚ, ◌+ℚ◌, ◌*ℚ◌}
 use Rattle.rational.proofs.Laws as Q
+use Rattle.rational.proofs.Laws.{zero_true}
 use Rattle.milp.specs.Form.{number_at}
 use Rattle.basis.specs.Dictionary.{place_of, IsBasic, IsResting, rate_of}
 use Rattle.basis.specs.Bland.{IsDirection}
@@ -36,6 +38,11 @@ moved_self t q v by x r e f = subst (λ o. IfOk o (λ y. y ≡ x +ℚ by *ℚ di
 
 pub moved_resting : (t : Table) (q v : ℕ) (by x : Rational) → (v == q) ≡ false → is_basic (place_of t.places v) ≡ false → x ≡ x +ℚ by *ℚ direction_of t q v
 moved_resting t q v by x e f = sym (ap (λ u. x +ℚ by *ℚ u) (direction-resting t q v e f) ∙ ap (λ u. x +ℚ u) (Q.mul-zero by) ∙ Q.add-zero x)
+
+pub moved_still : (t : Table) (q v : ℕ) (by x rate : Rational) → (v == q) ≡ false → is_basic (place_of t.places v) ≡ true → rate ≡ rate_of (dictionary_of t) q v → is_zero rate ≡ true
+    → x ≡ x +ℚ by *ℚ direction_of t q v
+moved_still t q v by x rate e f g h =
+    sym (ap (λ u. x +ℚ by *ℚ u) (direction-basic t q v e f ∙ sym g ∙ zero_true rate h) ∙ ap (λ u. x +ℚ u) (Q.mul-zero by) ∙ Q.add-zero x)
 
 pub moved_basic : (t : Table) (q v : ℕ) (by x rate : Rational) (r : Result Rational NoFit) → (v == q) ≡ false → is_basic (place_of t.places v) ≡ true → rate ≡ rate_of (dictionary_of t) q v
     → IfOk r (λ y. y ≡ rate *ℚ by +ℚ x) → IfOk r (λ y. y ≡ x +ℚ by *ℚ direction_of t q v)

@@ -40,5 +40,10 @@ fn moved(dictionary: &Dictionary, q: usize, by: Frac, v: usize, x: Frac) -> Resu
     if !dictionary.is_basic(v) {
         return Ok(x);
     }
-    mul_add(dictionary.rate(q, v), by, x)
+    let rate = dictionary.rate(q, v);
+    // most rates are 0, and there x stays
+    if rate.is_zero() {
+        return Ok(x);
+    }
+    mul_add(rate, by, x)
 }
