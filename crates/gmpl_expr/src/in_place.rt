@@ -14,7 +14,10 @@ ghost use Rattle.gmpl_operations.specs.Values.{amount_in, as_value, as_number, n
 ghost use Rattle.gmpl_operations.specs.declared.value.Value.TheVariants as values;
 
 use fraction::{Frac, NoFit};
-use gmpl_functions::{Amount, Form, Scaling, Sign, div, less, modulo, quotient};
+use gmpl_functions::{
+    Amount, Form, Scaling, Sign, div, less, modulo, quotient, word_difference, word_product,
+    word_remainder, word_sum,
+};
 use gmpl_operations::{Value, applied, joined, taken};
 use gmpl_syntax::{Iteration, Operator};
 use gmpl_value::{EvalFault, Symbol};
@@ -85,6 +88,44 @@ fn take_anew(operator: Operator, left: &mut Value) -> Result<(), EvalFault>
 
 /// What an operator makes of two values, where the left one doesn't decide, in the place of the left one.
 pub(crate) fn apply(
+    alloc: Global,
+    operator: Operator,
+    left: &mut Value,
+    right: Value,
+) -> Result<(), EvalFault>
+    ensures { Follows result left.new (spec.applied operator left.old right) }
+{
+    match words_joined(operator, left, &right) {
+        Some(number) => {
+            *left = Value::number(number);
+            Ok(())
+        }
+        None => apply_values(alloc, operator, left, right),
+    }
+}
+
+// What an operator makes of whole numbers that are words. Of others than these that is not told.
+fn words_joined(operator: Operator, left: &Value, right: &Value) -> Option<Frac>
+    ensures { IfSome result (λ number. spec.applied operator left.now right.now ≡ Ok (of_number number)) }
+{
+    let first = plain_number(left)?;
+    let second = plain_number(right)?;
+    join_words(operator, first, second)
+}
+
+fn join_words(operator: Operator, first: Frac, second: Frac) -> Option<Frac>
+    ensures { IfSome result (λ number. spec.applied operator (of_number first) (of_number second) ≡ Ok (of_number number)) }
+{
+    match operator {
+        Operator::Plus => word_sum(first, second),
+        Operator::Minus => word_difference(first, second),
+        Operator::Times => word_product(first, second),
+        Operator::Mod => word_remainder(first, second),
+        _ => None,
+    }
+}
+
+fn apply_values(
     alloc: Global,
     operator: Operator,
     left: &mut Value,
