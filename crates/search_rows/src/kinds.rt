@@ -3,6 +3,7 @@ use crate::boards::played;
 use crate::certificates::{checked, deep, read_back};
 use crate::linear::{judged, solved};
 use crate::programs::{found_by_search, found_by_solve, shown_optimum, written_by_solve};
+use crate::ranged::found_ranges;
 use crate::subsets::found_subset;
 use crate::texts::bytes_of;
 use cplex_lp_reader::read_lp;
@@ -51,6 +52,7 @@ fn of_problem(
         "written_by_rows" => written_by_solve(alloc, problem, true, rest),
         "optimum" => shown_optimum(alloc, problem),
         "subset" => found_subset(alloc, problem, rest),
+        "ranges" => found_ranges(alloc, problem, rest),
         "board" => played(alloc, problem, rest),
         _ => "no such kind".to_string(alloc),
     }

@@ -9,6 +9,7 @@ mod leaves;
 mod linear;
 mod offers;
 mod programs;
+mod ranged;
 mod subsets;
 mod tables;
 mod texts;
