@@ -1,12 +1,13 @@
 #!/usr/bin/env python3
 """Measures `--iis` beside the plain solve, and the sizes of subsets beside those of a deletion filter.
 
-usage: bench/infeasible_subsets.py [FILE.mps ..] [--program PATH] [--sizes 20,50,..] [--seeds N] [--runs N] [--filter ROWS]
+usage: bench/infeasible_subsets.py [FILE.mps ..] [--program PATH] [--sizes 20,50,..] [--networks 20,50,..] [--seeds N] [--runs N] [--filter ROWS]
 
 A FILE is a free MPS text of a linear program that has a best point (bench/relaxations.py writes those of GLPK's examples):
 a row is added that asks for a better value. Beside them random programs are made, one for each size and seed: rows over a
-few columns that a point meets, and one combination of some of them that asks for more than they allow. Each is solved
-without and with `--iis`, and the medians in seconds of all runs are compared. For programs of at most --filter rows the
+few columns that a point meets, and one combination of some of them that asks for more than they allow. And random
+networks, a row for each node: a flow meets them, and then one set of nodes is to get more than its arcs can bring. Each is
+solved without and with `--iis`, and the medians in seconds of all runs are compared. For programs of at most --filter rows the
 deletion filter leaves out one bound after the other, and keeps it away where esolver (of qsopt-ex; without it this
 program) still finds no point.
 """
@@ -179,6 +180,31 @@ def random_program(rows, seed):
     return made
 
 
+def random_network(nodes, seed):
+    chance = random.Random(f"network {nodes} {seed}")
+    made = Program()
+    supply = [Fraction(0)] * nodes
+    near = set(chance.sample(range(nodes), max(1, nodes // 10)))
+    room, forms = Fraction(0), [{} for _ in range(nodes)]
+    for i in range(nodes):
+        for to in {(i + 1) % nodes, chance.randrange(nodes), chance.randrange(nodes)} - {i}:
+            name, flow = f"a{i}_{to}", chance.randint(0, 9)
+            capacity = flow + chance.randint(0, 5)
+            made.columns[name] = [Fraction(0), Fraction(capacity)]
+            made.objective[name] = Fraction(chance.randint(1, 9))
+            forms[i][name], forms[to][name] = Fraction(1), Fraction(-1)
+            supply[i] += flow
+            supply[to] -= flow
+            # how much more a set of nodes can get: its arcs to it are filled, and those from it emptied
+            room += capacity - flow if to in near and i not in near else flow if i in near and to not in near else 0
+    far = [i for i in range(nodes) if i not in near]
+    supply[chance.choice(far)] += room + 1
+    supply[chance.choice(sorted(near))] -= room + 1
+    for i in range(nodes):
+        made.forms[f"n{i}"], made.rows[f"n{i}"] = forms[i], [supply[i], supply[i]]
+    return made
+
+
 def run(words):
     begin = time.perf_counter()
     found = subprocess.run(words, stdout=subprocess.PIPE, stderr=subprocess.STDOUT, text=True, timeout=600)
@@ -238,6 +264,7 @@ def main():
     words.add_argument("files", nargs="*")
     words.add_argument("--program", default=os.path.join(HERE, "..", "glpsol"))
     words.add_argument("--sizes", default="20,50,100,200,500,1000,2000")
+    words.add_argument("--networks", default="20,50,100,200,500,1000,2000")
     words.add_argument("--seeds", type=int, default=3)
     words.add_argument("--runs", type=int, default=3)
     words.add_argument("--filter", type=int, default=50)
@@ -252,6 +279,8 @@ def main():
                 programs.append((os.path.basename(path), asking_for_more(read(path), value)))
         for size in [int(size) for size in given.sizes.split(",") if size]:
             programs += [(f"random {size} {seed}", random_program(size, seed)) for seed in range(given.seeds)]
+        for size in [int(size) for size in given.networks.split(",") if size]:
+            programs += [(f"network {size} {seed}", random_network(size, seed)) for seed in range(given.seeds)]
         for name, program in programs:
             ratios.append(measure(tools, name, program, given.runs, given.filter))
     told = [ratio for ratio in ratios if ratio]
