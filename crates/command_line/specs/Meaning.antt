@@ -71,7 +71,7 @@ direction_by false false = Some None
 abbrev pub direction_in : List Row → Option (Option Direction)
 direction_in rows = direction_by (stands (codes "min") rows) (stands (codes "max") rows)
 
--- the files to be written, whether a subset is to be found, and whether the search may split on rows
+-- the files to be written, that of the ranges among them, whether a subset is to be found, and whether the search may split on rows
 abbrev pub outputs_in : List Row → Outputs
 outputs_in rows = record {
   report = first_of (codes "output") rows;
@@ -79,11 +79,12 @@ outputs_in rows = record {
   certificate = first_of (codes "cert") rows;
   subset = stands (codes "iis") rows;
   row_splits = stands (codes "rowsplit") rows;
+  ranges = first_of (codes "ranges-exact") rows;
 }
 
--- the task, where no report, no solution, no subset and no search is asked for
+-- the task, where no report, no solution, no ranges, no subset and no search is asked for
 abbrev pub unsolved : Outputs → Task → Option Task
-unsolved outputs task = option_map_or (λ _. None) outputs.report (option_map_or (λ _. None) outputs.solution (if outputs.subset || outputs.row_splits then None else Some task))
+unsolved outputs task = option_map_or (λ _. None) outputs.report (option_map_or (λ _. None) outputs.solution (option_map_or (λ _. None) outputs.ranges (if outputs.subset || outputs.row_splits then None else Some task)))
 
 -- the task, where no file is to be written, no subset to be found, and no search to be made
 abbrev pub alone : Outputs → Task → Option Task

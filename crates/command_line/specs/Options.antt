@@ -48,6 +48,7 @@ rules = file_rule
     ∷ option_rule (codes "pivlim")
     ∷ flag_rule (codes "iis")
     ∷ flag_rule (codes "rowsplit")
+    ∷ option_rule (codes "ranges-exact")
     ∷ []
 
 -- the command: the words are those after the program's name, and there is no `--help`

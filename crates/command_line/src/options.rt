@@ -47,7 +47,8 @@ fn command<'a>(alloc: Global) -> Result<Command<'a>, AllocError>
         .arg(option(alloc, "nodlim"))?
         .arg(option(alloc, "pivlim"))?
         .arg(flag(alloc, "iis"))?
-        .arg(flag(alloc, "rowsplit"))
+        .arg(flag(alloc, "rowsplit"))?
+        .arg(option(alloc, "ranges-exact"))
 }
 
 /// `--name`.

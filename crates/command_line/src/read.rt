@@ -179,9 +179,10 @@ fn alone(outputs: Outputs, task: Task) -> Option<Task>
         outputs.report,
         outputs.solution,
         outputs.certificate,
+        outputs.ranges,
         outputs.subset || outputs.row_splits,
     ) {
-        (None, None, None, false) => Some(task),
+        (None, None, None, None, false) => Some(task),
         _ => None,
     }
 }
@@ -194,9 +195,10 @@ fn checking(certificate: Name, outputs: Outputs) -> Option<Task>
     match (
         outputs.report,
         outputs.solution,
+        outputs.ranges,
         outputs.subset || outputs.row_splits,
     ) {
-        (None, None, false) => Some(Task::CheckCertificate {
+        (None, None, None, false) => Some(Task::CheckCertificate {
             certificate,
             migrated: outputs.certificate,
         }),
@@ -282,6 +284,7 @@ fn outputs_in(alloc: Global, matches: &ArgMatches<'_>) -> Result<Outputs, AllocE
         certificate: name_in(alloc, matches, "cert")?,
         subset: stands(matches, "iis"),
         row_splits: stands(matches, "rowsplit"),
+        ranges: name_in(alloc, matches, "ranges-exact")?,
     })
 }
 

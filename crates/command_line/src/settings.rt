@@ -70,6 +70,8 @@ pub struct Outputs {
     pub subset: bool,
     /// The search may split on the whole forms of rows, and does so first.
     pub row_splits: bool,
+    /// The file of the exact ranges of costs and bounds, at a best point.
+    pub ranges: Option<Name>,
 }
 
 /// Why words gave no settings.

@@ -103,7 +103,8 @@ fn push_task(text: &mut String, task: &Task) -> Result<(), AllocError> {
             push_file(text, ", cert ", &outputs.certificate)?;
             push_want(text, &outputs.certificate)?;
             push_if(text, outputs.subset, ", subset")?;
-            push_if(text, outputs.row_splits, ", row splits")
+            push_if(text, outputs.row_splits, ", row splits")?;
+            push_file(text, ", ranges ", &outputs.ranges)
         }
         Task::Translate => text.push_str(", translate"),
         Task::CheckCertificate {
