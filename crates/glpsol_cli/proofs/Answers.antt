@@ -1,5 +1,5 @@
 -- What is said of an answer by the settings and the texts that were read, as it is said by the words.
-use Rattle.std.proofs.Common.{◌≤◌, ℕ, List, ◌++◌, None, Some, inl}
+use Rattle.std.proofs.Common.{◌≤◌, ℕ, List, ◌++◌, Some, inl}
 use Rattle.outside.specs.Causes.{Rose}
 use Rattle.outside.specs.declared.store.LoadFault.{LoadFault}
 use Rattle.outside.specs.declared.store.LoadFault.TheVariants.{Missing as LoadMissing, Open, Read, TooLong as LoadTooLong, NoMemory as LoadNoMemory}
@@ -9,15 +9,15 @@ use Rattle.glpsol_cli.specs.Asked.{ToldNames, IsInTurn}
 use Rattle.glpsol_cli.specs.Pieces.{Piece, Outside, AllWritten, IsWrittenInPart, Part}
 use Rattle.glpsol_cli.specs.Meaning.{HasDone, HasFound}
 use Rattle.glpsol_cli.specs.Texts.{IsTableInTurn, OfPieces, OfTexts}
-use Rattle.glpsol_cli.specs.Cause.{Cause, EndsBehind, HasSubset, IsNotLinear, IsProved, IsReached, IsTranslated, OfCertificate, IsAccepted, IsRefusedAt, IsNoCertificate, IsOverflow, IsUndecided, RoseAt}
+use Rattle.glpsol_cli.specs.Cause.{Cause, EndsBehind, EndsWithoutRanges, HasRanges, HasSubset, LacksRanges, IsNotLinear, IsProved, IsReached, IsTranslated, OfCertificate, IsAccepted, IsRefusedAt, IsNoCertificate, IsOverflow, IsUndecided, RoseAt}
 use Rattle.glpsol_cli.specs.Meaning.{IsRefused}
 use Rattle.glpsol_cli.specs.Written.{ThenLine, Written, line_of}
 use Rattle.glpsol_cli.specs.Stages.{AreRead, IsStop, IsUnread, WrittenSince, stop_answer, unread_answer}
 use Rattle.glpsol_cli.specs.Together.{CauseIn, ReachedIn, PiecesIn}
 use Rattle.glpsol_cli.specs.declared.answer.Answer.{Answer}
-use Rattle.glpsol_cli.specs.declared.answer.Answer.TheVariants.{Optimal, Infeasible, Irreducible, Unbounded, Translated, Accepted, Usage, Missing, OpenFault, ReadFault, WriteFault, TooLong, BadText, FaultBehindSolve, BadCertificate, NotLinear, Overflow, Undecided, Refused, NoMemory}
+use Rattle.glpsol_cli.specs.declared.answer.Answer.TheVariants.{Optimal, Ranged, Infeasible, Irreducible, Unbounded, Translated, Accepted, Usage, Missing, OpenFault, ReadFault, WriteFault, TooLong, BadText, FaultBehindSolve, Unranged, BadCertificate, NotLinear, Overflow, Undecided, Refused, NoMemory}
 use Rattle.glpsol_cli.specs.declared.answer.Reached.{Reached}
-use Rattle.glpsol_cli.specs.declared.answer.Reached.TheVariants.{Nothing, Executed, Size, Acceptance, Verdict, Subset}
+use Rattle.glpsol_cli.specs.declared.answer.Reached.TheVariants.{Nothing, Executed, Size, Acceptance, Verdict, Subset, Ranges}
 use Rattle.glpsol_cli.specs.declared.answer.Target.{Target}
 use Rattle.glpsol_cli.specs.declared.answer.Target.TheVariants.{Out, File as FileTarget}
 use Rattle.glpsol_cli.specs.declared.stop.Stop.{Stop}
@@ -88,9 +88,11 @@ module _ (words : List (List ℕ)) (told : ToldNames) (s : Settings) (texts : Li
   reached_of_texts (Acceptance c) h = of_these (OfCertificate (IsAccepted c)) h
   reached_of_texts (Verdict c) h = of_these (IsProved c) h
   reached_of_texts (Subset c w) h = of_these (HasSubset c w) h
+  reached_of_texts (Ranges c r) h = of_these (HasRanges c r) h
 
   pub cause_of_texts : (files_rose out_rose : Type 0) (answer : Answer) → CauseIn s texts files_rose out_rose answer → Cause words told files_rose out_rose answer
-  cause_of_texts files_rose out_rose (Optimal c) h = (h.0, of_these (EndsBehind None c) h.1)
+  cause_of_texts files_rose out_rose (Optimal c) h = (h.0, of_these (EndsWithoutRanges c) h.1)
+  cause_of_texts files_rose out_rose (Ranged c r) h = of_these (HasRanges c r) h
   cause_of_texts files_rose out_rose (Infeasible c) h = (h.0, of_these (IsProved c) h.1)
   cause_of_texts files_rose out_rose (Irreducible c w) h = of_these (HasSubset c w) h
   cause_of_texts files_rose out_rose (Unbounded c) h = (h.0, of_these (IsProved c) h.1)
@@ -104,6 +106,7 @@ module _ (words : List (List ℕ)) (told : ToldNames) (s : Settings) (texts : Li
   cause_of_texts files_rose out_rose (TooLong name r) h = absurd h
   cause_of_texts files_rose out_rose (BadText fault) h = of_these (IsRefused fault) h
   cause_of_texts files_rose out_rose (FaultBehindSolve fault c) h = (h.0, of_these (EndsBehind (Some fault) c) h.1)
+  cause_of_texts files_rose out_rose (Unranged fault c) h = of_these (LacksRanges fault c) h
   cause_of_texts files_rose out_rose (BadCertificate fault) h = of_these (OfCertificate (IsNoCertificate fault)) h
   cause_of_texts files_rose out_rose NotLinear h = of_these IsNotLinear h
   cause_of_texts files_rose out_rose (Overflow at e) h = of_these (IsOverflow at e) h
@@ -118,6 +121,7 @@ module _ (words : List (List ℕ)) (told : ToldNames) (s : Settings) (texts : Li
   pieces_of_texts (Acceptance c) P h = of_these (HasFound (Acceptance c) P) h
   pieces_of_texts (Verdict c) P h = of_these (HasFound (Verdict c) P) h
   pieces_of_texts (Subset c w) P h = of_these (HasFound (Subset c w) P) h
+  pieces_of_texts (Ranges c r) P h = of_these (HasFound (Ranges c r) P) h
 
 -- ---- the counts of faults over a longer time
 
@@ -128,6 +132,7 @@ module _ (s : Settings) (texts : List (List ℕ)) (a b c d : ℕ) (before : a �
 
   pub cause_within : (answer : Answer) → CauseIn s texts (Rose b c) (Rose q r) answer → CauseIn s texts (Rose a d) (Rose p t) answer
   cause_within (Optimal c) h = h
+  cause_within (Ranged c r) h = h
   cause_within (Infeasible c) h = h
   cause_within (Irreducible c w) h = h
   cause_within (Unbounded c) h = h
@@ -141,6 +146,7 @@ module _ (s : Settings) (texts : List (List ℕ)) (a b c d : ℕ) (before : a �
   cause_within (TooLong name r) h = h
   cause_within (BadText fault) h = h
   cause_within (FaultBehindSolve fault c) h = h
+  cause_within (Unranged fault c) h = h
   cause_within (BadCertificate fault) h = h
   cause_within NotLinear h = h
   cause_within (Overflow at e) h = h

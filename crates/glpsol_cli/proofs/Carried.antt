@@ -1,5 +1,5 @@
 -- How a run ends, from how its stages ended.
-use Rattle.std.proofs.Common.{◌≡◌, ◌∙◌, ◌≤◌, ℕ, List, [], ◌++◌, length, Option, Some, None, refl, sym, ap, subst, inl, inr}
+use Rattle.std.proofs.Common.{◌≡◌, ◌∙◌, ◌≤◌, ℕ, true, List, [], ◌++◌, length, Option, Some, None, refl, sym, ap, subst, inl, inr}
 use Rattle.std.proofs.lemmas.List.{append-nil}
 use Rattle.std.specs.Prelude.{Ok, Err, IsSomeAnd}
 use Rattle.std.specs.Option.{option_map}
@@ -12,19 +12,25 @@ use Rattle.outside.specs.Told.{AppendsPrefix}
 use Rattle.branch_search.specs.declared.whole_fault.VerdictFault.TheVariants.{NoFit as SearchNoFit, PivotLimit, SplitLimit, NoMemory as SearchNoMemory}
 use Rattle.infeasible_subset.specs.declared.fault.SubsetFault.TheVariants.{NoFit as SubsetNoFit, PivotLimit as SubsetPivotLimit, NoMemory as SubsetNoMemory}
 use Rattle.infeasible_subset.specs.declared.witness.Subset.{Subset as FoundSubset}
+use Rattle.exact_ranges.specs.Faults.{IsFault as IsRangeFault, IsNotByPivots as IsRangeNotByPivots}
+use Rattle.exact_ranges.specs.Ranges.{AllRanges}
+use Rattle.exact_ranges.specs.ShownBest.{best_point as point_of, best_weights as weights_of}
+use Rattle.exact_ranges.specs.Text.{ranges_text}
+use Rattle.exact_ranges.specs.declared.fault.RangeFault.{RangeFault}
 use Rattle.solution_writer.specs.Report.{IsShownPoint}
 use Rattle.command_line.specs.declared.settings.Settings.{Settings}
-use Rattle.glpsol_cli.specs.Asked.{ToldNames, names_read}
-use Rattle.glpsol_cli.specs.Pieces.{Piece, Outside, SameNames, AllWritten, WrittenUpTo, Whole}
-use Rattle.glpsol_cli.specs.Meaning.{Behind, Declared, IsAsked, Meaning, behind_at, behind_of, found_pieces, meaning_in, meaning_of}
-use Rattle.glpsol_cli.specs.Cause.{Cause, EndsBehind, HasSubset, IsAccepted, IsProved, IsTranslated, OfCertificate, reached_of}
+use Rattle.command_line.specs.declared.settings.Task.{Task}
+use Rattle.glpsol_cli.specs.Asked.{ToldNames, names_read, ranges_file, wants_ranges}
+use Rattle.glpsol_cli.specs.Pieces.{Piece, Outside, SameNames, WrittenUpTo, Whole}
+use Rattle.glpsol_cli.specs.Meaning.{Behind, Declared, IsAsked, Meaning, behind_at, behind_of, found_pieces, meaning_in, meaning_of, saved_in}
+use Rattle.glpsol_cli.specs.Cause.{AreRanges, Cause, EndsBehind, HasRanges, HasSubset, LacksRanges, IsAccepted, IsProved, IsTranslated, OfCertificate, reached_of}
 use Rattle.glpsol_cli.specs.Written.{Written, ThenLine, extent_of, line_of}
-use Rattle.glpsol_cli.specs.Stages.{EndsWriting, HasFailed, IsEndBehind, IsEndIn, IsFinding, IsKept, IsPublished, IsStop, IsSubject, IsUnfound, LeftIn, LeftWritten, RestWritten, TellsBehind, behind_in, best_answer, pieces_of, reached_by, stop_answer, unfound_answer, unwritten_answer}
+use Rattle.glpsol_cli.specs.Stages.{ComesTo, same, to_ranges, EndsWriting, HasFailed, IsEndAtBest, without_ranges, ranged, unranged, ranges_unwritten, IsEndBehind, at_best, at_fault, unwritten, IsEndIn, IsFinding, IsKept, IsPublished, IsStop, IsSubject, IsUnfound, LeftIn, LeftWritten, RestWritten, TellsBehind, behind_in, pieces_of, range_pieces, reached_by, stop_answer, unfound_answer, unwritten_answer}
 use Rattle.glpsol_cli.specs.Together.{CauseIn, PiecesIn, ReachedIn}
 use Rattle.glpsol_cli.specs.declared.answer.Answer.{Answer}
 use Rattle.glpsol_cli.specs.declared.answer.Answer.TheVariants.{Infeasible, Irreducible, Unbounded, Translated, Accepted, BadText, NoMemory}
 use Rattle.glpsol_cli.specs.declared.answer.Reached.{Reached}
-use Rattle.glpsol_cli.specs.declared.answer.Reached.TheVariants.{Nothing, Executed, Size, Acceptance, Verdict, Subset}
+use Rattle.glpsol_cli.specs.declared.answer.Reached.TheVariants.{Nothing, Executed, Size, Acceptance, Verdict, Subset, Ranges}
 use Rattle.glpsol_cli.specs.declared.answer.TextFault.{TextFault}
 use Rattle.glpsol_cli.specs.declared.behind.Behind.{Behind as BehindHeld}
 use Rattle.glpsol_cli.specs.declared.execution.ExecutionEnd.TheVariants.{Problem as AtProblem, Fault as AtFault}
@@ -91,7 +97,7 @@ module _ (s : Settings) (texts : List (List ℕ)) where
     end = h.end;
     found = h.found;
     are = h.are;
-    has = subst (λ (n : Meaning). Q (n.done ++ (h.found ++ (behind_of h.meaning.behind Size).pieces))) (some_same (sym means ∙ h.means)) (f (h.found ++ (behind_of h.meaning.behind Size).pieces) h.has);
+    has = subst (λ (n : Meaning). Q (n.done ++ (h.found ++ (behind_of s.task h.meaning.behind Size).pieces))) (some_same (sym means ∙ h.means)) (f (h.found ++ (behind_of s.task h.meaning.behind Size).pieces) h.has);
   }
   left_in m means (Acceptance c) P Q f h = record {
     meaning = h.meaning;
@@ -100,7 +106,7 @@ module _ (s : Settings) (texts : List (List ℕ)) where
     end = h.end;
     found = h.found;
     are = h.are;
-    has = subst (λ (n : Meaning). Q (n.done ++ (h.found ++ (behind_of h.meaning.behind (Acceptance c)).pieces))) (some_same (sym means ∙ h.means)) (f (h.found ++ (behind_of h.meaning.behind (Acceptance c)).pieces) h.has);
+    has = subst (λ (n : Meaning). Q (n.done ++ (h.found ++ (behind_of s.task h.meaning.behind (Acceptance c)).pieces))) (some_same (sym means ∙ h.means)) (f (h.found ++ (behind_of s.task h.meaning.behind (Acceptance c)).pieces) h.has);
   }
   left_in m means (Verdict c) P Q f h = record {
     meaning = h.meaning;
@@ -109,7 +115,7 @@ module _ (s : Settings) (texts : List (List ℕ)) where
     end = h.end;
     found = h.found;
     are = h.are;
-    has = subst (λ (n : Meaning). Q (n.done ++ (h.found ++ (behind_of h.meaning.behind (Verdict c)).pieces))) (some_same (sym means ∙ h.means)) (f (h.found ++ (behind_of h.meaning.behind (Verdict c)).pieces) h.has);
+    has = subst (λ (n : Meaning). Q (n.done ++ (h.found ++ (behind_of s.task h.meaning.behind (Verdict c)).pieces))) (some_same (sym means ∙ h.means)) (f (h.found ++ (behind_of s.task h.meaning.behind (Verdict c)).pieces) h.has);
   }
   left_in m means (Subset c w) P Q f h = record {
     meaning = h.meaning;
@@ -118,7 +124,16 @@ module _ (s : Settings) (texts : List (List ℕ)) where
     end = h.end;
     found = h.found;
     are = h.are;
-    has = subst (λ (n : Meaning). Q (n.done ++ (h.found ++ (behind_of h.meaning.behind (Subset c w)).pieces))) (some_same (sym means ∙ h.means)) (f (h.found ++ (behind_of h.meaning.behind (Subset c w)).pieces) h.has);
+    has = subst (λ (n : Meaning). Q (n.done ++ (h.found ++ (behind_of s.task h.meaning.behind (Subset c w)).pieces))) (some_same (sym means ∙ h.means)) (f (h.found ++ (behind_of s.task h.meaning.behind (Subset c w)).pieces) h.has);
+  }
+  left_in m means (Ranges c r) P Q f h = record {
+    meaning = h.meaning;
+    means = h.means;
+    problem = h.problem;
+    end = h.end;
+    found = h.found;
+    are = h.are;
+    has = subst (λ (n : Meaning). Q (n.done ++ (h.found ++ (behind_of s.task h.meaning.behind (Ranges c r)).pieces))) (some_same (sym means ∙ h.means)) (f (h.found ++ (behind_of s.task h.meaning.behind (Ranges c r)).pieces) h.has);
   }
 
   -- the end is a fault
@@ -205,19 +220,28 @@ module _ (s : Settings) (texts : List (List ℕ)) (p : Problem) (later : Option 
   ends_at m means = ap (λ (n : Meaning). n.end) (some_same (sym means ∙ subject.means)) ∙ subject.declares
 
   -- what is left of a problem, by a meaning of the texts
-  left_of : (f : Finding) (P : List Piece → Type 0) (m : Meaning) (pieces : List Piece) → meaning_of s texts ≡ Some m → found_pieces s.task p (reached_by f) ≡ Some pieces → P (pieces ++ (behind_of m.behind (reached_by f)).pieces) → LeftIn s texts (reached_by f) P
+  left_of : (f : Finding) (P : List Piece → Type 0) (m : Meaning) (pieces : List Piece) → meaning_of s texts ≡ Some m → found_pieces s.task p (reached_by f) ≡ Some pieces → P (pieces ++ (behind_of s.task m.behind (reached_by f)).pieces) → LeftIn s texts (reached_by f) P
   left_of SizeFound P m pieces means are has = record { meaning = m; means = means; problem = p; end = ends_at m means; found = pieces; are = are; has = has }
   left_of (AcceptanceFound c) P m pieces means are has = record { meaning = m; means = means; problem = p; end = ends_at m means; found = pieces; are = are; has = has }
   left_of (VerdictFound c) P m pieces means are has = record { meaning = m; means = means; problem = p; end = ends_at m means; found = pieces; are = are; has = has }
   left_of (SubsetFound c w) P m pieces means are has = record { meaning = m; means = means; problem = p; end = ends_at m means; found = pieces; are = are; has = has }
 
+  -- the same with ranges
+  left_with : (c : Certificate) (r : AllRanges) (P : List Piece → Type 0) (m : Meaning) (pieces : List Piece) → meaning_of s texts ≡ Some m → found_pieces s.task p (Verdict c) ≡ Some pieces → P (pieces ++ (behind_of s.task m.behind (Ranges c r)).pieces) → LeftIn s texts (Ranges c r) P
+  left_with c r P m pieces means are has = record { meaning = m; means = means; problem = p; end = ends_at m means; found = pieces; are = are; has = has }
+
   module _ (f : Finding) (old middle : Outside) where
+    left_behind : (P : List Piece → Type 0) (last : Reached) (m : Meaning) (pieces : List Piece) → meaning_of s texts ≡ Some m → found_pieces s.task p (reached_by f) ≡ Some pieces → ComesTo (reached_by f) last → P (pieces ++ (behind_of s.task m.behind last).pieces) → LeftIn s texts last P
+    left_behind P last m pieces means are (same e) has =
+        subst (λ q. LeftIn s texts q P) (sym e) (left_of f P m pieces means are (subst (λ q. P (pieces ++ (behind_of s.task m.behind q).pieces)) e has))
+    left_behind P last m pieces means are (to_ranges c r from to) has =
+        subst (λ q. LeftIn s texts q P) (sym to)
+        (left_with c r P m pieces means (subst (λ q. found_pieces s.task p q ≡ Some pieces) from are) (subst (λ q. P (pieces ++ (behind_of s.task m.behind q).pieces)) to has))
+
     pub reported_written : (new : Outside) (answer : Answer) → IsPublished {T = Unit {0}} s.task p f old middle (Ok tt) → RestWritten (reached_by f) s texts middle new answer → LeftWritten s texts old new answer
     reported_written new answer published rest =
-        let P : List Piece → Type 0 = ThenLine (extent_of answer) (line_of answer) old new in
-        subst (λ r. LeftIn s texts r P) (sym rest.is_reached)
-        (left_of f P rest.meaning published.pieces rest.means published.are
-        (line_after (extent_of answer) (line_of answer) published.pieces (behind_of rest.meaning.behind (reached_by f)).pieces old middle new published.ends rest.has))
+        left_behind (ThenLine (extent_of answer) (line_of answer) old new) (reached_of answer) rest.meaning published.pieces rest.means published.are rest.is_reached
+        (line_after (extent_of answer) (line_of answer) published.pieces (behind_of s.task rest.meaning.behind (reached_of answer)).pieces old middle new published.ends rest.has)
 
     module _ (fault : PublishFault) (r : Reached) (made answer : Answer) (reaches : r ≡ reached_by f) (means : made ≡ unwritten_answer r fault) (told_is : answer ≡ made) where
       is_answer : answer ≡ unwritten_answer (reached_by f) fault
@@ -232,7 +256,7 @@ module _ (s : Settings) (texts : List (List ℕ)) (p : Problem) (later : Option 
           let built : Answer = unwritten_answer (reached_by f) fault in
           let m : Meaning = meaning_in s subject.text subject.data_texts subject.tables in
           let P : List Piece → Type 0 = ThenLine (extent_of built) (line_of built) old new in
-          let more : List Piece = (behind_of m.behind (reached_by f)).pieces in
+          let more : List Piece = (behind_of s.task m.behind (reached_by f)).pieces in
           subst (LeftWritten s texts old new) (sym is_answer)
           (subst (λ q. LeftIn s texts q P) (sym (reached_unwritten (reached_by f) fault))
           (left_of f P m published.pieces subject.means published.are
@@ -242,14 +266,15 @@ module _ (s : Settings) (texts : List (List ℕ)) (p : Problem) (later : Option 
   -- ---- from the report on
 
   -- nothing is left
-  none_left : (r : Reached) (o : Outside) (answer : Answer) → (extent_of answer ≡ Whole) → (line_of answer ≡ []) → reached_of answer ≡ r → (behind_of (meaning_in s subject.text subject.data_texts subject.tables).behind r).pieces ≡ [] → RestWritten r s texts o o answer
+  none_left : (r : Reached) (o : Outside) (answer : Answer) → (extent_of answer ≡ Whole) → (line_of answer ≡ []) → reached_of answer ≡ r → (behind_of s.task (meaning_in s subject.text subject.data_texts subject.tables).behind r).pieces ≡ [] → RestWritten r s texts o o answer
   none_left r o answer whole silent reaches none =
       let m : Meaning = meaning_in s subject.text subject.data_texts subject.tables in
       record {
         meaning = m;
         means = subject.means;
-        is_reached = reaches;
-        has = subst (λ ps. ThenLine (extent_of answer) (line_of answer) o o ps) (sym none) (subst (λ e. ThenLine e (line_of answer) o o []) (sym whole) (no_line (line_of answer) [] o o (nothing o)));
+        is_reached = same reaches;
+        has = subst (λ q. ThenLine (extent_of answer) (line_of answer) o o (behind_of s.task m.behind q).pieces) (sym reaches)
+            (subst (λ ps. ThenLine (extent_of answer) (line_of answer) o o ps) (sym none) (subst (λ e. ThenLine e (line_of answer) o o []) (sym whole) (no_line (line_of answer) [] o o (nothing o))));
       }
 
   module _ (f : Finding) where
@@ -304,68 +329,96 @@ module _ (s : Settings) (texts : List (List ℕ)) (p : Problem) (later : Option 
           let new : Outside = record { taken = taken'; told = told } in
           let m : Meaning = meaning_in s subject.text subject.data_texts subject.tables in
           subst (RestWritten (Verdict c) s texts old new) (sym is)
-          (record { meaning = m; means = subject.means; is_reached = refl; has = inl (old, none_written (behind_of m.behind (Verdict c)).pieces old, (line, λ name. refl)) })
+          (record { meaning = m; means = subject.means; is_reached = same refl; has = inl (old, none_written (behind_of s.task m.behind (Verdict c)).pieces old, (line, λ name. refl)) })
 
       -- what they come to
       module _ (b : BehindHeld) (is : (text : List ℕ) (data_texts tables : List (List ℕ)) (x : List Rational) → IsKept s text data_texts tables p later → c.point ≡ Some x → (meaning_in s text data_texts tables).behind x ≡ behind_in b) where
-        ended : (o : Option (List Rational)) → c.point ≡ o → IsSomeAnd o (IsShownPoint p) → EndsBehind b.fault c s texts
-        ended None e there = absurd there
-        ended (Some x) e there = record {
-          proved = proved;
-          meaning = meaning_in s subject.text subject.data_texts subject.tables;
-          means = subject.means;
-          point = x;
-          has_point = e;
-          ends = ap (λ (r : Behind). r.fault) (is subject.text subject.data_texts subject.tables x subject.kept e);
-        }
+        -- of the problem that is asked about
+        ended : (fault : Option ModelFault) → b.fault ≡ fault → (o : Option (List Rational)) → c.point ≡ o → IsSomeAnd o (IsShownPoint p) → (e : EndsBehind fault c s texts) × (e.proved.problem ≡ p)
+        unfolding proved reached
+        ended fault f None e there = absurd there
+        ended fault f (Some x) e there = (
+          record {
+            proved = proved;
+            meaning = meaning_in s subject.text subject.data_texts subject.tables;
+            means = subject.means;
+            point = x;
+            has_point = e;
+            ends = ap (λ (r : Behind). r.fault) (is subject.text subject.data_texts subject.tables x subject.kept e) ∙ f;
+          },
+          refl,
+        )
 
-        comes_to : (o : Option (List Rational)) → c.point ≡ o → IsSomeAnd o (IsShownPoint p) → behind_of (meaning_in s subject.text subject.data_texts subject.tables).behind (Verdict c) ≡ behind_in b
+        comes_to : (o : Option (List Rational)) → c.point ≡ o → IsSomeAnd o (IsShownPoint p) → behind_of s.task (meaning_in s subject.text subject.data_texts subject.tables).behind (Verdict c) ≡ behind_in b
         comes_to None e there = absurd there
         comes_to (Some x) e there =
             let behind : List Rational → Behind = (meaning_in s subject.text subject.data_texts subject.tables).behind in
             ap (λ v. behind_at behind v c.point) best ∙ ap (behind_at behind kind.Optimal) e ∙ is subject.text subject.data_texts subject.tables x subject.kept e
 
-        best_cause : (files_rose out_rose : Type 0) (fault : Option ModelFault) → EndsBehind fault c s texts → CauseIn s texts files_rose out_rose (best_answer fault c)
-        best_cause files_rose out_rose None e = (best, e)
-        best_cause files_rose out_rose (Some fault) e = (best, e)
+        -- ---- with ranges, without them, or at a fault
 
-        pub behind_cause : (files_rose out_rose : Type 0) (answer : Answer) → IsEndBehind b.fault c files_rose out_rose answer → CauseIn s texts files_rose out_rose answer
-        behind_cause files_rose out_rose answer k = elim k [
-          | inl e ↦ subst (CauseIn s texts files_rose out_rose) (sym e) (best_cause files_rose out_rose b.fault (ended c.point refl best_point))
-          | inr more ↦ subst (CauseIn s texts files_rose out_rose) (sym more.1) (unwritten_cause s texts files_rose out_rose (Verdict c) more.0 proved more.2)
-        ]
+        has_ranges : (r : AllRanges) → b.fault ≡ None → wants_ranges s.task ≡ true → AreRanges p c r → HasRanges c r s texts
+        has_ranges r none wanted are =
+            let end = ended None none c.point refl best_point in
+            record { best = best; ends = end.0; wanted = wanted; are = subst (λ q. AreRanges q c r) (sym end.1) are }
 
-        best_reached : (fault : Option ModelFault) → reached_of (best_answer fault c) ≡ Verdict c
-        best_reached None = refl
-        best_reached (Some fault) = refl
+        lacks_ranges : (fault : RangeFault) → b.fault ≡ None → wants_ranges s.task ≡ true → IsRangeFault p (point_of c) (weights_of c) s.pivot_limit fault → (s.pivot_limit ≡ 0 → IsRangeNotByPivots fault) → LacksRanges fault c s texts
+        lacks_ranges fault none wanted fails unlimited =
+            let end = ended None none c.point refl best_point in
+            record { best = best; ends = end.0; wanted = wanted; fails = subst (λ q. IsRangeFault q (point_of c) (weights_of c) s.pivot_limit fault) (sym end.1) fails; unlimited = unlimited }
 
-        end_reached : (files_rose out_rose : Type 0) (answer : Answer) → IsEndBehind b.fault c files_rose out_rose answer → reached_of answer ≡ Verdict c
-        end_reached files_rose out_rose answer k = elim k [
-          | inl e ↦ ap reached_of e ∙ best_reached b.fault
-          | inr more ↦ ap reached_of more.1 ∙ reached_unwritten (Verdict c) more.0
-        ]
+        at_best_cause : (files_rose out_rose : Type 0) (answer : Answer) → b.fault ≡ None → IsEndAtBest p s c files_rose out_rose answer → CauseIn s texts files_rose out_rose answer
+        at_best_cause files_rose out_rose answer none (without_ranges plain e) =
+            subst (CauseIn s texts files_rose out_rose) (sym e) (best, record { ends = (ended None none c.point refl best_point).0; plain = plain })
+        at_best_cause files_rose out_rose answer none (ranged r wanted are e) = subst (CauseIn s texts files_rose out_rose) (sym e) (has_ranges r none wanted are)
+        at_best_cause files_rose out_rose answer none (unranged fault wanted fails unlimited e) = subst (CauseIn s texts files_rose out_rose) (sym e) (lacks_ranges fault none wanted fails unlimited)
+        at_best_cause files_rose out_rose answer none (ranges_unwritten r fault wanted are failed e) =
+            subst (CauseIn s texts files_rose out_rose) (sym e) (unwritten_cause s texts files_rose out_rose (Ranges c r) fault (has_ranges r none wanted are) failed)
 
-        pub behind_written : (files_rose out_rose : Type 0) (old new : Outside) (answer : Answer) → IsEndBehind b.fault c files_rose out_rose answer → ThenLine (extent_of answer) (line_of answer) old new (pieces_of b.pieces.items) → RestWritten (Verdict c) s texts old new answer
+        pub behind_cause : (files_rose out_rose : Type 0) (answer : Answer) → IsEndBehind p s b.fault c files_rose out_rose answer → CauseIn s texts files_rose out_rose answer
+        behind_cause files_rose out_rose answer (at_best none e) = at_best_cause files_rose out_rose answer none e
+        behind_cause files_rose out_rose answer (at_fault fault there e) = subst (CauseIn s texts files_rose out_rose) (sym e) (best, (ended (Some fault) there c.point refl best_point).0)
+        behind_cause files_rose out_rose answer (unwritten fault failed e) = subst (CauseIn s texts files_rose out_rose) (sym e) (unwritten_cause s texts files_rose out_rose (Verdict c) fault proved failed)
+
+        at_best_reached : (files_rose out_rose : Type 0) (answer : Answer) → IsEndAtBest p s c files_rose out_rose answer → ComesTo (Verdict c) (reached_of answer)
+        at_best_reached files_rose out_rose answer (without_ranges plain e) = same (ap reached_of e)
+        at_best_reached files_rose out_rose answer (ranged r wanted are e) = to_ranges c r refl (ap reached_of e)
+        at_best_reached files_rose out_rose answer (unranged fault wanted fails unlimited e) = same (ap reached_of e)
+        at_best_reached files_rose out_rose answer (ranges_unwritten r fault wanted are failed e) = to_ranges c r refl (ap reached_of e ∙ reached_unwritten (Ranges c r) fault)
+
+        end_reached : (files_rose out_rose : Type 0) (answer : Answer) → IsEndBehind p s b.fault c files_rose out_rose answer → ComesTo (Verdict c) (reached_of answer)
+        end_reached files_rose out_rose answer (at_best none e) = at_best_reached files_rose out_rose answer e
+        end_reached files_rose out_rose answer (at_fault fault there e) = same (ap reached_of e)
+        end_reached files_rose out_rose answer (unwritten fault failed e) = same (ap reached_of e ∙ reached_unwritten (Verdict c) fault)
+
+        -- the pieces behind `solve`, and those of ranges
+        behind_pieces : (last : Reached) → ComesTo (Verdict c) last → pieces_of b.pieces.items ++ range_pieces s.task last ≡ (behind_of s.task (meaning_in s subject.text subject.data_texts subject.tables).behind last).pieces
+        behind_pieces last (same e) =
+            subst (λ q. pieces_of b.pieces.items ++ range_pieces s.task q ≡ (behind_of s.task (meaning_in s subject.text subject.data_texts subject.tables).behind q).pieces) (sym e)
+            (append-nil (pieces_of b.pieces.items) ∙ ap (λ (r : Behind). r.pieces) (sym (comes_to c.point refl best_point)))
+        behind_pieces last (to_ranges d r from to) =
+            subst (λ q. pieces_of b.pieces.items ++ range_pieces s.task q ≡ (behind_of s.task (meaning_in s subject.text subject.data_texts subject.tables).behind q).pieces) (sym to)
+            (subst (λ (k : Certificate). pieces_of b.pieces.items ++ range_pieces s.task (Ranges k r) ≡ (behind_of s.task (meaning_in s subject.text subject.data_texts subject.tables).behind (Ranges k r)).pieces) (verdict_same from)
+            (ap (λ (k : Behind). k.pieces ++ saved_in (ranges_file s.task) (ranges_text r)) (sym (comes_to c.point refl best_point))))
+          where
+            verdict_same : {k l : Certificate} → Verdict k ≡ Verdict l → k ≡ l
+            verdict_same e = cc
+
+        pub behind_written : (files_rose out_rose : Type 0) (old new : Outside) (answer : Answer) → IsEndBehind p s b.fault c files_rose out_rose answer → ThenLine (extent_of answer) (line_of answer) old new (pieces_of b.pieces.items ++ range_pieces s.task (reached_of answer)) → RestWritten (Verdict c) s texts old new answer
         behind_written files_rose out_rose old new answer k line = record {
           meaning = meaning_in s subject.text subject.data_texts subject.tables;
           means = subject.means;
           is_reached = end_reached files_rose out_rose answer k;
-          has = subst (λ (r : Behind). ThenLine (extent_of answer) (line_of answer) old new r.pieces) (sym (comes_to c.point refl best_point)) line;
+          has = subst (ThenLine (extent_of answer) (line_of answer) old new) (behind_pieces (reached_of answer) (end_reached files_rose out_rose answer k)) line;
         }
 
 -- ---- the end behind `solve`
 
-best_line : (fault : Option ModelFault) (c : Certificate) (ps : List Piece) (old middle : Outside) (taken : Option (List ℕ)) → AllWritten ps old middle → AppendsPrefix middle.taken taken (line_of (best_answer fault c))
-    → ThenLine (extent_of (best_answer fault c)) (line_of (best_answer fault c)) old (record { taken = taken; told = middle.told }) ps
-best_line None c ps old middle taken all line = (middle, all, (line, λ name. refl))
-best_line (Some fault) c ps old middle taken all line = (middle, all, (line, λ name. refl))
+-- behind a verdict nothing of ranges is written
+pub no_ranges : (task : Task) (last : Reached) (c : Certificate) (ps : List Piece) → last ≡ Verdict c → ps ≡ ps ++ range_pieces task last
+no_ranges task last c ps e = subst (λ q. ps ≡ ps ++ range_pieces task q) (sym e) (sym (append-nil ps))
 
-pub ended_line : (fault : Option ModelFault) (c : Certificate) (ps : List Piece) (old middle : Outside) (taken : Option (List ℕ)) (answer : Answer) → answer ≡ best_answer fault c → AllWritten ps old middle → AppendsPrefix middle.taken taken (line_of answer)
+pub unended_line : (r : Reached) (fault : PublishFault) (ps : List Piece) (old middle : Outside) (taken : Option (List ℕ)) (made answer : Answer) → made ≡ unwritten_answer r fault → answer ≡ made → EndsWriting {T = Unit {0}} ps old middle (Err fault) → TellsBehind fault middle.taken taken made
     → ThenLine (extent_of answer) (line_of answer) old (record { taken = taken; told = middle.told }) ps
-ended_line fault c ps old middle taken answer is all line =
-    subst (λ a. ThenLine (extent_of a) (line_of a) old (record { taken = taken; told = middle.told }) ps) (sym is) (best_line fault c ps old middle taken all (subst (λ a. AppendsPrefix middle.taken taken (line_of a)) is line))
-
-pub unended_line : (c : Certificate) (fault : PublishFault) (ps : List Piece) (old middle : Outside) (taken : Option (List ℕ)) (made answer : Answer) → made ≡ unwritten_answer (Verdict c) fault → answer ≡ made → EndsWriting {T = Unit {0}} ps old middle (Err fault) → TellsBehind fault middle.taken taken made
-    → ThenLine (extent_of answer) (line_of answer) old (record { taken = taken; told = middle.told }) ps
-unended_line c fault ps old middle taken made answer means told_is ends line =
-    subst (λ a. ThenLine (extent_of a) (line_of a) old (record { taken = taken; told = middle.told }) ps) (sym (told_is ∙ means)) (unwritten_line (Verdict c) fault ps old middle taken ends (subst (TellsBehind fault middle.taken taken) means line))
+unended_line r fault ps old middle taken made answer means told_is ends line =
+    subst (λ a. ThenLine (extent_of a) (line_of a) old (record { taken = taken; told = middle.told }) ps) (sym (told_is ∙ means)) (unwritten_line r fault ps old middle taken ends (subst (TellsBehind fault middle.taken taken) means line))

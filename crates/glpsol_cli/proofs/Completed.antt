@@ -14,14 +14,16 @@ use Rattle.branch_search.specs.Faults.{IsStuckAt, IsRunTooLong, IsOutOfSplits}
 use Rattle.branch_search.specs.WholeFaults.{IsWanted, searched}
 use Rattle.branch_search.specs.declared.whole_fault.Wanted.{Wanted}
 use Rattle.worked_problems.specs.Unhindered.{IsUnhindered, AreUnhindered}
+use Rattle.verdicts.specs.Certificate.{Certificate}
+use Rattle.exact_ranges.specs.declared.fault.RangeFault.{RangeFault}
 use Rattle.mps_reader.specs.FreeMps.{declared}
 use Rattle.outside.specs.Told.{Has}
 use Rattle.command_line.proofs.Laws.{plain_settings, plain_words}
 use Rattle.command_line.specs.declared.settings.Settings.{Settings}
-use Rattle.glpsol_cli.specs.Asked.{ToldNames, names_checked, wants_subset}
+use Rattle.glpsol_cli.specs.Asked.{ToldNames, names_checked, wants_linear, wants_ranges, wants_subset}
 use Rattle.glpsol_cli.specs.Meaning.{Meaning, end_of, IsAsked, meaning_of}
-use Rattle.glpsol_cli.specs.Cause.{OfSearch, IsOverflow, IsUndecided}
-use Rattle.glpsol_cli.specs.Complete.{IsComplete}
+use Rattle.glpsol_cli.specs.Cause.{OfSearch, IsOverflow, IsUndecided, LacksRanges}
+use Rattle.glpsol_cli.specs.Complete.{IsComplete, IsWantOfMemory}
 use Rattle.glpsol_cli.specs.WorkedExample.{example_words}
 use Rattle.glpsol_cli.proofs.Reports.{declared_same}
 use Rattle.glpsol_cli.specs.declared.answer.Limit.{Limit}
@@ -44,8 +46,18 @@ module _ (text : List ℕ) (p : Problem) (count : ℕ) (declares : declared text
       no_truth : false ≡ true → ⊥
       no_truth e = cc
 
-  linear : wants_subset plain_settings.task ≡ true → NoneInteger p.columns
+  -- and no ranges
+  no_ranges : wants_ranges plain_settings.task ≡ true → ⊥
+  no_ranges e = no_truth e
+    where
+      no_truth : false ≡ true → ⊥
+      no_truth e = cc
+
+  linear : wants_linear plain_settings.task ≡ true → NoneInteger p.columns
   linear e = absurd (none_wanted e)
+
+  ranged : (fault : RangeFault) (c : Certificate) → LacksRanges fault c plain_settings (text ∷ []) → IsWantOfMemory fault
+  ranged fault c h = absurd (no_ranges h.wanted)
 
   fits : (at : OverflowSite) (e : NoFit) → ¬ (IsOverflow at e plain_settings (text ∷ []))
   fits (AtNode wanted node) e h =
@@ -95,6 +107,7 @@ module _ (text : List ℕ) (p : Problem) (count : ℕ) (declares : declared text
     linear = linear;
     fits = fits;
     ends = ends;
+    ranged = ranged;
     behind = behind;
     files_held = files_held;
     out_held = out_held;

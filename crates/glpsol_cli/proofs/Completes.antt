@@ -19,6 +19,8 @@ use Rattle.cert_check.specs.declared.part.Part.{Part}
 use Rattle.glpsol_cli.specs.declared.answer.TextFault.{TextFault}
 use Rattle.branch_search.specs.Plain.{NoneInteger}
 use Rattle.infeasible_subset.specs.declared.witness.Subset.{Subset as FoundSubset}
+use Rattle.exact_ranges.specs.Ranges.{AllRanges}
+use Rattle.exact_ranges.specs.declared.fault.RangeFault.{RangeFault}
 use Rattle.outside.specs.Told.{Has, Lacks}
 use Rattle.command_line.specs.Meaning.{settings_of}
 use Rattle.command_line.specs.declared.settings.Settings.{Settings}
@@ -28,16 +30,16 @@ use Rattle.glpsol_cli.specs.Asked.{ToldNames, AreTexts, IsInTurn, IsTextOf, Solv
 use Rattle.glpsol_cli.specs.Pieces.{told_behind}
 use Rattle.glpsol_cli.specs.Meaning.{Declared, Faulty, Wanting, Meaning, end_in, ends_in, files_behind, meaning_in, meaning_of, IsAsked, IsRefused}
 use Rattle.glpsol_cli.specs.Texts.{AreTables, IsTableInTurn, OfFile, OfTexts}
-use Rattle.glpsol_cli.specs.Cause.{Cause, EndsBehind, HasSubset, IsNotLinear, OfCertificate, IsAccepted, IsNoCertificate, IsRefusedAt, IsCheckOverflow, IsUndecided, IsTranslated, IsProved, IsOverflow, RoseAt}
+use Rattle.glpsol_cli.specs.Cause.{Cause, EndsBehind, EndsWithoutRanges, HasRanges, HasSubset, LacksRanges, IsNotLinear, OfCertificate, IsAccepted, IsNoCertificate, IsRefusedAt, IsCheckOverflow, IsUndecided, IsTranslated, IsProved, IsOverflow, RoseAt}
 use Rattle.glpsol_cli.specs.Complete.{AreTablesTold, AreTold, IsComplete, IsTableTold, IsToldShort, IsVerdictOrNoMemory, IsRecheck, IsAcceptedOrFault}
 use Rattle.glpsol_cli.specs.declared.answer.Answer.{Answer}
-use Rattle.glpsol_cli.specs.declared.answer.Answer.TheVariants.{Optimal, Infeasible, Irreducible, Unbounded, Translated, Accepted, Usage, Missing, OpenFault, ReadFault, WriteFault, TooLong, BadText, FaultBehindSolve, BadCertificate, NotLinear, Overflow, Undecided, Refused, NoMemory}
+use Rattle.glpsol_cli.specs.declared.answer.Answer.TheVariants.{Optimal, Ranged, Infeasible, Irreducible, Unbounded, Translated, Accepted, Usage, Missing, OpenFault, ReadFault, WriteFault, TooLong, BadText, FaultBehindSolve, Unranged, BadCertificate, NotLinear, Overflow, Undecided, Refused, NoMemory}
 use Rattle.glpsol_cli.specs.declared.answer.Limit.{Limit}
 use Rattle.glpsol_cli.specs.declared.answer.Limit.TheVariants.{Pivots, Splits, SubsetPivots}
 use Rattle.glpsol_cli.specs.declared.answer.OverflowSite.TheVariants.{AtNode, InPart, InSubset}
 use Rattle.glpsol_cli.specs.declared.answer.OverflowSite.{OverflowSite}
 use Rattle.glpsol_cli.specs.declared.answer.Reached.{Reached}
-use Rattle.glpsol_cli.specs.declared.answer.Reached.TheVariants.{Nothing, Executed, Size, Acceptance, Verdict as VerdictReached, Subset as SubsetReached}
+use Rattle.glpsol_cli.specs.declared.answer.Reached.TheVariants.{Nothing, Executed, Size, Acceptance, Verdict as VerdictReached, Subset as SubsetReached, Ranges as RangesReached}
 use Rattle.glpsol_cli.specs.declared.answer.Target.{Target}
 use Rattle.glpsol_cli.specs.declared.answer.Target.TheVariants.{Out, File}
 use Rattle.glpsol_cli.proofs.Reports.{declared_same}
@@ -185,6 +187,7 @@ module _ (words : List (List ℕ)) (told : ToldNames) (settings : Settings) (tex
   file_told name (Acceptance c) P h = absurd h
   file_told name (VerdictReached c) P h = absurd h
   file_told name (SubsetReached c w) P h = absurd h
+  file_told name (RangesReached c r) P h = absurd h
 
   not_missing : (name : List ℕ) (r : Reached) → OfFile words told name r (λ now. (text : List ℕ) → Has now text → ⊥) → ⊥
   not_missing name r h = let found = file_told name r (λ now. (text : List ℕ) → Has now text → ⊥) h in found.said.first found.text found.said.second.0
@@ -248,6 +251,15 @@ not_linear_over s ts h = declared_over s ts h.problem h.asked
 behind_over : (fault : Option ModelFault) (c : Certificate) (s : Settings) (ts : List (List ℕ)) → EndsBehind fault c s ts → IsOver s ts
 behind_over fault c s ts h = proved_over c s ts h.proved
 
+without_ranges_over : (c : Certificate) (s : Settings) (ts : List (List ℕ)) → EndsWithoutRanges c s ts → IsOver s ts
+without_ranges_over c s ts h = behind_over None c s ts h.ends
+
+ranges_over : (c : Certificate) (r : AllRanges) (s : Settings) (ts : List (List ℕ)) → HasRanges c r s ts → IsOver s ts
+ranges_over c r s ts h = behind_over None c s ts h.ends
+
+lacks_over : (fault : RangeFault) (c : Certificate) (s : Settings) (ts : List (List ℕ)) → LacksRanges fault c s ts → IsOver s ts
+lacks_over fault c s ts h = behind_over None c s ts h.ends
+
 overflow_over : (at : OverflowSite) (e : NoFit) (s : Settings) (ts : List (List ℕ)) → IsOverflow at e s ts → IsOver s ts
 overflow_over (AtNode wanted node) e s ts h = declared_over s ts h.problem h.asked
 overflow_over (InPart part) e s ts h = declared_over s ts h.problem h.asked
@@ -287,6 +299,7 @@ module _ (words : List (List ℕ)) (told : ToldNames) (files_rose out_rose : Typ
 
   pub complete : (answer : Answer) → Cause words told files_rose out_rose answer → IsVerdictOrNoMemory answer
   complete (Optimal c) h = tt
+  complete (Ranged c r) h = tt
   complete (Infeasible c) h = tt
   complete (Irreducible c w) h = tt
   complete (Unbounded c) h = tt
@@ -300,6 +313,7 @@ module _ (words : List (List ℕ)) (told : ToldNames) (files_rose out_rose : Typ
   complete (TooLong name r) h = not_long words told k.settings k.texts k.tables k.asks k.has k.tables_told over name r h
   complete (BadText fault) h = not_refused words told k.settings k.texts k.tables k.asks k.has k.tables_told over k.problem fault k.asked (said (IsRefused fault) (refused_over fault) h)
   complete (FaultBehindSolve fault c) h = no_fault_behind fault c h.0 (said (EndsBehind (Some fault) c) (behind_over (Some fault) c) h.1)
+  complete (Unranged fault c) h = k.ranged fault c (said (LacksRanges fault c) (lacks_over fault c) h)
   complete (BadCertificate fault) h = checks_none (IsNoCertificate fault) h
   complete NotLinear h = all_linear (said IsNotLinear not_linear_over h)
   complete (Overflow at e) h = k.fits at e (said (IsOverflow at e) (overflow_over at e) h)
@@ -406,7 +420,8 @@ module _ (c : Certificate) (again : List (List ℕ)) (told : ToldNames) (files_r
   overflow_where (InPart part) e h = overflows part e (of_text (IsCheckOverflow part e) h)
 
   pub rechecked : (answer : Answer) → Cause again told files_rose out_rose answer → IsAcceptedOrFault answer
-  rechecked (Optimal d) h = (says (EndsBehind None d) (behind_over None d) h.1).proved.solves
+  rechecked (Optimal d) h = (says (EndsWithoutRanges d) (without_ranges_over d) h.1).ends.proved.solves
+  rechecked (Ranged d r) h = (says (HasRanges d r) (ranges_over d r) h).ends.proved.solves
   rechecked (Infeasible d) h = (says (IsProved d) (proved_over d) h.1).solves
   rechecked (Irreducible d w) h = (says (HasSubset d w) (subset_over d w) h).proved.solves
   rechecked (Unbounded d) h = (says (IsProved d) (proved_over d) h.1).solves
@@ -420,6 +435,7 @@ module _ (c : Certificate) (again : List (List ℕ)) (told : ToldNames) (files_r
   rechecked (TooLong name r) h = not_long again told (record k.settings { task = CheckCertificate k.name k.migrated }) (k.texts ++ certificate_text c ∷ []) k.tables k.asks k.has k.tables_told over_again name r h
   rechecked (BadText fault) h = not_refused again told (record k.settings { task = CheckCertificate k.name k.migrated }) (k.texts ++ certificate_text c ∷ []) k.tables k.asks k.has k.tables_told over_again k.found.problem fault asked (says (IsRefused fault) (refused_over fault) h)
   rechecked (FaultBehindSolve fault d) h = (says (EndsBehind (Some fault) d) (behind_over (Some fault) d) h.1).proved.solves
+  rechecked (Unranged fault d) h = (says (LacksRanges fault d) (lacks_over fault d) h).ends.proved.solves
   rechecked (BadCertificate fault) h = bad_text fault (of_text (IsNoCertificate fault) (says (OfCertificate (IsNoCertificate fault)) (certificate_over (IsNoCertificate fault)) h))
   rechecked NotLinear h = (says IsNotLinear not_linear_over h).solves
   rechecked (Overflow at e) h = overflow_where at e (says (IsOverflow at e) (overflow_over at e) h)

@@ -17,7 +17,7 @@ use Rattle.glpsol_cli.specs.Together.{CauseIn}
 use Rattle.glpsol_cli.specs.declared.answer.Answer.{Answer}
 use Rattle.glpsol_cli.specs.declared.answer.Answer.TheVariants.{NoMemory}
 use Rattle.glpsol_cli.specs.declared.answer.Reached.{Reached}
-use Rattle.glpsol_cli.specs.declared.answer.Reached.TheVariants.{Nothing, Executed, Size, Acceptance, Verdict, Subset}
+use Rattle.glpsol_cli.specs.declared.answer.Reached.TheVariants.{Nothing, Executed, Size, Acceptance, Verdict, Subset, Ranges}
 use Rattle.glpsol_cli.specs.declared.answer.Target.TheVariants.{Out}
 use Rattle.glpsol_cli.specs.declared.execution.Executed.{Executed as ExecutedHeld}
 use Rattle.glpsol_cli.specs.declared.execution.Halt.{Halt}
@@ -178,6 +178,7 @@ pieces_also words told Size P Q f h = of_texts words told (HasFound Size Q) (Has
 pieces_also words told (Acceptance c) P Q f h = of_texts words told (HasFound (Acceptance c) Q) (HasFound (Acceptance c) P) (λ s texts d. record { meaning = d.meaning; means = d.means; problem = d.problem; end = d.end; found = d.found; are = d.are; has = f _ d.has }) h
 pieces_also words told (Verdict c) P Q f h = of_texts words told (HasFound (Verdict c) Q) (HasFound (Verdict c) P) (λ s texts d. record { meaning = d.meaning; means = d.means; problem = d.problem; end = d.end; found = d.found; are = d.are; has = f _ d.has }) h
 pieces_also words told (Subset c w) P Q f h = of_texts words told (HasFound (Subset c w) Q) (HasFound (Subset c w) P) (λ s texts d. record { meaning = d.meaning; means = d.means; problem = d.problem; end = d.end; found = d.found; are = d.are; has = f _ d.has }) h
+pieces_also words told (Ranges c r) P Q f h = of_texts words told (HasFound (Ranges c r) Q) (HasFound (Ranges c r) P) (λ s texts d. record { meaning = d.meaning; means = d.means; problem = d.problem; end = d.end; found = d.found; are = d.are; has = f _ d.has }) h
 
 pub written_from_start : (words : List (List ℕ)) (taken : Option (List ℕ)) (told told' : ToldNames) (new : Outside) (answer : Answer) → SameNames told told' → WrittenSince words told (record { taken = taken; told = told' }) new answer → Written words (record { taken = taken; told = told }) new answer
 written_from_start words taken told told' new answer same h =

@@ -1,6 +1,7 @@
 pub mod Follow
 pub mod Writing
 pub mod Parts
+pub mod RangedEnds
 pub mod Left
 pub mod Runs
 pub mod Answers

@@ -6,12 +6,13 @@ use Rattle.command_line.specs.declared.settings.Settings.{Settings}
 use Rattle.glpsol_cli.specs.Asked.{ToldNames}
 use Rattle.glpsol_cli.specs.Cause.{Cause, IsNotByPivots}
 use Rattle.glpsol_cli.specs.declared.answer.Answer.{Answer}
-use Rattle.glpsol_cli.specs.declared.answer.Answer.TheVariants.{Optimal, Infeasible, Irreducible, Unbounded, Translated, Accepted, Usage, Missing, OpenFault, ReadFault, WriteFault, TooLong, BadText, FaultBehindSolve, BadCertificate, NotLinear, Overflow, Undecided, Refused, NoMemory}
+use Rattle.glpsol_cli.specs.declared.answer.Answer.TheVariants.{Optimal, Ranged, Infeasible, Irreducible, Unbounded, Translated, Accepted, Usage, Missing, OpenFault, ReadFault, WriteFault, TooLong, BadText, FaultBehindSolve, Unranged, BadCertificate, NotLinear, Overflow, Undecided, Refused, NoMemory}
 use Rattle.glpsol_cli.specs.declared.answer.Limit.TheVariants.{Pivots, Splits, SubsetPivots}
 
 pub unlimited : (words : List (List ℕ)) (told : ToldNames) (s : Settings) → settings_of words ≡ Some s → s.pivot_limit ≡ 0 → (files_rose out_rose : Type 0) (answer : Answer)
     → Cause words told files_rose out_rose answer → IsNotByPivots answer
 unlimited words told s asks none files_rose out_rose (Optimal c) h = tt
+unlimited words told s asks none files_rose out_rose (Ranged c r) h = tt
 unlimited words told s asks none files_rose out_rose (Infeasible c) h = tt
 unlimited words told s asks none files_rose out_rose (Irreducible c w) h = tt
 unlimited words told s asks none files_rose out_rose (Unbounded c) h = tt
@@ -25,6 +26,7 @@ unlimited words told s asks none files_rose out_rose (WriteFault target reached)
 unlimited words told s asks none files_rose out_rose (TooLong name reached) h = tt
 unlimited words told s asks none files_rose out_rose (BadText fault) h = tt
 unlimited words told s asks none files_rose out_rose (FaultBehindSolve fault c) h = tt
+unlimited words told s asks none files_rose out_rose (Unranged fault c) h = h.has.unlimited (ap (λ settings. settings.pivot_limit) (same_Some h.settings s (sym h.asks ∙ asks)) ∙ none)
 unlimited words told s asks none files_rose out_rose (BadCertificate fault) h = tt
 unlimited words told s asks none files_rose out_rose NotLinear h = tt
 unlimited words told s asks none files_rose out_rose (Overflow at fault) h = tt

@@ -20,8 +20,7 @@ use Rattle.std.specs.Option.{option_map}
 use Rattle.command_line.specs.declared.settings.Settings.{Settings}
 use Rattle.command_line.specs.declared.settings.Task.{Task}
 use Rattle.glpsol_cli.specs.Pieces.{Piece}
-use Rattle.glpsol_cli.specs.Asked.{wants_subset}
-use Rattle.glpsol_cli.specs.Meaning.{Declared, IsAsked, accepted_pieces, found_pieces, lacks_subset, printed, solved_pieces, whole_report}
+use Rattle.glpsol_cli.specs.Meaning.{Declared, IsAsked, accepted_pieces, found_pieces, printed, solved_pieces, whole_report}
 use Rattle.glpsol_cli.specs.Stages.{IsFinding, IsShown, reached_by}
 use Rattle.glpsol_cli.specs.declared.found.Finding.{Finding}
 use Rattle.glpsol_cli.specs.declared.found.Finding.TheVariants.{Size, Acceptance as AcceptanceFound, Verdict as VerdictFound, Subset as SubsetFound}

@@ -8,19 +8,18 @@ use Rattle.outside.specs.declared.store.LoadFault.{LoadFault}
 use Rattle.outside.specs.declared.store.LoadFault.TheVariants.{Missing as LoadMissing, Open, Read, TooLong as LoadTooLong, NoMemory as LoadNoMemory}
 use Rattle.command_line.specs.declared.settings.Settings.{Settings}
 use Rattle.command_line.specs.declared.settings.WordsFault.TheVariants.{Usage as WordsUsage, NoMemory as WordsNoMemory}
-use Rattle.verdicts.specs.Certificate.{Certificate}
 use Rattle.glpsol_cli.specs.Asked.{ToldNames}
 use Rattle.glpsol_cli.specs.Pieces.{Piece, Outside, AllWritten, IsWrittenInPart, SameNames, told_behind}
-use Rattle.glpsol_cli.specs.Meaning.{HasDone, HasFound, Meaning, files_by, made_in, meaning_in}
+use Rattle.glpsol_cli.specs.Meaning.{HasDone, Meaning, files_by, made_in, meaning_in}
 use Rattle.glpsol_cli.specs.Texts.{IsTableInTurn, OfTexts}
 use Rattle.glpsol_cli.specs.Cause.{reached_of}
 use Rattle.glpsol_cli.specs.Written.{ThenLine, extent_of, line_of}
 use Rattle.glpsol_cli.specs.Together.{CauseIn, CauseBy, IsOfOneText, IsStory, OnceExecuted, PiecesIn, Tells, VerdictBy}
 use Rattle.glpsol_cli.specs.Stages.{EndsWriting, IsHaltOrUnread, IsUnread, IsUnwritten, IsWhole, LeftWritten, Moment, TellsBehind, stop_answer, unread_answer, unwritten_answer}
 use Rattle.glpsol_cli.specs.declared.answer.Answer.{Answer}
-use Rattle.glpsol_cli.specs.declared.answer.Answer.TheVariants.{Optimal, Infeasible, Irreducible, Unbounded, Translated, Accepted, Usage, Missing, OpenFault, ReadFault, WriteFault, TooLong, BadText, FaultBehindSolve, BadCertificate, NotLinear, Overflow, Undecided, Refused, NoMemory}
+use Rattle.glpsol_cli.specs.declared.answer.Answer.TheVariants.{Optimal, Ranged, Infeasible, Irreducible, Unbounded, Translated, Accepted, Usage, Missing, OpenFault, ReadFault, WriteFault, TooLong, BadText, FaultBehindSolve, Unranged, BadCertificate, NotLinear, Overflow, Undecided, Refused, NoMemory}
 use Rattle.glpsol_cli.specs.declared.answer.Reached.{Reached}
-use Rattle.glpsol_cli.specs.declared.answer.Reached.TheVariants.{Nothing, Executed, Size, Acceptance, Verdict, Subset}
+use Rattle.glpsol_cli.specs.declared.answer.Reached.TheVariants.{Nothing, Executed, Size, Acceptance, Verdict, Subset, Ranges}
 use Rattle.glpsol_cli.specs.declared.answer.Target.TheVariants.{Out}
 use Rattle.glpsol_cli.specs.declared.execution.Halt.{Halt}
 use Rattle.glpsol_cli.specs.declared.execution.Halt.TheVariants.{Unread}
@@ -32,7 +31,7 @@ use Rattle.glpsol_cli.proofs.Answers.{cause_within, of_texts}
 use Rattle.glpsol_cli.proofs.Carried.{left_in, reached_unwritten, unwritten_cause, unwritten_line}
 use Rattle.glpsol_cli.proofs.Follow.{rose_within}
 use Rattle.glpsol_cli.proofs.Parts.{means_of, of_read, unread_of_less}
-use Rattle.glpsol_cli.proofs.Verdicts.{AreRight, best, irreducible, no_point, ray}
+use Rattle.glpsol_cli.proofs.Verdicts.{AreRight, best, best_ranges, irreducible, no_point, ray}
 use Rattle.glpsol_cli.proofs.Writing.{all_some, failed_within, line_after, line_from}
 
 -- ---- once texts were executed
@@ -44,6 +43,7 @@ once Size P h = h
 once (Acceptance c) P h = h
 once (Verdict c) P h = h
 once (Subset c w) P h = h
+once (Ranges c r) P h = h
 
 once_also : (r : Reached) (P Q : Type 0) → (P → Q) → OnceExecuted r P → OnceExecuted r Q
 once_also Nothing P Q f h = tt
@@ -52,9 +52,11 @@ once_also Size P Q f h = f h
 once_also (Acceptance c) P Q f h = f h
 once_also (Verdict c) P Q f h = f h
 once_also (Subset c w) P Q f h = f h
+once_also (Ranges c r) P Q f h = f h
 
 cause_by : (told : ToldNames) (files_rose out_rose : Type 0) (answer : Answer) (s : Settings) (texts : List (List ℕ)) → CauseIn s texts files_rose out_rose answer → CauseBy told files_rose out_rose answer s texts
 cause_by told files_rose out_rose (Optimal c) s texts h = h
+cause_by told files_rose out_rose (Ranged c r) s texts h = h
 cause_by told files_rose out_rose (Infeasible c) s texts h = h
 cause_by told files_rose out_rose (Irreducible c w) s texts h = h
 cause_by told files_rose out_rose (Unbounded c) s texts h = h
@@ -68,6 +70,7 @@ cause_by told files_rose out_rose (WriteFault target r) s texts h = h
 cause_by told files_rose out_rose (TooLong name r) s texts h = absurd h
 cause_by told files_rose out_rose (BadText fault) s texts h = h
 cause_by told files_rose out_rose (FaultBehindSolve fault c) s texts h = h
+cause_by told files_rose out_rose (Unranged fault c) s texts h = h
 cause_by told files_rose out_rose (BadCertificate fault) s texts h = h
 cause_by told files_rose out_rose NotLinear s texts h = h
 cause_by told files_rose out_rose (Overflow at e) s texts h = h
@@ -83,6 +86,7 @@ pieces_also s texts Size P Q f h = record { meaning = h.meaning; means = h.means
 pieces_also s texts (Acceptance c) P Q f h = record { meaning = h.meaning; means = h.means; problem = h.problem; end = h.end; found = h.found; are = h.are; has = f _ h.has }
 pieces_also s texts (Verdict c) P Q f h = record { meaning = h.meaning; means = h.means; problem = h.problem; end = h.end; found = h.found; are = h.are; has = f _ h.has }
 pieces_also s texts (Subset c w) P Q f h = record { meaning = h.meaning; means = h.means; problem = h.problem; end = h.end; found = h.found; are = h.are; has = f _ h.has }
+pieces_also s texts (Ranges c r) P Q f h = record { meaning = h.meaning; means = h.means; problem = h.problem; end = h.end; found = h.found; are = h.are; has = f _ h.has }
 
 -- ---- stops, before anything is executed
 
@@ -198,7 +202,8 @@ tells_from_start words taken told told' new files_rose out_rose answer same h =
 
 module _ (words : List (List ℕ)) (old new : Outside) (files_rose out_rose : Type 0) (right : AreRight) where
   verdict_by : (answer : Answer) (s : Settings) (texts : List (List ℕ)) → CauseBy old.told files_rose out_rose answer s texts → VerdictBy answer s texts
-  verdict_by (Optimal c) s texts h = best words old.told c right s texts h.0 h.1.proved
+  verdict_by (Optimal c) s texts h = best words old.told c right s texts h.0 h.1.ends.proved
+  verdict_by (Ranged c r) s texts h = best_ranges words old.told c r right s texts h
   verdict_by (Infeasible c) s texts h = no_point words old.told c right s texts h.0 h.1
   verdict_by (Irreducible c w) s texts h = irreducible words old.told c w right s texts h
   verdict_by (Unbounded c) s texts h = ray words old.told c right s texts h.0 h.1
@@ -212,6 +217,7 @@ module _ (words : List (List ℕ)) (old new : Outside) (files_rose out_rose : Ty
   verdict_by (TooLong name r) s texts h = tt
   verdict_by (BadText fault) s texts h = tt
   verdict_by (FaultBehindSolve fault c) s texts h = best words old.told c right s texts h.0 h.1.proved
+  verdict_by (Unranged fault c) s texts h = best words old.told c right s texts h.best h.ends.proved
   verdict_by (BadCertificate fault) s texts h = tt
   verdict_by NotLinear s texts h = tt
   verdict_by (Overflow at e) s texts h = tt

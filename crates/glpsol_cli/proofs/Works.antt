@@ -11,6 +11,8 @@ use Rattle.gmpl_reader.specs.declared.read.Pending.{Pending}
 use Rattle.gmpl_reader.specs.declared.read.Reading.{Reading}
 use Rattle.gmpl_reader.specs.declared.read.ReadingEnd.{ReadingEnd}
 use Rattle.gmpl_reader.specs.declared.read.ReadingEnd.TheVariants as reading_end
+use Rattle.verdicts.specs.Certificate.{Certificate, Verdict, Optimal, Infeasible, Unbounded}
+use Rattle.branch_search.specs.Plain.{NoneInteger, IsPlainCertificate}
 use Rattle.row_splits.specs.Searched.{IsFaultOf}
 use Rattle.branch_search.specs.declared.whole_fault.VerdictFault.{VerdictFault}
 use Rattle.branch_search.specs.declared.whole_fault.VerdictFault.TheVariants.{NoFit as SearchNoFit, PivotLimit, SplitLimit, NoMemory as SearchNoMemory}
@@ -24,7 +26,7 @@ use Rattle.command_line.specs.declared.settings.Task.TheVariants.{Solve, CheckCe
 use Rattle.glpsol_cli.specs.Asked.{Checks, Solves, IsSolve, names_checked, names_read, splits_rows, wants_subset}
 use Rattle.glpsol_cli.specs.Meaning.{Declared, Faulty, Wanting, IsAsked, asked_of, directed, end_of_ending, ends_in, file_piece, file_pieces, files_by, lacks_subset, made_in, relaxed, shown_by}
 use Rattle.glpsol_cli.specs.Cause.{IsProved, OfCertificate, IsNoCertificate, IsRefusedAt, IsCheckOverflow}
-use Rattle.glpsol_cli.specs.Stages.{IsFinding, IsRefuted, IsSolution, IsUnfound, IsUnsolved, IsExecution, IsExecutionOf, IsHalt, IsOfReading, IsOfReadingEnd, IsCheckStop, OfNext}
+use Rattle.glpsol_cli.specs.Stages.{IsFinding, IsRangeable, IsRefuted, IsSolution, IsUnfound, IsUnsolved, IsExecution, IsExecutionOf, IsHalt, IsOfReading, IsOfReadingEnd, IsCheckStop, OfNext}
 use Rattle.glpsol_cli.specs.declared.execution.Executed.{Executed}
 use Rattle.glpsol_cli.specs.declared.execution.ExecutionEnd.TheVariants.{Problem as AtProblem, Fault as AtFault}
 use Rattle.glpsol_cli.specs.declared.execution.Halt.{Halt}
@@ -132,37 +134,44 @@ module _ (s : Settings) (texts : List (List ℕ)) (p : Problem) (asks : IsAsked 
   unsearched (SplitLimit wanted board) h = record { problem = p; asked = asks; solves = solves; searches = h.0; is_searched = h.1; is_wanted = h.2.0; holds = h.2.1 }
   unsearched SearchNoMemory h = tt
 
-  module _ (wanted : Bool) (wants : wants_subset s.task ≡ wanted) where
-    abbrev refuted : (r : IsRefuted p) → IsProved r.certificate s texts
-    refuted r = record { problem = p; asked = asks; solves = solves; proves = r.proves; accepted = r.accepted }
+  abbrev refuted : (r : IsRefuted p) → IsProved r.certificate s texts
+  refuted r = record { problem = p; asked = asks; solves = solves; proves = r.proves; accepted = r.accepted }
 
-    pub unsolved : (u : Unfound) → IsUnsolved p s wanted u → IsUnfound u s texts
-    unsolved (SolveStop fault) h = unsearched fault h
-    unsolved (Check stop) h = absurd h
-    unsolved (SubsetStop (SubsetNoFit stuck)) h =
-        record { certificate = h.1.certificate; infeasible = h.1.infeasible; proved = refuted h.1; wanted = wants ∙ h.0; holds = h.2 }
-    unsolved (SubsetStop (SubsetPivotLimit long)) h =
-        record { certificate = h.1.certificate; infeasible = h.1.infeasible; proved = refuted h.1; wanted = wants ∙ h.0; holds = h.2 }
-    unsolved (SubsetStop SubsetNoMemory) h = tt
-    unsolved NotLinearStop h = record { problem = p; asked = asks; solves = solves; wanted = wants ∙ h.0; integer = h.1 }
+  pub unsolved : (u : Unfound) → IsUnsolved p s u → IsUnfound u s texts
+  unsolved (SolveStop fault) h = unsearched fault h
+  unsolved (Check stop) h = absurd h
+  unsolved (SubsetStop (SubsetNoFit stuck)) h = record { certificate = h.1.certificate; infeasible = h.1.infeasible; proved = refuted h.1; wanted = h.0; holds = h.2 }
+  unsolved (SubsetStop (SubsetPivotLimit long)) h = record { certificate = h.1.certificate; infeasible = h.1.infeasible; proved = refuted h.1; wanted = h.0; holds = h.2 }
+  unsolved (SubsetStop SubsetNoMemory) h = tt
+  unsolved NotLinearStop h = record { problem = p; asked = asks; solves = solves; wanted = h.0; integer = h.1 }
 
-    pub solution_found : (f : Finding) → IsSolution p wanted f → IsFinding p s texts f
-    solution_found SizeFound h = absurd h
-    solution_found (AcceptanceFound c) h = absurd h
-    solution_found (VerdictFound c) h = (solves, h.0, h.1, subst (λ w. lacks_subset w c.verdict ≡ false) (sym wants) h.2)
-    solution_found (SubsetFound c w) h = record {
-      proved = record { problem = p; asked = asks; solves = solves; proves = h.0; accepted = h.1 };
-      wanted = wants ∙ h.3;
-      infeasible = h.2;
-      is = h.4;
-      by_weights = h.5;
-    }
+  pub solution_found : (f : Finding) → IsSolution p s.task f → IsFinding p s texts f
+  solution_found SizeFound h = absurd h
+  solution_found (AcceptanceFound c) h = absurd h
+  solution_found (VerdictFound c) h = (solves, h.0, h.1, h.2, h.3)
+  solution_found (SubsetFound c w) h = record {
+    proved = record { problem = p; asked = asks; solves = solves; proves = h.0.0; accepted = h.0.1 };
+    wanted = h.1;
+    infeasible = h.0.2;
+    is = h.0.3;
+    by_weights = h.0.4;
+  }
 
 pub solves_by : (task : Task) (outputs : Outputs) → task ≡ Solve outputs → IsSolve task
 solves_by task outputs e = subst IsSolve (sym e) tt
 
-pub wants_by : (task : Task) (outputs : Outputs) → task ≡ Solve outputs → wants_subset task ≡ outputs.subset
-wants_by task outputs e = ap wants_subset e
+-- a certificate of one leaf, of a problem without integer columns
+pub rangeable : (p : Problem) (task : Task) (c : Certificate) → NoneInteger p.columns → IsPlainCertificate p c → IsRangeable p task c
+rangeable p task c continuous plain = λ wanted. (continuous, plain)
+
+-- where no subset is wanted
+pub no_subset : (task : Task) (c : Certificate) → wants_subset task ≡ false → lacks_subset (wants_subset task) c.verdict ≡ false
+no_subset task c e = ap (λ w. lacks_subset w c.verdict) e ∙ lacks_none c.verdict
+  where
+    lacks_none : (v : Verdict) → lacks_subset false v ≡ false
+    lacks_none Optimal = refl
+    lacks_none Infeasible = refl
+    lacks_none Unbounded = refl
 
 -- ---- checking
 

@@ -1,5 +1,5 @@
 -- What a command asks for, by its words alone, and the files that it reads.
-use Rattle.std.specs.Prelude.{◌≡◌, ◌≤◌, ℕ, Bool, false, List, [], ◌∷◌, ◌++◌, length, Some, None}
+use Rattle.std.specs.Prelude.{◌≡◌, ◌≤◌, ◌||◌, ℕ, Bool, true, false, List, [], ◌∷◌, ◌++◌, length, Some, None}
 use Rattle.std.specs.declared.option.Option.{Option}
 use Rattle.outside.specs.Told.{Lacks, Has}
 use Rattle.command_line.specs.Meaning.{settings_of}
@@ -44,6 +44,24 @@ abbrev pub wants_subset : Task → Bool
 wants_subset (Solve outputs) = outputs.subset
 wants_subset Translate = false
 wants_subset (CheckCertificate name migrated) = false
+
+-- the file of the exact ranges of costs and bounds, which are to be found at a best point
+abbrev pub ranges_file : Task → Option (List ℕ)
+ranges_file (Solve outputs) = outputs.ranges
+ranges_file Translate = None
+ranges_file (CheckCertificate name migrated) = None
+
+abbrev pub is_named : Option (List ℕ) → Bool
+is_named None = false
+is_named (Some name) = true
+
+-- exact ranges are wanted
+abbrev pub wants_ranges : Task → Bool
+wants_ranges task = is_named (ranges_file task)
+
+-- what is wanted is told of problems without integer columns alone
+abbrev pub wants_linear : Task → Bool
+wants_linear task = wants_subset task || wants_ranges task
 
 -- a search may split on rows
 abbrev pub splits_rows : Task → Bool

@@ -1,5 +1,5 @@
 -- What each answer of a run says of the words, of what is told of the files, and of the faults that rose.
-use Rattle.std.specs.Prelude.{◌≡◌, ◌<◌, ℕ, suc, true, List, [], ◌∷◌, length, slice_get, Some, None, Ok, Err}
+use Rattle.std.specs.Prelude.{◌≡◌, ◌<◌, ℕ, suc, true, false, List, [], ◌∷◌, length, slice_get, Some, None, Ok, Err}
 use Rattle.milp.specs.Problem.{Problem}
 use Rattle.milp.specs.Points.{IsOptimal, Feasible, IsUnbounded, objective_value}
 use Rattle.rational.specs.Rational.{Rational}
@@ -26,20 +26,24 @@ use Rattle.infeasible_subset.specs.Listed.{AreAmong, all_bounds}
 use Rattle.infeasible_subset.specs.Underway.{members_of, AllMeet}
 use Rattle.infeasible_subset.specs.Faults.{IsStuckAt as IsSubsetStuck, IsTooLong as IsSubsetTooLong}
 use Rattle.infeasible_subset.specs.declared.witness.Subset.{Subset as FoundSubset}
+use Rattle.exact_ranges.specs.Ranges.{AllRanges, AreCostRanges, AreBoundRanges}
+use Rattle.exact_ranges.specs.ShownBest.{best_point, best_weights}
+use Rattle.exact_ranges.specs.Faults.{IsFault as IsRangeFault, IsNotByPivots as IsRangeNotByPivots}
+use Rattle.exact_ranges.specs.declared.fault.RangeFault.{RangeFault}
 use Rattle.outside.specs.Told.{Lacks, Has}
 use Rattle.command_line.specs.Meaning.{settings_of}
 use Rattle.command_line.specs.declared.settings.Settings.{Settings}
-use Rattle.glpsol_cli.specs.Asked.{ToldNames, Solves, Translates, Checks, splits_rows, wants_subset}
+use Rattle.glpsol_cli.specs.Asked.{ToldNames, Solves, Translates, Checks, splits_rows, wants_linear, wants_ranges, wants_subset}
 use Rattle.glpsol_cli.specs.Meaning.{Meaning, IsAsked, IsRefused, HasDone, meaning_of}
 use Rattle.glpsol_cli.specs.Texts.{OfFile, OfTexts}
 use Rattle.glpsol_cli.specs.declared.answer.Answer.{Answer}
-use Rattle.glpsol_cli.specs.declared.answer.Answer.TheVariants.{Optimal, Infeasible, Irreducible, Unbounded, Translated, Accepted, Usage, Missing, OpenFault, ReadFault, WriteFault, TooLong, BadText, FaultBehindSolve, BadCertificate, NotLinear, Overflow, Undecided, Refused, NoMemory}
+use Rattle.glpsol_cli.specs.declared.answer.Answer.TheVariants.{Optimal, Ranged, Infeasible, Irreducible, Unbounded, Translated, Accepted, Usage, Missing, OpenFault, ReadFault, WriteFault, TooLong, BadText, FaultBehindSolve, Unranged, BadCertificate, NotLinear, Overflow, Undecided, Refused, NoMemory}
 use Rattle.glpsol_cli.specs.declared.answer.Limit.{Limit}
 use Rattle.glpsol_cli.specs.declared.answer.Limit.TheVariants.{Pivots, Splits, SubsetPivots}
 use Rattle.glpsol_cli.specs.declared.answer.OverflowSite.{OverflowSite}
 use Rattle.glpsol_cli.specs.declared.answer.OverflowSite.TheVariants.{AtNode, InPart, InSubset}
 use Rattle.glpsol_cli.specs.declared.answer.Reached.{Reached}
-use Rattle.glpsol_cli.specs.declared.answer.Reached.TheVariants.{Nothing, Executed, Size, Acceptance, Verdict, Subset}
+use Rattle.glpsol_cli.specs.declared.answer.Reached.TheVariants.{Nothing, Executed, Size, Acceptance, Verdict, Subset, Ranges}
 use Rattle.glpsol_cli.specs.declared.answer.Target.{Target}
 use Rattle.glpsol_cli.specs.declared.answer.Target.TheVariants.{Out, File}
 
@@ -126,6 +130,41 @@ pub record EndsBehind (fault : Option ModelFault) (c : Certificate) (s : Setting
   pub has_point : c.point ≡ Some point
   pub ends : (meaning.behind point).fault ≡ fault
 
+-- the same without a fault, where no ranges are wanted
+pub record EndsWithoutRanges (c : Certificate) (s : Settings) (texts : List (List ℕ)) : Type 0 where
+  pub ends : EndsBehind None c s texts
+  pub plain : wants_ranges s.task ≡ false
+
+-- ---- ranges
+
+-- a range for each column and each row. A number is in that of a column exactly where the point of c is best with it as the column's
+-- cost, and in that of a row's bound exactly where, with it in the bound's place, the value goes on as the weights of c promise
+pub record AreRanges (p : Problem) (c : Certificate) (r : AllRanges) : Type 0 where
+  pub each_cost : length r.costs ≡ length p.columns
+  pub costs : AreCostRanges p (best_point c) r.costs
+  pub each_row : length r.rows ≡ length p.rows
+  pub bounds : AreBoundRanges p (best_point c) (best_weights c) r.rows
+
+-- ranges are wanted, c proves that its point is best, the statements behind `solve` have no fault there, and these are the ranges
+pub record HasRanges (c : Certificate) (r : AllRanges) (s : Settings) (texts : List (List ℕ)) : Type 0 where
+  pub best : c.verdict ≡ kind.Optimal
+  pub ends : EndsBehind None c s texts
+  pub wanted : wants_ranges s.task ≡ true
+  pub are : AreRanges ends.proved.problem c r
+
+-- the same, but for this fault the ranges are not found
+pub record LacksRanges (fault : RangeFault) (c : Certificate) (s : Settings) (texts : List (List ℕ)) : Type 0 where
+  pub best : c.verdict ≡ kind.Optimal
+  pub ends : EndsBehind None c s texts
+  pub wanted : wants_ranges s.task ≡ true
+  pub fails : IsRangeFault ends.proved.problem (best_point c) (best_weights c) s.pivot_limit fault
+  pub unlimited : s.pivot_limit ≡ 0 → IsRangeNotByPivots fault
+
+-- the point of c is best, and these are the ranges there
+pub record HasBestRanges (c : Certificate) (r : AllRanges) (s : Settings) (texts : List (List ℕ)) : Type 0 where
+  pub best : IsBest c s texts
+  pub are : AreRanges best.problem c r
+
 -- ---- sizes
 
 -- the texts declare a problem whose size is asked for
@@ -194,12 +233,12 @@ pub record OfInfeasible (P : Problem → Settings → Type 0) (s : Settings) (te
   pub wanted : wants_subset s.task ≡ true
   pub holds : P proved.problem s
 
--- a subset is wanted, and a column of the problem takes whole numbers alone
+-- a subset or ranges are wanted, and a column of the problem takes whole numbers alone
 pub record IsNotLinear (s : Settings) (texts : List (List ℕ)) : Type 0 where
   pub problem : Problem
   pub asked : IsAsked s texts problem
   pub solves : Solves s
-  pub wanted : wants_subset s.task ≡ true
+  pub wanted : wants_linear s.task ≡ true
   pub integer : ¬ (NoneInteger problem.columns)
 
 abbrev pub IsOverflow : OverflowSite → NoFit → Settings → List (List ℕ) → Type 0
@@ -224,10 +263,12 @@ IsReached words told Size = OfTexts words told IsTranslated
 IsReached words told (Acceptance c) = OfTexts words told (OfCertificate (IsAccepted c))
 IsReached words told (Verdict c) = OfTexts words told (IsProved c)
 IsReached words told (Subset c w) = OfTexts words told (HasSubset c w)
+IsReached words told (Ranges c r) = OfTexts words told (HasRanges c r)
 
 -- what the answer says was reached
 abbrev pub reached_of : Answer → Reached
 reached_of (Optimal c) = Verdict c
+reached_of (Ranged c r) = Ranges c r
 reached_of (Infeasible c) = Verdict c
 reached_of (Irreducible c w) = Subset c w
 reached_of (Unbounded c) = Verdict c
@@ -241,6 +282,7 @@ reached_of (WriteFault target reached) = reached
 reached_of (TooLong name reached) = reached
 reached_of (BadText fault) = Executed
 reached_of (FaultBehindSolve fault c) = Verdict c
+reached_of (Unranged fault c) = Verdict c
 reached_of (BadCertificate fault) = Executed
 reached_of NotLinear = Executed
 reached_of (Overflow at fault) = Executed
@@ -252,12 +294,18 @@ reached_of (NoMemory reached) = reached
 abbrev pub IsNotByPivots : Answer → Type 0
 IsNotByPivots (Undecided (Pivots wanted bases)) = ⊥
 IsNotByPivots (Undecided (SubsetPivots members bases)) = ⊥
+IsNotByPivots (Unranged fault c) = IsRangeNotByPivots fault
 IsNotByPivots answer = Unit {0}
 
 -- the answer is not that no point is feasible, without a subset
 abbrev pub IsNotPlain : Answer → Type 0
 IsNotPlain (Infeasible c) = ⊥
 IsNotPlain answer = Unit {0}
+
+-- the answer is not that a point is best, without ranges
+abbrev pub IsNotWithoutRanges : Answer → Type 0
+IsNotWithoutRanges (Optimal c) = ⊥
+IsNotWithoutRanges answer = Unit {0}
 
 -- ---- causes
 
@@ -268,7 +316,8 @@ RoseAt (File name) files_rose out_rose = files_rose
 
 -- the cause of each answer
 abbrev pub Cause : List (List ℕ) → ToldNames → Type 0 → Type 0 → Answer → Type 0
-Cause words told files_rose out_rose (Optimal c) = (c.verdict ≡ kind.Optimal) × OfTexts words told (EndsBehind None c)
+Cause words told files_rose out_rose (Optimal c) = (c.verdict ≡ kind.Optimal) × OfTexts words told (EndsWithoutRanges c)
+Cause words told files_rose out_rose (Ranged c r) = IsReached words told (Ranges c r)
 Cause words told files_rose out_rose (Infeasible c) = (c.verdict ≡ kind.Infeasible) × IsReached words told (Verdict c)
 Cause words told files_rose out_rose (Irreducible c w) = IsReached words told (Subset c w)
 Cause words told files_rose out_rose (Unbounded c) = (c.verdict ≡ kind.Unbounded) × IsReached words told (Verdict c)
@@ -282,6 +331,7 @@ Cause words told files_rose out_rose (WriteFault target reached) = IsReached wor
 Cause words told files_rose out_rose (TooLong name reached) = OfFile words told name reached (λ now. (Lacks now → ⊥) × ((text : List ℕ) → Has now text → 67108864 < length text))
 Cause words told files_rose out_rose (BadText fault) = OfTexts words told (IsRefused fault)
 Cause words told files_rose out_rose (FaultBehindSolve fault c) = (c.verdict ≡ kind.Optimal) × OfTexts words told (EndsBehind (Some fault) c)
+Cause words told files_rose out_rose (Unranged fault c) = OfTexts words told (LacksRanges fault c)
 Cause words told files_rose out_rose (BadCertificate fault) = OfTexts words told (OfCertificate (IsNoCertificate fault))
 Cause words told files_rose out_rose NotLinear = OfTexts words told IsNotLinear
 Cause words told files_rose out_rose (Overflow at e) = OfTexts words told (IsOverflow at e)

@@ -6,18 +6,21 @@ use Rattle.milp.specs.Problem.{Problem}
 use Rattle.milp.specs.Points.{IsOptimal}
 use Rattle.fraction.specs.declared.frac.NoFit.{NoFit}
 use Rattle.branch_search.specs.Plain.{NoneInteger}
+use Rattle.branch_search.specs.declared.whole_fault.VerdictFault.TheVariants.{NoFit as SearchNoFit, PivotLimit, SplitLimit, NoMemory as SearchNoMemory}
+use Rattle.exact_ranges.specs.declared.fault.RangeFault.{RangeFault}
+use Rattle.exact_ranges.specs.declared.fault.RangeFault.TheVariants.{Search, TooLarge, Weight, MovedBound, NoMemory as RangeNoMemory}
 use Rattle.verdicts.specs.Certificate.{Certificate}
 use Rattle.certificate.specs.Text.{certificate_text}
 use Rattle.outside.specs.Told.{Has}
 use Rattle.command_line.specs.Meaning.{settings_of}
 use Rattle.command_line.specs.declared.settings.Settings.{Settings}
 use Rattle.command_line.specs.declared.settings.Task.TheVariants.{CheckCertificate}
-use Rattle.glpsol_cli.specs.Asked.{ToldNames, Solves, names_read, wants_subset}
+use Rattle.glpsol_cli.specs.Asked.{ToldNames, Solves, names_read, wants_linear}
 use Rattle.glpsol_cli.specs.Meaning.{Meaning, IsAsked, meaning_of}
 use Rattle.glpsol_cli.specs.Texts.{IsTableInTurn}
-use Rattle.glpsol_cli.specs.Cause.{IsOverflow, IsUndecided, IsProved}
+use Rattle.glpsol_cli.specs.Cause.{IsOverflow, IsUndecided, IsProved, LacksRanges}
 use Rattle.glpsol_cli.specs.declared.answer.Answer.{Answer}
-use Rattle.glpsol_cli.specs.declared.answer.Answer.TheVariants.{Optimal, Infeasible, Irreducible, Unbounded, Accepted, OpenFault, ReadFault, WriteFault, NoMemory}
+use Rattle.glpsol_cli.specs.declared.answer.Answer.TheVariants.{Optimal, Ranged, Infeasible, Irreducible, Unbounded, Unranged, Accepted, OpenFault, ReadFault, WriteFault, NoMemory}
 use Rattle.glpsol_cli.specs.declared.answer.Limit.{Limit}
 use Rattle.glpsol_cli.specs.declared.answer.OverflowSite.{OverflowSite}
 
@@ -42,11 +45,24 @@ abbrev pub AreTablesTold : ToldNames → Settings → List (List ℕ) → List (
 AreTablesTold told s texts [] = Unit {0}
 AreTablesTold told s texts (text ∷ tables) = IsTableTold told s texts text × AreTablesTold told s (texts ++ text ∷ []) tables
 
+-- there is no memory for ranges
+abbrev pub IsWantOfMemory : RangeFault → Type 0
+IsWantOfMemory (Search sought (SearchNoFit wanted site)) = ⊥
+IsWantOfMemory (Search sought (PivotLimit wanted bases)) = ⊥
+IsWantOfMemory (Search sought (SplitLimit wanted board)) = ⊥
+IsWantOfMemory (Search sought SearchNoMemory) = Unit {0}
+IsWantOfMemory (TooLarge sought) = ⊥
+IsWantOfMemory (Weight row side e) = ⊥
+IsWantOfMemory (MovedBound row side end e) = ⊥
+IsWantOfMemory RangeNoMemory = Unit {0}
+
 -- the answer is a verdict, or want of memory
 abbrev pub IsVerdictOrNoMemory : Answer → Type 0
 IsVerdictOrNoMemory (Optimal c) = Unit {0}
 IsVerdictOrNoMemory (Infeasible c) = Unit {0}
 IsVerdictOrNoMemory (Irreducible c w) = Unit {0}
+IsVerdictOrNoMemory (Ranged c r) = Unit {0}
+IsVerdictOrNoMemory (Unranged fault c) = IsWantOfMemory fault
 IsVerdictOrNoMemory (Unbounded c) = Unit {0}
 IsVerdictOrNoMemory (NoMemory reached) = Unit {0}
 IsVerdictOrNoMemory answer = ⊥
@@ -64,9 +80,10 @@ pub record IsComplete (words : List (List ℕ)) (told : ToldNames) (files_rose o
   pub has : AreTold told (names_read settings) texts
   pub tables_told : AreTablesTold told settings texts tables
   pub asked : IsAsked settings (texts ++ tables) problem
-  pub linear : wants_subset settings.task ≡ true → NoneInteger problem.columns
+  pub linear : wants_linear settings.task ≡ true → NoneInteger problem.columns
   pub fits : (at : OverflowSite) (e : NoFit) → ¬ (IsOverflow at e settings (texts ++ tables))
   pub ends : (limit : Limit) → ¬ (IsUndecided limit settings (texts ++ tables))
+  pub ranged : (fault : RangeFault) (c : Certificate) → LacksRanges fault c settings (texts ++ tables) → IsWantOfMemory fault
   pub behind : (meaning : Meaning) → meaning_of settings (texts ++ tables) ≡ Some meaning → (x : List Rational) → IsOptimal problem x → (meaning.behind x).fault ≡ None
   pub files_held : files_rose → ⊥
   pub out_held : out_rose → ⊥

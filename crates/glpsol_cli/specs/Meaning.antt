@@ -26,10 +26,12 @@ use Rattle.command_line.specs.declared.settings.Task.{Task}
 use Rattle.solution_writer.specs.Report.{solved_report, translated_report, accepted_report}
 use Rattle.solution_writer.specs.Subset.{subset_report}
 use Rattle.solution_writer.specs.Solution.{raw_solution}
-use Rattle.glpsol_cli.specs.Asked.{migrated_file, names_checked, outputs_of, wants_subset}
+use Rattle.exact_ranges.specs.Ranges.{AllRanges}
+use Rattle.exact_ranges.specs.Text.{ranges_text}
+use Rattle.glpsol_cli.specs.Asked.{migrated_file, names_checked, outputs_of, ranges_file, wants_subset}
 use Rattle.glpsol_cli.specs.Pieces.{Piece}
 use Rattle.glpsol_cli.specs.declared.answer.Reached.{Reached}
-use Rattle.glpsol_cli.specs.declared.answer.Reached.TheVariants.{Nothing, Executed, Size, Acceptance, Verdict as VerdictReached, Subset as SubsetReached}
+use Rattle.glpsol_cli.specs.declared.answer.Reached.TheVariants.{Nothing, Executed, Size, Acceptance, Verdict as VerdictReached, Subset as SubsetReached, Ranges as RangesReached}
 use Rattle.glpsol_cli.specs.declared.answer.Target.{Target}
 use Rattle.glpsol_cli.specs.declared.answer.Target.TheVariants.{Out, File}
 use Rattle.glpsol_cli.specs.declared.answer.TextFault.{TextFault}
@@ -224,6 +226,7 @@ found_pieces task p Executed = Some []
 found_pieces task p Size = Some (printed (translated_report p))
 found_pieces task p (Acceptance c) = Some (accepted_pieces task p c)
 found_pieces task p (VerdictReached c) = option_map (solved_pieces task p c) (whole_report (lacks_subset (wants_subset task) c.verdict) p c)
+found_pieces task p (RangesReached c r) = option_map (solved_pieces task p c) (whole_report (lacks_subset (wants_subset task) c.verdict) p c)
 found_pieces task p (SubsetReached c w) = Some (solved_pieces task p c (subset_report p w.witnesses))
 
 -- the statements behind `solve` are executed at a best point alone
@@ -233,14 +236,19 @@ behind_at behind kind.Optimal None = nothing_behind
 behind_at behind kind.Infeasible point = nothing_behind
 behind_at behind kind.Unbounded point = nothing_behind
 
--- what they come to once this was reached
-abbrev pub behind_of : (List Rational → Behind) → Reached → Behind
-behind_of behind Nothing = nothing_behind
-behind_of behind Executed = nothing_behind
-behind_of behind Size = nothing_behind
-behind_of behind (Acceptance c) = nothing_behind
-behind_of behind (VerdictReached c) = behind_at behind c.verdict c.point
-behind_of behind (SubsetReached c w) = nothing_behind
+-- the ranges go to their file behind all else
+abbrev pub with_ranges : Option (List ℕ) → AllRanges → Behind → Behind
+with_ranges file r behind = record behind { pieces = behind.pieces ++ saved_in file (ranges_text r) }
+
+-- what comes behind the report once this was reached
+abbrev pub behind_of : Task → (List Rational → Behind) → Reached → Behind
+behind_of task behind Nothing = nothing_behind
+behind_of task behind Executed = nothing_behind
+behind_of task behind Size = nothing_behind
+behind_of task behind (Acceptance c) = nothing_behind
+behind_of task behind (VerdictReached c) = behind_at behind c.verdict c.point
+behind_of task behind (SubsetReached c w) = nothing_behind
+behind_of task behind (RangesReached c r) = with_ranges (ranges_file task) r (behind_at behind c.verdict c.point)
 
 -- P holds of what is written while the texts are executed
 pub record HasDone (P : List Piece → Type 0) (s : Settings) (texts : List (List ℕ)) : Type 0 where
@@ -248,7 +256,7 @@ pub record HasDone (P : List Piece → Type 0) (s : Settings) (texts : List (Lis
   pub means : meaning_of s texts ≡ Some meaning
   pub has : P meaning.done
 
--- P holds of that, with what is written of the problem once this was reached, and then behind `solve`
+-- P holds of that, with what is written of the problem once this was reached, then behind `solve`, and then of ranges
 pub record HasFound (reached : Reached) (P : List Piece → Type 0) (s : Settings) (texts : List (List ℕ)) : Type 0 where
   pub meaning : Meaning
   pub means : meaning_of s texts ≡ Some meaning
@@ -256,4 +264,4 @@ pub record HasFound (reached : Reached) (P : List Piece → Type 0) (s : Setting
   pub end : meaning.end ≡ Declared problem
   pub found : List Piece
   pub are : found_pieces s.task problem reached ≡ Some found
-  pub has : P (meaning.done ++ (found ++ (behind_of meaning.behind reached).pieces))
+  pub has : P (meaning.done ++ (found ++ (behind_of s.task meaning.behind reached).pieces))

@@ -1,6 +1,6 @@
 -- What the stages of a run say: what is executed and found, why nothing is found, how the writing ends, and what is said of an
 -- answer by the settings and the texts that were read.
-use Rattle.std.specs.Prelude.{◌≡◌, ◌<◌, ◌≤◌, ◌⊎◌, ℕ, suc, Bool, true, false, List, [], ◌∷◌, ◌++◌, length, slice_get, take, drop, Result, Ok, Err, Some, None, map, string_bytes}
+use Rattle.std.specs.Prelude.{◌≡◌, ◌<◌, ◌≤◌, ℕ, suc, true, false, List, [], ◌∷◌, ◌++◌, length, slice_get, take, drop, Result, Ok, Err, Some, None, map, string_bytes}
 use Rattle.std.specs.declared.option.Option.{Option}
 use Rattle.rational.specs.Rational.{Rational}
 use Rattle.milp.specs.Problem.{Problem}
@@ -13,11 +13,17 @@ use Rattle.gmpl_reader.specs.MathProg.{Declares, IsPending, IsRest, ending as en
 use Rattle.gmpl_reader.specs.declared.read.Reading.{Reading}
 use Rattle.gmpl_reader.specs.declared.read.ReadingEnd.{ReadingEnd}
 use Rattle.gmpl_reader.specs.declared.read.ReadingEnd.TheVariants as reading_end
-use Rattle.branch_search.specs.Plain.{NoneInteger}
+use Rattle.branch_search.specs.Plain.{NoneInteger, IsPlainCertificate}
+use Rattle.exact_ranges.specs.Faults.{IsFault as IsRangeFault, IsNotByPivots as IsRangeNotByPivots}
+use Rattle.exact_ranges.specs.Ranges.{AllRanges}
+use Rattle.exact_ranges.specs.Text.{ranges_text}
+use Rattle.exact_ranges.specs.ShownBest.{best_point, best_weights}
+use Rattle.exact_ranges.specs.declared.fault.RangeFault.{RangeFault}
 use Rattle.row_splits.specs.Searched.{IsFaultOf as IsSearchFault}
 use Rattle.branch_search.specs.declared.whole_fault.VerdictFault.{VerdictFault}
 use Rattle.branch_search.specs.declared.whole_fault.VerdictFault.TheVariants.{NoFit as SearchNoFit, PivotLimit, SplitLimit, NoMemory as SearchNoMemory}
 use Rattle.infeasible_subset.specs.Faults.{IsFault as IsSubsetFault}
+use Rattle.infeasible_subset.specs.declared.witness.Subset.{Subset as FoundSubset}
 use Rattle.infeasible_subset.specs.declared.fault.SubsetFault.{SubsetFault}
 use Rattle.infeasible_subset.specs.declared.fault.SubsetFault.TheVariants.{NoFit as SubsetNoFit, PivotLimit as SubsetPivotLimit, NoMemory as SubsetNoMemory}
 use Rattle.cert_check.specs.Outcome.{Acceptance as Accepting, outcome, trials}
@@ -32,18 +38,18 @@ use Rattle.command_line.specs.declared.settings.WordsFault.{WordsFault}
 use Rattle.command_line.specs.declared.settings.WordsFault.TheVariants.{Usage as WordsUsage, NoMemory as WordsNoMemory}
 use Rattle.solution_writer.specs.Report.{IsReportable}
 use Rattle.outside.specs.Causes.{Rose}
-use Rattle.glpsol_cli.specs.Asked.{ToldNames, AreTexts, AreThere, IsInTurn, Solves, Translates, names_read, splits_rows, wants_subset}
+use Rattle.glpsol_cli.specs.Asked.{ToldNames, AreTexts, AreThere, IsInTurn, Solves, Translates, names_read, ranges_file, splits_rows, wants_linear, wants_ranges, wants_subset}
 use Rattle.glpsol_cli.specs.Pieces.{Piece, Outside, AllWritten, SameNames, Says, WrittenUpTo, SomeWritten, IsFileInPart, IsWritten, IsWrittenInPart, told_behind}
-use Rattle.glpsol_cli.specs.Meaning.{Behind, Declared, Faulty, Wanting, Meaning, IsRefused, HasDone, HasFound, asked_of, behind_of, displayed, ends_in, file_pieces, files_behind, files_by, found_pieces, lacks_subset, made_in, meaning_in, meaning_of, nothing_behind, shown_by}
+use Rattle.glpsol_cli.specs.Meaning.{Behind, Declared, Faulty, Wanting, Meaning, HasDone, asked_of, behind_of, displayed, ends_in, file_pieces, files_behind, files_by, found_pieces, lacks_subset, made_in, meaning_in, meaning_of, nothing_behind, saved_in, shown_by}
 use Rattle.glpsol_cli.specs.Texts.{AreTables, OfTexts, OfPieces}
 use Rattle.glpsol_cli.specs.Written.{ThenLine, extent_of, line_of}
-use Rattle.glpsol_cli.specs.Cause.{EndsBehind, HasSubset, IsByWeights, IsNotLinear, IsProved, IsSubsetOf, IsTranslated, reached_of, OfCertificate, IsAccepted, IsRefusedAt, IsCheckOverflow, IsNoCertificate, IsOverflow, IsUndecided, RoseAt}
+use Rattle.glpsol_cli.specs.Cause.{AreRanges, HasSubset, IsByWeights, IsNotLinear, IsSubsetOf, reached_of, OfCertificate, IsAccepted, IsRefusedAt, IsCheckOverflow, IsNoCertificate, IsOverflow, IsUndecided, RoseAt}
 use Rattle.glpsol_cli.specs.declared.answer.Answer.{Answer}
-use Rattle.glpsol_cli.specs.declared.answer.Answer.TheVariants.{Optimal, Infeasible, Unbounded, Translated, Accepted, Usage, Missing, OpenFault, ReadFault, WriteFault, TooLong, BadText as TextRefused, FaultBehindSolve, BadCertificate, NotLinear, Overflow, Undecided, Refused, NoMemory}
+use Rattle.glpsol_cli.specs.declared.answer.Answer.TheVariants.{Optimal, Ranged, Usage, Missing, OpenFault, ReadFault, WriteFault, TooLong, FaultBehindSolve, Unranged, BadCertificate, NotLinear, Overflow, Undecided, Refused, NoMemory}
 use Rattle.glpsol_cli.specs.declared.answer.Limit.TheVariants.{Pivots, Splits, SubsetPivots}
 use Rattle.glpsol_cli.specs.declared.answer.OverflowSite.TheVariants.{AtNode, InPart, InSubset}
 use Rattle.glpsol_cli.specs.declared.answer.Reached.{Reached}
-use Rattle.glpsol_cli.specs.declared.answer.Reached.TheVariants.{Nothing, Executed, Size as SizeReached, Acceptance as AcceptanceReached, Verdict as VerdictReached, Subset as SubsetReached}
+use Rattle.glpsol_cli.specs.declared.answer.Reached.TheVariants.{Nothing, Executed, Size as SizeReached, Acceptance as AcceptanceReached, Verdict as VerdictReached, Subset as SubsetReached, Ranges as RangesReached}
 use Rattle.glpsol_cli.specs.declared.answer.TextFault.TheVariants as text_fault
 use Rattle.glpsol_cli.specs.declared.answer.Target.TheVariants.{Out}
 use Rattle.glpsol_cli.specs.declared.inputs.Inputs.{Inputs}
@@ -60,7 +66,7 @@ use Rattle.glpsol_cli.specs.declared.found.Finding.TheVariants.{Size, Acceptance
 use Rattle.glpsol_cli.specs.declared.stop.Stop.{Stop}
 use Rattle.glpsol_cli.specs.declared.stop.Stop.TheVariants.{Words, File, NoMemory as StopNoMemory}
 use Rattle.glpsol_cli.specs.declared.stop.Unfound.{Unfound}
-use Rattle.glpsol_cli.specs.declared.stop.Unfound.TheVariants.{Solve, Check, Subset, NotLinear as SubsetNotLinear}
+use Rattle.glpsol_cli.specs.declared.stop.Unfound.TheVariants.{Solve, Check, Subset, NotLinear as IsIntegral}
 use Rattle.glpsol_cli.specs.declared.stop.Unread.{Unread}
 use Rattle.glpsol_cli.specs.declared.stop.CheckStop.{CheckStop}
 use Rattle.glpsol_cli.specs.declared.stop.CheckStop.TheVariants.{BadText, Refused as CheckRefused, NoFit as CheckNoFit, NoMemory as CheckNoMemory}
@@ -188,18 +194,32 @@ pub record IsOfReading (s : Settings) (r : Reading) (e : ExecutedHeld) : Type 0 
 
 -- ---- what is found
 
+-- where ranges are wanted, the problem has no integer column, and the certificate has one leaf
+abbrev pub IsRangeable : Problem → Task → Certificate → Type 0
+IsRangeable p task c = wants_ranges task ≡ true → NoneInteger p.columns × IsPlainCertificate p c
+
 abbrev pub IsFinding : Problem → Settings → List (List ℕ) → Finding → Type 0
 IsFinding p s texts Size = Translates s
 IsFinding p s texts (Acceptance c) = OfCertificate (IsAccepted c) s texts
-IsFinding p s texts (VerdictFound c) = Solves s × Proves p c × (outcome (trials p c) ≡ Accepting) × (lacks_subset (wants_subset s.task) c.verdict ≡ false)
+IsFinding p s texts (VerdictFound c) = Solves s × Proves p c × (outcome (trials p c) ≡ Accepting) × (lacks_subset (wants_subset s.task) c.verdict ≡ false) × IsRangeable p s.task c
 IsFinding p s texts (SubsetFound c w) = HasSubset c w s texts
 
+-- the certificate proves that no point is feasible, by the weights of the subset
+abbrev pub IsSubsetSolution : Problem → Certificate → FoundSubset → Type 0
+IsSubsetSolution p c w = Proves p c × (outcome (trials p c) ≡ Accepting) × (c.verdict ≡ kind.Infeasible) × IsSubsetOf p w × IsByWeights c w
+
+abbrev pub IsSubsetFinding : Problem → Finding → Type 0
+IsSubsetFinding p Size = ⊥
+IsSubsetFinding p (Acceptance c) = ⊥
+IsSubsetFinding p (VerdictFound c) = ⊥
+IsSubsetFinding p (SubsetFound c w) = IsSubsetSolution p c w
+
 -- what is found of a problem that is to be solved, with a subset, if one is wanted, where no point is feasible
-abbrev pub IsSolution : Problem → Bool → Finding → Type 0
-IsSolution p wanted Size = ⊥
-IsSolution p wanted (Acceptance c) = ⊥
-IsSolution p wanted (VerdictFound c) = Proves p c × (outcome (trials p c) ≡ Accepting) × (lacks_subset wanted c.verdict ≡ false)
-IsSolution p wanted (SubsetFound c w) = Proves p c × (outcome (trials p c) ≡ Accepting) × (c.verdict ≡ kind.Infeasible) × (wanted ≡ true) × IsSubsetOf p w × IsByWeights c w
+abbrev pub IsSolution : Problem → Task → Finding → Type 0
+IsSolution p task Size = ⊥
+IsSolution p task (Acceptance c) = ⊥
+IsSolution p task (VerdictFound c) = Proves p c × (outcome (trials p c) ≡ Accepting) × (lacks_subset (wants_subset task) c.verdict ≡ false) × IsRangeable p task c
+IsSolution p task (SubsetFound c w) = IsSubsetSolution p c w × (wants_subset task ≡ true)
 
 -- what a finding is as a part of an answer
 abbrev pub reached_by : Finding → Reached
@@ -231,11 +251,11 @@ pub record IsRefuted (p : Problem) : Type 0 where
   pub accepted : outcome (trials p certificate) ≡ Accepting
 
 -- why no solution of a problem is found, or no subset that is wanted
-abbrev pub IsUnsolved : Problem → Settings → Bool → Unfound → Type 0
-IsUnsolved p s wanted (Solve fault) = IsSearchFault (splits_rows s.task) p s.split_limit s.pivot_limit fault
-IsUnsolved p s wanted (Check stop) = ⊥
-IsUnsolved p s wanted (Subset fault) = (wanted ≡ true) × IsRefuted p × IsSubsetFault p s.pivot_limit fault
-IsUnsolved p s wanted SubsetNotLinear = (wanted ≡ true) × ¬ (NoneInteger p.columns)
+abbrev pub IsUnsolved : Problem → Settings → Unfound → Type 0
+IsUnsolved p s (Solve fault) = IsSearchFault (splits_rows s.task) p s.split_limit s.pivot_limit fault
+IsUnsolved p s (Check stop) = ⊥
+IsUnsolved p s (Subset fault) = (wants_subset s.task ≡ true) × IsRefuted p × IsSubsetFault p s.pivot_limit fault
+IsUnsolved p s IsIntegral = (wants_linear s.task ≡ true) × ¬ (NoneInteger p.columns)
 
 -- why nothing is found
 abbrev pub IsUnfound : Unfound → Settings → List (List ℕ) → Type 0
@@ -250,7 +270,7 @@ IsUnfound (Check CheckNoMemory) s texts = Unit {0}
 IsUnfound (Subset (SubsetNoFit stuck)) s texts = IsOverflow (InSubset stuck.members) stuck.fault s texts
 IsUnfound (Subset (SubsetPivotLimit long)) s texts = IsUndecided (SubsetPivots long.members long.bases) s texts
 IsUnfound (Subset SubsetNoMemory) s texts = Unit {0}
-IsUnfound SubsetNotLinear s texts = IsNotLinear s texts
+IsUnfound IsIntegral s texts = IsNotLinear s texts
 
 -- why the file of a name is not read
 abbrev pub IsUnread : Option (Option (List ℕ)) → Type 0 → LoadFault → Type 0
@@ -335,7 +355,7 @@ abbrev pub unfound_answer : Unfound → Answer
 unfound_answer (Solve fault) = solve_answer fault
 unfound_answer (Check fault) = check_answer fault
 unfound_answer (Subset fault) = subset_answer fault
-unfound_answer SubsetNotLinear = NotLinear
+unfound_answer IsIntegral = NotLinear
 
 abbrev pub words_answer : WordsFault → Answer
 words_answer WordsUsage = Usage
@@ -399,14 +419,34 @@ TellsBehind PublishNoMemory old new answer = AppendsPrefix old new (line_of answ
 abbrev pub behind_in : BehindHeld → Behind
 behind_in b = record { pieces = pieces_of b.pieces.items; fault = b.fault }
 
--- the answer where all is written
-abbrev pub best_answer : Option ModelFault → Certificate → Answer
-best_answer None c = Optimal c
-best_answer (Some fault) c = FaultBehindSolve fault c
+-- how a run ends at a best point, behind all statements: no ranges are wanted; or they are found and written, or not found, or not
+-- written
+pub data IsEndAtBest (p : Problem) (s : Settings) (c : Certificate) (files_rose out_rose : Type 0) (answer : Answer) : Type 0 where
+  without_ranges : wants_ranges s.task ≡ false → answer ≡ Optimal c → IsEndAtBest p s c files_rose out_rose answer
+  ranged : (r : AllRanges) → wants_ranges s.task ≡ true → AreRanges p c r → answer ≡ Ranged c r → IsEndAtBest p s c files_rose out_rose answer
+  unranged : (fault : RangeFault) → wants_ranges s.task ≡ true → IsRangeFault p (best_point c) (best_weights c) s.pivot_limit fault → (s.pivot_limit ≡ 0 → IsRangeNotByPivots fault) → answer ≡ Unranged fault c → IsEndAtBest p s c files_rose out_rose answer
+  ranges_unwritten : (r : AllRanges) (fault : PublishFault) → wants_ranges s.task ≡ true → AreRanges p c r → HasFailed files_rose out_rose fault → answer ≡ unwritten_answer (RangesReached c r) fault → IsEndAtBest p s c files_rose out_rose answer
 
--- how a run ends behind `solve`: as it is, or what is printed there can't be written
-abbrev pub IsEndBehind : Option ModelFault → Certificate → Type 0 → Type 0 → Answer → Type 0
-IsEndBehind fault c files_rose out_rose answer = (answer ≡ best_answer fault c) ⊎ ((f : PublishFault) × (answer ≡ unwritten_answer (VerdictReached c) f) × HasFailed files_rose out_rose f)
+-- how a run ends once ranges are found: they are written, or can't be
+pub data IsEndSaving (c : Certificate) (r : AllRanges) (files_rose out_rose : Type 0) (answer : Answer) : Type 0 where
+  saved : answer ≡ Ranged c r → IsEndSaving c r files_rose out_rose answer
+  unsaved : (fault : PublishFault) → HasFailed files_rose out_rose fault → answer ≡ unwritten_answer (RangesReached c r) fault → IsEndSaving c r files_rose out_rose answer
+
+-- how a run ends behind `solve`: at the best point, or at a fault of a statement, or what is printed there can't be written
+pub data IsEndBehind (p : Problem) (s : Settings) (fault : Option ModelFault) (c : Certificate) (files_rose out_rose : Type 0) (answer : Answer) : Type 0 where
+  at_best : fault ≡ None → IsEndAtBest p s c files_rose out_rose answer → IsEndBehind p s fault c files_rose out_rose answer
+  at_fault : (e : ModelFault) → fault ≡ Some e → answer ≡ FaultBehindSolve e c → IsEndBehind p s fault c files_rose out_rose answer
+  unwritten : (f : PublishFault) → HasFailed files_rose out_rose f → answer ≡ unwritten_answer (VerdictReached c) f → IsEndBehind p s fault c files_rose out_rose answer
+
+-- what is written of ranges once this was reached
+abbrev pub range_pieces : Task → Reached → List Piece
+range_pieces task Nothing = []
+range_pieces task Executed = []
+range_pieces task SizeReached = []
+range_pieces task (AcceptanceReached c) = []
+range_pieces task (VerdictReached c) = []
+range_pieces task (SubsetReached c w) = []
+range_pieces task (RangesReached c r) = saved_in (ranges_file task) (ranges_text r)
 
 -- ---- tables that are read
 
@@ -527,7 +567,7 @@ pub record HasLeft (reached : Reached) (P : List Piece → Type 0) (s : Settings
   pub end : meaning.end ≡ Declared problem
   pub found : List Piece
   pub are : found_pieces s.task problem reached ≡ Some found
-  pub has : P (found ++ (behind_of meaning.behind reached).pieces)
+  pub has : P (found ++ (behind_of s.task meaning.behind reached).pieces)
 
 -- P holds of what is left to be written once this was reached, where all that was printed before is written
 abbrev pub LeftIn : Settings → List (List ℕ) → Reached → (List Piece → Type 0) → Type 0
@@ -537,13 +577,19 @@ LeftIn s texts SizeReached P = HasLeft SizeReached P s texts
 LeftIn s texts (AcceptanceReached c) P = HasLeft (AcceptanceReached c) P s texts
 LeftIn s texts (VerdictReached c) P = HasLeft (VerdictReached c) P s texts
 LeftIn s texts (SubsetReached c w) P = HasLeft (SubsetReached c w) P s texts
+LeftIn s texts (RangesReached c r) P = HasLeft (RangesReached c r) P s texts
 
 abbrev pub LeftWritten : Settings → List (List ℕ) → Outside → Outside → Answer → Type 0
 LeftWritten s texts old new answer = LeftIn s texts (reached_of answer) (ThenLine (extent_of answer) (line_of answer) old new)
 
--- the answer says that this was reached, and what is left to be written behind `solve` is written so, where the report is
+-- what was reached at last is what was reached before, or beside a verdict its ranges
+pub data ComesTo (before last : Reached) : Type 0 where
+  same : last ≡ before → ComesTo before last
+  to_ranges : (c : Certificate) (r : AllRanges) → before ≡ VerdictReached c → last ≡ RangesReached c r → ComesTo before last
+
+-- the answer says what was reached behind this, and what is left to be written behind `solve` is written so, where the report is
 pub record RestWritten (reached : Reached) (s : Settings) (texts : List (List ℕ)) (old new : Outside) (answer : Answer) : Type 0 where
   pub meaning : Meaning
   pub means : meaning_of s texts ≡ Some meaning
-  pub is_reached : reached_of answer ≡ reached
-  pub has : ThenLine (extent_of answer) (line_of answer) old new (behind_of meaning.behind reached).pieces
+  pub is_reached : ComesTo reached (reached_of answer)
+  pub has : ThenLine (extent_of answer) (line_of answer) old new (behind_of s.task meaning.behind (reached_of answer)).pieces

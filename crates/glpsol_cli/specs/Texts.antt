@@ -7,7 +7,7 @@ use Rattle.glpsol_cli.specs.Asked.{ToldNames, AreTexts, IsInTurn, IsTextOf, name
 use Rattle.glpsol_cli.specs.Pieces.{Piece, told_behind}
 use Rattle.glpsol_cli.specs.Meaning.{Meaning, HasDone, HasFound, Wanting, meaning_of}
 use Rattle.glpsol_cli.specs.declared.answer.Reached.{Reached}
-use Rattle.glpsol_cli.specs.declared.answer.Reached.TheVariants.{Nothing, Executed, Size, Acceptance, Verdict as VerdictReached, Subset as SubsetReached}
+use Rattle.glpsol_cli.specs.declared.answer.Reached.TheVariants.{Nothing, Executed, Size, Acceptance, Verdict as VerdictReached, Subset as SubsetReached, Ranges as RangesReached}
 
 -- A table's file of this name is to be read next. P holds of what is told of it then: the files of tables that are made before are
 -- written.
@@ -46,6 +46,7 @@ OfFile words told name Size P = ⊥
 OfFile words told name (Acceptance c) P = ⊥
 OfFile words told name (VerdictReached c) P = ⊥
 OfFile words told name (SubsetReached c w) P = ⊥
+OfFile words told name (RangesReached c r) P = ⊥
 
 -- P holds of all that is to be written once this was reached
 abbrev pub OfPieces : List (List ℕ) → ToldNames → Reached → (List Piece → Type 0) → Type 0
@@ -55,3 +56,4 @@ OfPieces words told Size P = OfTexts words told (HasFound Size P)
 OfPieces words told (Acceptance c) P = OfTexts words told (HasFound (Acceptance c) P)
 OfPieces words told (VerdictReached c) P = OfTexts words told (HasFound (VerdictReached c) P)
 OfPieces words told (SubsetReached c w) P = OfTexts words told (HasFound (SubsetReached c w) P)
+OfPieces words told (RangesReached c r) P = OfTexts words told (HasFound (RangesReached c r) P)

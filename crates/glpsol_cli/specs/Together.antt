@@ -1,6 +1,6 @@
 -- What is said of an answer by the settings and by the texts that were read: its cause, what it says of the problem, and what is written.
 -- A run says all of this of the same texts, so also where a store tells nothing of its files.
-use Rattle.std.specs.Prelude.{◌≡◌, ◌<◌, ℕ, List, [], length, Some, None}
+use Rattle.std.specs.Prelude.{◌≡◌, ◌<◌, ℕ, List, [], length, Some}
 use Rattle.verdicts.specs.Certificate as kind
 use Rattle.outside.specs.Told.{Lacks, Has}
 use Rattle.command_line.specs.declared.settings.Settings.{Settings}
@@ -9,11 +9,11 @@ use Rattle.glpsol_cli.specs.Pieces.{Piece, Outside}
 use Rattle.glpsol_cli.specs.Meaning.{IsRefused, HasDone, HasFound}
 use Rattle.glpsol_cli.specs.Texts.{IsTableInTurn, OfTexts}
 use Rattle.glpsol_cli.specs.Written.{ThenLine, extent_of, line_of}
-use Rattle.glpsol_cli.specs.Cause.{EndsBehind, IsBest, IsProved, IsTranslated, HasNoPoint, HasRay, HasSubset, IsIrreducibleSubset, IsNotLinear, reached_of, OfCertificate, IsAccepted, IsRefusedAt, IsNoCertificate, IsOverflow, IsUndecided, RoseAt}
+use Rattle.glpsol_cli.specs.Cause.{EndsBehind, EndsWithoutRanges, IsBest, IsProved, IsTranslated, HasBestRanges, HasNoPoint, HasRanges, HasRay, HasSubset, IsIrreducibleSubset, LacksRanges, IsNotLinear, reached_of, OfCertificate, IsAccepted, IsRefusedAt, IsNoCertificate, IsOverflow, IsUndecided, RoseAt}
 use Rattle.glpsol_cli.specs.declared.answer.Answer.{Answer}
-use Rattle.glpsol_cli.specs.declared.answer.Answer.TheVariants.{Optimal, Infeasible, Irreducible, Unbounded, Translated, Accepted, Usage, Missing, OpenFault, ReadFault, WriteFault, TooLong, BadText as TextRefused, FaultBehindSolve, BadCertificate, NotLinear, Overflow, Undecided, Refused, NoMemory}
+use Rattle.glpsol_cli.specs.declared.answer.Answer.TheVariants.{Optimal, Ranged, Infeasible, Irreducible, Unbounded, Translated, Accepted, Usage, Missing, OpenFault, ReadFault, WriteFault, TooLong, BadText as TextRefused, FaultBehindSolve, Unranged, BadCertificate, NotLinear, Overflow, Undecided, Refused, NoMemory}
 use Rattle.glpsol_cli.specs.declared.answer.Reached.{Reached}
-use Rattle.glpsol_cli.specs.declared.answer.Reached.TheVariants.{Nothing, Executed, Size as SizeReached, Acceptance as AcceptanceReached, Verdict as VerdictReached, Subset as SubsetReached}
+use Rattle.glpsol_cli.specs.declared.answer.Reached.TheVariants.{Nothing, Executed, Size as SizeReached, Acceptance as AcceptanceReached, Verdict as VerdictReached, Subset as SubsetReached, Ranges as RangesReached}
 
 abbrev pub ReachedIn : Settings → List (List ℕ) → Reached → Type 0
 ReachedIn s texts Nothing = Unit {0}
@@ -22,10 +22,12 @@ ReachedIn s texts SizeReached = IsTranslated s texts
 ReachedIn s texts (AcceptanceReached c) = OfCertificate (IsAccepted c) s texts
 ReachedIn s texts (VerdictReached c) = IsProved c s texts
 ReachedIn s texts (SubsetReached c w) = HasSubset c w s texts
+ReachedIn s texts (RangesReached c r) = HasRanges c r s texts
 
 -- the cause of an answer that comes when they are read
 abbrev pub CauseIn : Settings → List (List ℕ) → Type 0 → Type 0 → Answer → Type 0
-CauseIn s texts files_rose out_rose (Optimal c) = (c.verdict ≡ kind.Optimal) × EndsBehind None c s texts
+CauseIn s texts files_rose out_rose (Optimal c) = (c.verdict ≡ kind.Optimal) × EndsWithoutRanges c s texts
+CauseIn s texts files_rose out_rose (Ranged c r) = HasRanges c r s texts
 CauseIn s texts files_rose out_rose (Infeasible c) = (c.verdict ≡ kind.Infeasible) × IsProved c s texts
 CauseIn s texts files_rose out_rose (Irreducible c w) = HasSubset c w s texts
 CauseIn s texts files_rose out_rose (Unbounded c) = (c.verdict ≡ kind.Unbounded) × IsProved c s texts
@@ -39,6 +41,7 @@ CauseIn s texts files_rose out_rose (WriteFault target reached) = ReachedIn s te
 CauseIn s texts files_rose out_rose (TooLong name reached) = ⊥
 CauseIn s texts files_rose out_rose (TextRefused fault) = IsRefused fault s texts
 CauseIn s texts files_rose out_rose (FaultBehindSolve fault c) = (c.verdict ≡ kind.Optimal) × EndsBehind (Some fault) c s texts
+CauseIn s texts files_rose out_rose (Unranged fault c) = LacksRanges fault c s texts
 CauseIn s texts files_rose out_rose (BadCertificate fault) = OfCertificate (IsNoCertificate fault) s texts
 CauseIn s texts files_rose out_rose NotLinear = IsNotLinear s texts
 CauseIn s texts files_rose out_rose (Overflow at e) = IsOverflow at e s texts
@@ -54,6 +57,7 @@ PiecesIn s texts SizeReached P = HasFound SizeReached P s texts
 PiecesIn s texts (AcceptanceReached c) P = HasFound (AcceptanceReached c) P s texts
 PiecesIn s texts (VerdictReached c) P = HasFound (VerdictReached c) P s texts
 PiecesIn s texts (SubsetReached c w) P = HasFound (SubsetReached c w) P s texts
+PiecesIn s texts (RangesReached c r) P = HasFound (RangesReached c r) P s texts
 
 -- ---- all of one run
 
@@ -68,10 +72,12 @@ CauseBy told files_rose out_rose answer s texts = CauseIn s texts files_rose out
 -- the user's words for the verdict of an answer
 abbrev pub VerdictBy : Answer → Settings → List (List ℕ) → Type 0
 VerdictBy (Optimal c) s texts = IsBest c s texts
+VerdictBy (Ranged c r) s texts = HasBestRanges c r s texts
 VerdictBy (Infeasible c) s texts = HasNoPoint s texts
 VerdictBy (Irreducible c w) s texts = IsIrreducibleSubset c w s texts
 VerdictBy (Unbounded c) s texts = HasRay c s texts
 VerdictBy (FaultBehindSolve fault c) s texts = IsBest c s texts
+VerdictBy (Unranged fault c) s texts = IsBest c s texts
 VerdictBy answer s texts = Unit {0}
 
 -- these settings and texts are those of the cause, and of all that is written
@@ -87,6 +93,7 @@ OnceExecuted SizeReached P = P
 OnceExecuted (AcceptanceReached c) P = P
 OnceExecuted (VerdictReached c) P = P
 OnceExecuted (SubsetReached c w) P = P
+OnceExecuted (RangesReached c r) P = P
 
 -- the cause and all that is written are of the same texts of the files that the words name and that tables are read from
 abbrev pub Tells : List (List ℕ) → ToldNames → Outside → Outside → Type 0 → Type 0 → Answer → Type 0

@@ -2,11 +2,15 @@
 -- Behind a write on the output that fails nothing more is written there.
 use Rattle.std.specs.Prelude.{◌⊎◌, ℕ, List, [], codes}
 use Rattle.solution_writer.specs.FaultLine.{named_line, overflow_line, usage_line, syntax_line, data_line, model_line, file_line, certificate_line, not_linear_line, undecided_nodes_line, undecided_pivots_line, refused_line, no_memory_line}
+use Rattle.branch_search.specs.declared.whole_fault.VerdictFault.{VerdictFault}
+use Rattle.branch_search.specs.declared.whole_fault.VerdictFault.TheVariants.{NoFit as SearchNoFit, PivotLimit, SplitLimit, NoMemory as SearchNoMemory}
+use Rattle.exact_ranges.specs.declared.fault.RangeFault.{RangeFault}
+use Rattle.exact_ranges.specs.declared.fault.RangeFault.TheVariants.{Search, TooLarge, Weight, MovedBound, NoMemory as RangeNoMemory}
 use Rattle.glpsol_cli.specs.Pieces.{Piece, Outside, IsWrittenInPart, Extent, Whole, UpTo, Part, WrittenTo, WrittenUpTo}
 use Rattle.glpsol_cli.specs.Texts.{OfPieces}
 use Rattle.glpsol_cli.specs.Cause.{reached_of}
 use Rattle.glpsol_cli.specs.declared.answer.Answer.{Answer}
-use Rattle.glpsol_cli.specs.declared.answer.Answer.TheVariants.{Optimal, Infeasible, Irreducible, Unbounded, Translated, Accepted, Usage, Missing, OpenFault, ReadFault, WriteFault, TooLong, BadText, FaultBehindSolve, BadCertificate, NotLinear, Overflow, Undecided, Refused, NoMemory}
+use Rattle.glpsol_cli.specs.declared.answer.Answer.TheVariants.{Optimal, Ranged, Infeasible, Irreducible, Unbounded, Translated, Accepted, Usage, Missing, OpenFault, ReadFault, WriteFault, TooLong, BadText, FaultBehindSolve, Unranged, BadCertificate, NotLinear, Overflow, Undecided, Refused, NoMemory}
 use Rattle.glpsol_cli.specs.declared.answer.Limit.{Limit}
 use Rattle.glpsol_cli.specs.declared.answer.Limit.TheVariants.{Pivots, Splits, SubsetPivots}
 use Rattle.glpsol_cli.specs.declared.answer.Target.{Target}
@@ -30,9 +34,29 @@ undecided_line (Pivots wanted bases) = undecided_pivots_line
 undecided_line (SubsetPivots members bases) = undecided_pivots_line
 undecided_line (Splits wanted board) = undecided_nodes_line
 
+-- where a problem of a range's end has more columns, rows or entries than a problem takes
+abbrev pub too_large_line : List ℕ
+too_large_line = codes "too large\n"
+
+-- where there is no verdict of such a problem
+abbrev pub search_line : VerdictFault → List ℕ
+search_line (SearchNoFit wanted site) = overflow_line site.fault
+search_line (PivotLimit wanted bases) = undecided_pivots_line
+search_line (SplitLimit wanted board) = undecided_nodes_line
+search_line SearchNoMemory = no_memory_line
+
+-- where ranges are not found
+abbrev pub unranged_line : RangeFault → List ℕ
+unranged_line (Search sought fault) = search_line fault
+unranged_line (TooLarge sought) = too_large_line
+unranged_line (Weight row side e) = overflow_line e
+unranged_line (MovedBound row side end e) = overflow_line e
+unranged_line RangeNoMemory = no_memory_line
+
 -- the line of a fault; an answer without a fault has none
 abbrev pub line_of : Answer → List ℕ
 line_of (Optimal c) = []
+line_of (Ranged c r) = []
 line_of (Infeasible c) = []
 line_of (Irreducible c w) = []
 line_of (Unbounded c) = []
@@ -46,6 +70,7 @@ line_of (WriteFault target reached) = target_line_of target
 line_of (TooLong name reached) = named_line (codes "too long") name
 line_of (BadText fault) = text_line fault
 line_of (FaultBehindSolve fault c) = model_line fault
+line_of (Unranged fault c) = unranged_line fault
 line_of (BadCertificate fault) = certificate_line fault
 line_of NotLinear = not_linear_line
 line_of (Overflow at fault) = overflow_line fault
@@ -56,6 +81,7 @@ line_of (NoMemory reached) = no_memory_line
 -- how far the pieces are written: up to what can't be written, or, where memory is wanting, some of them; else all
 abbrev pub extent_of : Answer → Extent
 extent_of (Optimal c) = Whole
+extent_of (Ranged c r) = Whole
 extent_of (Infeasible c) = Whole
 extent_of (Irreducible c w) = Whole
 extent_of (Unbounded c) = Whole
@@ -69,6 +95,7 @@ extent_of (WriteFault target reached) = UpTo target
 extent_of (TooLong name reached) = Whole
 extent_of (BadText fault) = Whole
 extent_of (FaultBehindSolve fault c) = Whole
+extent_of (Unranged fault c) = Whole
 extent_of (BadCertificate fault) = Whole
 extent_of NotLinear = Whole
 extent_of (Overflow at fault) = Whole

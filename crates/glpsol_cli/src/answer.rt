@@ -1,10 +1,12 @@
 // How a run ends.
 ghost use Rattle.std.specs.Prelude.{◌≡◌};
+ghost use Rattle.glpsol_cli.specs.Code.{range_fault_code, search_fault_code};
 
-use branch_search::Wanted;
+use branch_search::{VerdictFault, Wanted};
 use cert_check::Part;
 use certificate::Certificate;
 use certificate_reader::CertFault;
+use exact_ranges::{RangeFault, Ranges};
 use fraction::NoFit;
 use gmpl_blocks::DataFault;
 use gmpl_generate::ModelFault;
@@ -76,13 +78,19 @@ pub enum Reached {
     Verdict(Boxed<Certificate>),
     /// The certificate proves by the weights of this irreducible infeasible subset that no point is feasible, and the checker accepts it.
     Subset(Boxed<Certificate>, Boxed<Subset>),
+    /// The certificate proves that its point is best, and the checker accepts it; no statement behind `solve` has a fault there, and
+    /// these are the exact ranges, which are asked for.
+    Ranges(Boxed<Certificate>, Boxed<Ranges>),
 }
 
 /// What a run comes to, with the values that show it.
 #[derive(Drop)]
 pub enum Answer {
-    /// The certificate's point is best, no statement behind `solve` has a fault there, and all was written.
+    /// The certificate's point is best, no statement behind `solve` has a fault there, and all was written. No ranges were asked for.
     Optimal(Boxed<Certificate>),
+    /// The certificate's point is best, no statement behind `solve` has a fault there, these are the exact ranges, which were asked
+    /// for, and all was written.
+    Ranged(Boxed<Certificate>, Boxed<Ranges>),
     /// No point is feasible, as the certificate shows, and all was written. No subset was asked for.
     Infeasible(Boxed<Certificate>),
     /// No point is feasible, as the certificate shows by the weights of this irreducible infeasible subset, which was asked for, and
@@ -129,9 +137,15 @@ pub enum Answer {
         fault: ModelFault,
         certificate: Boxed<Certificate>,
     },
+    /// The certificate's point is best, and was reported, and the statements behind `solve` were executed; for this fault the exact
+    /// ranges, which were asked for, are not found.
+    Unranged {
+        fault: RangeFault,
+        certificate: Boxed<Certificate>,
+    },
     /// The text of the certificate that was to be checked has this fault, and none before it.
     BadCertificate(CertFault),
-    /// An infeasible subset is asked for of a problem with integer columns.
+    /// An infeasible subset, or exact ranges, are asked for of a problem with integer columns.
     NotLinear,
     /// The result of this operation does not fit.
     Overflow {
@@ -148,6 +162,28 @@ pub enum Answer {
     },
 }
 
+// The status where ranges are not found.
+fn range_fault_code(fault: &RangeFault) -> u8
+    ensures { result ≡ range_fault_code fault.now }
+{
+    match fault {
+        RangeFault::Search(_, fault) => search_fault_code(fault),
+        RangeFault::TooLarge(_) => 2,
+        RangeFault::Weight(..) | RangeFault::MovedBound(..) => 3,
+        RangeFault::NoMemory => 5,
+    }
+}
+
+fn search_fault_code(fault: &VerdictFault) -> u8
+    ensures { result ≡ search_fault_code fault.now }
+{
+    match fault {
+        VerdictFault::NoFit(..) => 3,
+        VerdictFault::PivotLimit(..) | VerdictFault::SplitLimit(..) => 4,
+        VerdictFault::NoMemory => 5,
+    }
+}
+
 impl Answer {
     ghost use Rattle.glpsol_cli.specs.Code.{code_of};
 
@@ -157,6 +193,7 @@ impl Answer {
     {
         match self {
             Answer::Optimal(_)
+            | Answer::Ranged(..)
             | Answer::Infeasible(_)
             | Answer::Irreducible(..)
             | Answer::Unbounded(_)
@@ -172,6 +209,7 @@ impl Answer {
             | Answer::FaultBehindSolve { .. }
             | Answer::BadCertificate(_)
             | Answer::NotLinear => 2,
+            Answer::Unranged { fault, .. } => range_fault_code(fault),
             Answer::Overflow { .. } => 3,
             Answer::Undecided(_) => 4,
             Answer::NoMemory { .. } => 5,

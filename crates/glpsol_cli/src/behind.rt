@@ -1,17 +1,20 @@
 // The statements behind `solve`, which are executed at a best point.
-ghost use Rattle.std.specs.Prelude.{◌≡◌, ◌≤◌, ℕ, List, length, IfOk, IsSomeAnd, Some};
+ghost use Rattle.std.specs.Prelude.{◌≡◌, ◌≤◌, ◌++◌, true, ℕ, List, length, IfOk, IsSomeAnd, Some};
+ghost use Rattle.verdicts.specs.Certificate.{Optimal as is_optimal};
+ghost use Rattle.cert_check.specs.Outcome.{Acceptance, outcome, trials};
 ghost use Rattle.rational.specs.Rational.{Rational};
 ghost use Rattle.outside.specs.Causes.{Rose};
-ghost use Rattle.outside.specs.Told.{AppendsPrefix};
 ghost use Rattle.gmpl_generate.specs.Solved.{RowsFit};
 ghost use Rattle.solution_writer.specs.Report.{IsShownPoint};
 ghost use Rattle.glpsol_cli.specs.Meaning.{meaning_in};
 ghost use Rattle.glpsol_cli.specs.Written.{ThenLine, extent_of, line_of};
-ghost use Rattle.glpsol_cli.specs.Stages.{IsEndBehind, IsKept, IsLater, behind_in, best_answer, pieces_of};
+ghost use Rattle.glpsol_cli.specs.Cause.{reached_of};
+ghost use Rattle.glpsol_cli.specs.Stages.{IsEndBehind, IsKept, IsLater, IsRangeable, behind_in, pieces_of, range_pieces};
 
 use crate::display::{behind_files, with_earlier};
 use crate::execution::Later;
 use crate::publish::{Piece, write_pieces};
+use crate::ranged::end_at_best;
 use crate::tell::{tell, tell_unwritten};
 use crate::{Answer, Reached};
 use certificate::Certificate;
@@ -80,38 +83,51 @@ fn at_point(
     Ok(Behind { pieces, fault })
 }
 
-/// What the statements behind `solve` come to is written, and the run ends.
+/// What the statements behind `solve` come to is written, then the ranges, where they are wanted, and the run ends.
 pub fn end_behind<S: Store, O: Sink>(
     alloc: Global,
+    settings: &Settings,
+    problem: &Instance,
     behind: Behind,
     certificate: Boxed<Certificate>,
     files: &mut S,
     out: &mut O,
 ) -> Answer
-    ensures cause { IsEndBehind behind.fault certificate (Rose (S.faults files.old) (S.faults files.new)) (Rose (O.faults out.old) (O.faults out.new)) result }
+    requires best { certificate.verdict ≡ is_optimal }
+    requires accepted { outcome (trials problem.now certificate) ≡ Acceptance }
+    requires rangeable { IsRangeable problem.now settings.now.task certificate }
+    ensures cause { IsEndBehind problem.now settings.now behind.fault certificate (Rose (S.faults files.old) (S.faults files.new)) (Rose (O.faults out.old) (O.faults out.new)) result }
     ensures written { ThenLine (extent_of result) (line_of result) (record { taken = O.taken out.old; told = S.told files.old })
-        (record { taken = O.taken out.new; told = S.told files.new }) (pieces_of behind.pieces.items) }
+        (record { taken = O.taken out.new; told = S.told files.new }) (pieces_of behind.pieces.items ++ range_pieces settings.now.task (reached_of result)) }
 {
     let Behind { pieces, fault } = behind;
     match write_pieces(files, out, pieces) {
-        Ok(()) => at_end(alloc, fault, certificate, out),
+        Ok(()) => at_end(alloc, settings, problem, fault, certificate, files, out),
         Err(fault) => tell_unwritten(alloc, out, Reached::Verdict(certificate), fault),
     }
 }
 
 // The run ends at a best point, or at a fault behind `solve`.
-fn at_end<O: Sink>(
+fn at_end<S: Store, O: Sink>(
     alloc: Global,
+    settings: &Settings,
+    problem: &Instance,
     fault: Option<ModelFault>,
     certificate: Boxed<Certificate>,
+    files: &mut S,
     out: &mut O,
 ) -> Answer
-    ensures answer { result ≡ best_answer fault certificate }
-    ensures line { AppendsPrefix (O.taken out.old) (O.taken out.new) (line_of result) }
-    ensures later { O.faults out.old ≤ O.faults out.new }
+    requires best { certificate.verdict ≡ is_optimal }
+    requires accepted { outcome (trials problem.now certificate) ≡ Acceptance }
+    requires rangeable { IsRangeable problem.now settings.now.task certificate }
+    ensures cause { IsEndBehind problem.now settings.now fault certificate (Rose (S.faults files.old) (S.faults files.new)) (Rose (O.faults out.old) (O.faults out.new)) result }
+    ensures written { ThenLine (extent_of result) (line_of result) (record { taken = O.taken out.old; told = S.told files.old })
+        (record { taken = O.taken out.new; told = S.told files.new }) (range_pieces settings.now.task (reached_of result)) }
+    ensures files_later { S.faults files.old ≤ S.faults files.new }
+    ensures out_later { O.faults out.old ≤ O.faults out.new }
 {
     match fault {
-        None => Answer::Optimal(certificate),
+        None => end_at_best(alloc, settings, problem, certificate, files, out),
         Some(fault) => tell(alloc, out, Answer::FaultBehindSolve { fault, certificate }),
     }
 }

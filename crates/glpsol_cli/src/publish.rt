@@ -281,8 +281,8 @@ fn output(alloc: Global, text: &str) -> Result<Vec<Piece>, AllocError>
     Ok(pieces)
 }
 
-// One more text, to the file of this name.
-fn add_file(
+/// One more text, to the file of this name.
+pub fn add_file(
     alloc: Global,
     pieces: &mut Vec<Piece>,
     name: &Name,

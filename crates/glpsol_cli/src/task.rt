@@ -1,5 +1,5 @@
 // What the words ask for is done with a problem: it is found and reported, and at a best point the statements behind
-// `solve` are executed.
+// `solve` are executed, and then the ranges found, where they are wanted.
 ghost use Rattle.std.specs.Prelude.{◌≡◌};
 ghost use Rattle.verdicts.specs.Certificate as kind;
 ghost use Rattle.outside.specs.Causes.{Rose};
@@ -149,7 +149,10 @@ fn at_best<S: Store, O: Sink>(
         certificate.get(),
     );
     match behind {
-        Ok(behind) => end_behind(alloc, behind, certificate, files, out),
+        Ok(behind) => {
+            let settings = inputs.settings.get();
+            end_behind(alloc, settings, problem, behind, certificate, files, out)
+        }
         Err(_) => tell(
             alloc,
             out,

@@ -7,6 +7,8 @@ ghost use Rattle.glpsol_cli.specs.Written.{line_of, target_line_of};
 
 use crate::publish::PublishFault;
 use crate::{Answer, Limit, Reached, Target, TextFault};
+use branch_search::VerdictFault;
+use exact_ranges::RangeFault;
 use outside::{Sink, write_all};
 use solution_writer::{Fault, fault_line};
 use std::alloc::{AllocError, Global};
@@ -62,6 +64,7 @@ fn line(alloc: Global, answer: &Answer) -> Result<String, AllocError>
 {
     match answer {
         Answer::Optimal(_)
+        | Answer::Ranged(..)
         | Answer::Infeasible(_)
         | Answer::Irreducible(..)
         | Answer::Unbounded(_)
@@ -78,6 +81,38 @@ fn line(alloc: Global, answer: &Answer) -> Result<String, AllocError>
         Answer::BadText(TextFault::Model(fault)) => fault_line(alloc, &Fault::Model(*fault)),
         Answer::BadText(TextFault::File(fault)) => fault_line(alloc, &Fault::File(*fault)),
         Answer::FaultBehindSolve { fault, .. } => fault_line(alloc, &Fault::Model(*fault)),
+        Answer::Unranged {
+            fault: RangeFault::Search(_, VerdictFault::NoFit(_, site)),
+            ..
+        } => fault_line(alloc, &Fault::Overflow(site.fault)),
+        Answer::Unranged {
+            fault: RangeFault::Search(_, VerdictFault::PivotLimit(..)),
+            ..
+        } => fault_line(alloc, &Fault::UndecidedPivots),
+        Answer::Unranged {
+            fault: RangeFault::Search(_, VerdictFault::SplitLimit(..)),
+            ..
+        } => fault_line(alloc, &Fault::UndecidedNodes),
+        Answer::Unranged {
+            fault: RangeFault::Search(_, VerdictFault::NoMemory),
+            ..
+        } => fault_line(alloc, &Fault::NoMemory),
+        Answer::Unranged {
+            fault: RangeFault::TooLarge(_),
+            ..
+        } => "too large\n".to_string(alloc),
+        Answer::Unranged {
+            fault: RangeFault::Weight(_, _, fault),
+            ..
+        } => fault_line(alloc, &Fault::Overflow(*fault)),
+        Answer::Unranged {
+            fault: RangeFault::MovedBound(_, _, _, fault),
+            ..
+        } => fault_line(alloc, &Fault::Overflow(*fault)),
+        Answer::Unranged {
+            fault: RangeFault::NoMemory,
+            ..
+        } => fault_line(alloc, &Fault::NoMemory),
         Answer::BadCertificate(fault) => fault_line(alloc, &Fault::Certificate(*fault)),
         Answer::NotLinear => fault_line(alloc, &Fault::NotLinear),
         Answer::Overflow { fault, .. } => fault_line(alloc, &Fault::Overflow(*fault)),

@@ -2,13 +2,14 @@
 ghost use Rattle.std.specs.Prelude.{◌≡◌, ◌≤◌, ℕ, List, true, false, Some, map, string_bytes};
 ghost use Rattle.verdicts.specs.Certificate.{Certificate};
 ghost use Rattle.infeasible_subset.specs.declared.witness.Subset.{Subset};
+ghost use Rattle.exact_ranges.specs.Ranges.{AllRanges};
 ghost use Rattle.outside.specs.Causes.{Rose};
 ghost use Rattle.command_line.specs.Meaning.{settings_of};
 ghost use Rattle.command_line.specs.declared.settings.Settings.{Settings};
-ghost use Rattle.glpsol_cli.specs.Asked.{ToldNames, wants_subset};
+ghost use Rattle.glpsol_cli.specs.Asked.{ToldNames, wants_ranges, wants_subset};
 ghost use Rattle.glpsol_cli.specs.Pieces.{Outside, SameNames};
 ghost use Rattle.glpsol_cli.specs.Texts.{OfTexts};
-ghost use Rattle.glpsol_cli.specs.Cause.{Cause, IsBest, HasNoPoint, HasRay, IsIrreducibleSubset, IsNotByPivots, IsNotPlain, IsTrueOf, reached_of};
+ghost use Rattle.glpsol_cli.specs.Cause.{Cause, HasBestRanges, IsBest, HasNoPoint, HasRay, IsIrreducibleSubset, IsNotByPivots, IsNotPlain, IsNotWithoutRanges, IsTrueOf, reached_of};
 ghost use Rattle.glpsol_cli.specs.Written.{Written};
 ghost use Rattle.glpsol_cli.specs.Complete.{IsComplete, IsVerdictOrNoMemory};
 ghost use Rattle.glpsol_cli.specs.Stages.{AreInputs, AreSomeInputs, IsEndIn, IsEndOf, IsRun, IsSomeRun, IsSubject, IsWhole, LeftWritten, Moment, WrittenSince, texts_in};
@@ -54,6 +55,14 @@ pub fn run<T: Threads + Sync, S: Store, O: Sink>(
     // And there it never answers Infeasible without a subset.
     ensures subset_asked { (s : Settings) → settings_of (map string_bytes words.items) ≡ Some s → wants_subset s.task ≡ true → IsNotPlain result }
 
+    // Where ranges are asked for, and the point is best, a number is in the range of a cost exactly where the point stays best with it in
+    // the cost's place, and in the range of a row's bound exactly where the value goes on as the certificate's weights promise with it in
+    // the bound's place. These are the ranges of the file that is written last.
+    ensures ranges { (c : Certificate) (r : AllRanges) → reached_of result ≡ Reached.Ranges c r → OfTexts (map string_bytes words.items) (S.told files.old) (HasBestRanges c r) }
+
+    // And there it never answers Optimal without ranges.
+    ensures ranges_asked { (s : Settings) → settings_of (map string_bytes words.items) ≡ Some s → wants_ranges s.task ≡ true → IsNotWithoutRanges result }
+
     // The verdict of each certificate that an answer carries is true, whatever fault comes after it.
     ensures carried { (c : Certificate) → reached_of result ≡ Reached.Verdict c → OfTexts (map string_bytes words.items) (S.told files.old) (IsTrueOf c) }
 
@@ -61,8 +70,8 @@ pub fn run<T: Threads + Sync, S: Store, O: Sink>(
     ensures cause { Cause (map string_bytes words.items) (S.told files.old)
         (Rose (S.faults files.old) (S.faults files.new)) (Rose (O.faults out.old) (O.faults out.new)) result }
 
-    // It writes the files of tables that the statements make, what they print, then the report and the files, and then what the
-    // statements behind `solve` make and print, or the first part of this, and then the line of a fault or a part of it.
+    // It writes the files of tables that the statements make, what they print, then the report and the files, then what the statements
+    // behind `solve` make and print, and then the ranges, or the first part of this, and then the line of a fault or a part of it.
     ensures written { Written (map string_bytes words.items) (record { taken = O.taken out.old; told = S.told files.old })
         (record { taken = O.taken out.new; told = S.told files.new }) result }
 

@@ -8,10 +8,11 @@ ghost use Rattle.row_splits.specs.Searched.{IsFaultOf};
 ghost use Rattle.infeasible_subset.specs.Faults.{IsFault as IsSubsetFault};
 ghost use Rattle.certificate_reader.specs.Reading.{read_of};
 ghost use Rattle.cert_check.specs.Outcome.{Acceptance, outcome, trials};
-ghost use Rattle.glpsol_cli.specs.Asked.{names_read, splits_rows};
+ghost use Rattle.command_line.specs.declared.settings.Task.TheVariants.{Solve};
+ghost use Rattle.glpsol_cli.specs.Asked.{names_read, splits_rows, wants_linear, wants_subset};
 ghost use Rattle.glpsol_cli.specs.Meaning.{IsAsked};
 ghost use Rattle.glpsol_cli.specs.Cause.{IsAccepted, IsSubsetOf};
-ghost use Rattle.glpsol_cli.specs.Stages.{IsFinding, IsUnfound, IsSolution, IsUnsolved, IsCheckStop, OfNext, texts_in};
+ghost use Rattle.glpsol_cli.specs.Stages.{IsFinding, IsUnfound, IsSolution, IsSubsetFinding, IsUnsolved, IsCheckStop, OfNext, texts_in};
 
 use crate::found::Finding;
 use crate::inputs::Inputs;
@@ -20,7 +21,7 @@ use branch_search::{VerdictFault, has_no_integer_column};
 use cert_check::{Checked, check};
 use certificate::{Certificate, Verdict};
 use certificate_reader::CertError;
-use command_line::{Settings, Task};
+use command_line::{Outputs, Settings, Task};
 use infeasible_subset::{Subset, SubsetFault, subset};
 use instance::Instance;
 use row_splits::solve;
@@ -36,7 +37,7 @@ pub fn finding(alloc: Global, problem: &Instance, inputs: &Inputs) -> Result<Fin
 {
     let settings = inputs.settings.get();
     match &settings.task {
-        Task::Solve(outputs) => solution(alloc, problem, settings, outputs.subset),
+        Task::Solve(outputs) => solution(alloc, problem, settings, outputs),
         Task::Translate => Ok(Finding::Size),
         Task::CheckCertificate { .. } => {
             let count = settings.data_files.as_slice().len();
@@ -53,36 +54,52 @@ fn solution(
     alloc: Global,
     problem: &Instance,
     settings: &Settings,
-    wants_subset: bool,
+    outputs: &Outputs,
 ) -> Result<Finding, Unfound>
-    ensures finding { IfOk result (IsSolution problem.now wants_subset) }
-    ensures fault { IfErr result (IsUnsolved problem.now settings.now wants_subset) }
+    requires { settings.now.task ≡ Solve outputs.now }
+    ensures finding { IfOk result (IsSolution problem.now settings.now.task) }
+    ensures fault { IfErr result (IsUnsolved problem.now settings.now) }
 {
-    if !wants_subset {
+    if !wants_linear(outputs) {
         return match solved(alloc, problem, settings) {
             Ok(certificate) => Ok(Finding::Verdict(certificate)),
             Err(fault) => Err(Unfound::Solve(fault)),
         };
     }
     if has_no_integer_column(problem) {
-        linear_solution(alloc, problem, settings)
+        linear_solution(alloc, problem, settings, outputs.subset)
     } else {
         Err(Unfound::NotLinear)
     }
 }
 
-// The same of a problem without integer columns, where a subset is wanted.
+// What is wanted is told of problems without integer columns alone.
+fn wants_linear(outputs: &Outputs) -> bool
+    ensures { result ≡ wants_linear (Solve outputs.now) }
+{
+    outputs.subset || outputs.ranges.is_some()
+}
+
+// The same of a problem without integer columns.
 fn linear_solution(
     alloc: Global,
     problem: &Instance,
     settings: &Settings,
+    is_subset_wanted: bool,
 ) -> Result<Finding, Unfound>
-    requires { NoneInteger problem.now.columns }
-    ensures finding { IfOk result (IsSolution problem.now true) }
-    ensures fault { IfErr result (IsUnsolved problem.now settings.now true) }
+    requires continuous { NoneInteger problem.now.columns }
+    requires wanted { wants_subset settings.now.task ≡ is_subset_wanted }
+    ensures finding { IfOk result (IsSolution problem.now settings.now.task) }
+    ensures fault { IfErr result (IsUnsolved problem.now settings.now) }
 {
     match solved(alloc, problem, settings) {
-        Ok(certificate) => with_subset(alloc, problem, certificate, settings),
+        Ok(certificate) => {
+            if is_subset_wanted {
+                with_subset(alloc, problem, certificate, settings)
+            } else {
+                Ok(Finding::Verdict(certificate))
+            }
+        }
         Err(fault) => Err(Unfound::Solve(fault)),
     }
 }
@@ -98,12 +115,14 @@ fn with_subset(
     requires plain { IsPlainCertificate problem.now certificate }
     requires proves { Proves problem.now certificate }
     requires accepted { outcome (trials problem.now certificate) ≡ Acceptance }
-    ensures finding { IfOk result (IsSolution problem.now true) }
-    ensures fault { IfErr result (IsUnsolved problem.now settings.now true) }
+    requires wanted { wants_subset settings.now.task ≡ true }
+    ensures finding { IfOk result (IsSolution problem.now settings.now.task) }
+    ensures fault { IfErr result (IsUnsolved problem.now settings.now) }
 {
     match certificate.get().verdict() {
         Verdict::Infeasible => by_subset(alloc, problem, certificate, settings),
-        Verdict::Optimal | Verdict::Unbounded => Ok(Finding::Verdict(certificate)),
+        Verdict::Optimal => Ok(Finding::Verdict(certificate)),
+        Verdict::Unbounded => Ok(Finding::Verdict(certificate)),
     }
 }
 
@@ -119,8 +138,9 @@ fn by_subset(
     requires plain { IsPlainCertificate problem.now certificate }
     requires proves { Proves problem.now certificate }
     requires accepted { outcome (trials problem.now certificate) ≡ Acceptance }
-    ensures finding { IfOk result (IsSolution problem.now true) }
-    ensures fault { IfErr result (IsUnsolved problem.now settings.now true) }
+    requires wanted { wants_subset settings.now.task ≡ true }
+    ensures finding { IfOk result (IsSolution problem.now settings.now.task) }
+    ensures fault { IfErr result (IsUnsolved problem.now settings.now) }
 {
     match subset_found(alloc, problem, certificate.get(), settings.pivot_limit) {
         Ok(finding) => Ok(finding),
@@ -139,7 +159,7 @@ fn subset_found(
     requires infeasible { certificate.now.verdict ≡ is_infeasible }
     requires plain { IsPlainCertificate problem.now certificate.now }
     requires accepted { outcome (trials problem.now certificate.now) ≡ Acceptance }
-    ensures finding { IfOk result (IsSolution problem.now true) }
+    ensures finding { IfOk result (IsSubsetFinding problem.now) }
     ensures fault { IfErr result (IsSubsetFault problem.now pivot_limit) }
 {
     let subset = kept_subset(alloc, problem, certificate, pivot_limit)?;
@@ -171,7 +191,7 @@ fn with_its_certificate(
     subset: Boxed<Subset>,
 ) -> Result<Finding, AllocError>
     requires { IsSubsetOf problem.now subset }
-    ensures { IfOk result (IsSolution problem.now true) }
+    ensures { IfOk result (IsSubsetFinding problem.now) }
 {
     let certificate = subset.get().certificate(alloc, problem)?;
     Ok(Finding::Subset(Boxed::new(alloc, certificate)?, subset))

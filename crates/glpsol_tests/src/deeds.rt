@@ -40,12 +40,13 @@ writes out <- b$
 ";
 
 const A_SOLUTION: &str = "\
---lp f -o o -w w --cert c
+--lp f -o o -w w --cert c --ranges-exact g
 reads f <- max$ x + y$st$ 2 x + y <= 4$ x + 3 y <= 5$end$
 writes out <- OPTIMAL$objective obj 13/5$column x 7/5$column y 6/5$row r.1 4$row r.2 5$
 writes o <- OPTIMAL$objective obj 13/5$column x 7/5$column y 6/5$row r.1 4$row r.2 5$
 writes w <- s OPTIMAL 2 2 13/5$i 1 4$i 2 5$j 1 7/5$j 2 6/5$e$
 writes c <- cert 2$size 2 2$verdict optimal$value 13/5$point 7/5 6/5$derived 0$tree$bound r1:-2/5 r2:-1/5$end$
+writes g <- cost 1 1/3 2$cost 2 1/2 3$upper 1 5/3 10$upper 2 2 12$
 ";
 
 const A_TABLE: &str = "\

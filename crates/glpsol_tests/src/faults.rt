@@ -33,7 +33,7 @@ const FAILING_CALLS: &str = "\
 2 runs <- to files with the output by pieces
 22 runs <- to the output with the files by pieces
 4 runs <- to the output with the output by pieces
-14 runs <- a solution with the files by pieces
+17 runs <- a solution with the files by pieces
 2 runs <- a solution with the output by pieces
 9 runs <- a table with the files by pieces
 3 runs <- a table with the output by pieces

@@ -27,6 +27,8 @@ mod memory_files;
 #[cfg(test)]
 mod printing;
 #[cfg(test)]
+mod ranges;
+#[cfg(test)]
 mod raw_solutions;
 #[cfg(test)]
 mod rows;

@@ -13,15 +13,18 @@ afterwards-behind-requires g c =
     subst (λ (d : Certificate). IsSomeAnd d.point (IsShownPoint c.args.problem.now)) (sym c.get-2.ensures)
     (best_point c.args.inputs.now.settings (texts_in c.args.inputs.now) c.args.problem.now c.args.later c.requires.subject c.args.certificate c.requires.found c.requires.best)
 
+pub end_behind-requires-clause-rangeable : goal.end_behind-requires-clause-rangeable
+end_behind-requires-clause-rangeable g c = rw c.get-settings.ensures c.requires.found.4
+
 pub returns-in-Ok-clause-cause : goal.returns-in-Ok-clause-cause
 returns-in-Ok-clause-cause g c =
-    behind_cause c.args.inputs.now.settings (texts_in c.args.inputs.now) c.args.problem.now c.args.later c.requires.subject c.args.certificate c.requires.found c.requires.best c.in-Ok.behind (rw c.get.ensures at (rw c.get-2.ensures at c.in-Ok.ensures)) (Rose (g.S.Store.faults c.args.files.now) (g.S.Store.faults c.end_behind.new.files)) (Rose (g.O.Sink.faults c.args.out.now) (g.O.Sink.faults c.end_behind.new.out)) c.end_behind.result c.end_behind.ensures.cause
+    behind_cause c.args.inputs.now.settings (texts_in c.args.inputs.now) c.args.problem.now c.args.later c.requires.subject c.args.certificate c.requires.found c.requires.best c.in-Ok.behind (rw c.get.ensures at (rw c.get-2.ensures at c.in-Ok.ensures)) (Rose (g.S.Store.faults c.args.files.now) (g.S.Store.faults c.end_behind.new.files)) (Rose (g.O.Sink.faults c.args.out.now) (g.O.Sink.faults c.end_behind.new.out)) c.end_behind.result (rw c.get-settings.ensures at c.end_behind.ensures.cause)
 
 pub returns-in-Ok-clause-written : goal.returns-in-Ok-clause-written
 returns-in-Ok-clause-written g c =
     let old : Outside = record { taken = g.O.Sink.taken c.args.out.now; told = g.S.Store.told c.args.files.now } in
     let new : Outside = record { taken = g.O.Sink.taken c.end_behind.new.out; told = g.S.Store.told c.end_behind.new.files } in
-    behind_written c.args.inputs.now.settings (texts_in c.args.inputs.now) c.args.problem.now c.args.later c.requires.subject c.args.certificate c.requires.found c.requires.best c.in-Ok.behind (rw c.get.ensures at (rw c.get-2.ensures at c.in-Ok.ensures)) (Rose (g.S.Store.faults c.args.files.now) (g.S.Store.faults c.end_behind.new.files)) (Rose (g.O.Sink.faults c.args.out.now) (g.O.Sink.faults c.end_behind.new.out)) old new c.end_behind.result c.end_behind.ensures.cause c.end_behind.ensures.written
+    behind_written c.args.inputs.now.settings (texts_in c.args.inputs.now) c.args.problem.now c.args.later c.requires.subject c.args.certificate c.requires.found c.requires.best c.in-Ok.behind (rw c.get.ensures at (rw c.get-2.ensures at c.in-Ok.ensures)) (Rose (g.S.Store.faults c.args.files.now) (g.S.Store.faults c.end_behind.new.files)) (Rose (g.O.Sink.faults c.args.out.now) (g.O.Sink.faults c.end_behind.new.out)) old new c.end_behind.result (rw c.get-settings.ensures at c.end_behind.ensures.cause) (rw c.get-settings.ensures at c.end_behind.ensures.written)
 
 pub returns-in-Err-clause-cause : goal.returns-in-Err-clause-cause
 returns-in-Err-clause-cause g c =

@@ -3,24 +3,24 @@ use Rattle.std.proofs.lemmas.List.{length-map}
 use Rattle.glpsol_cli.specs.Cause.{IsAccepted}
 use Rattle.glpsol_cli.specs.Stages.{IsCheckStop, IsFinding, IsSolution, IsUnfound, IsUnsolved, OfNext, texts_in}
 use Rattle.glpsol_cli.proofs.Follow.{err_also, ok_also}
-use Rattle.glpsol_cli.proofs.Works.{checks_by, one_behind, unsolved, solution_found, solves_by, wants_by, of_checked, unchecked}
+use Rattle.glpsol_cli.proofs.Works.{checks_by, one_behind, unsolved, solution_found, solves_by, of_checked, unchecked}
 use Rattle.glpsol_cli.proofs.work_out.finding.Goals as goal
 
 pub returns-in-Solve-clause-fault : goal.returns-in-Solve-clause-fault
 returns-in-Solve-clause-fault c =
     let inputs = c.args.inputs.now in
     let is = rw c.get-settings.ensures at c.in-Solve.is in
-    err_also c.solution.result (IsUnsolved c.args.problem.now inputs.settings c.in-Solve.outputs.subset) (λ unfound. IsUnfound unfound inputs.settings (texts_in inputs))
-    (unsolved inputs.settings (texts_in inputs) c.args.problem.now c.requires.asked (solves_by inputs.settings.task c.in-Solve.outputs is) c.in-Solve.outputs.subset (wants_by inputs.settings.task c.in-Solve.outputs is))
+    err_also c.solution.result (IsUnsolved c.args.problem.now inputs.settings) (λ unfound. IsUnfound unfound inputs.settings (texts_in inputs))
+    (unsolved inputs.settings (texts_in inputs) c.args.problem.now c.requires.asked (solves_by inputs.settings.task c.in-Solve.outputs is))
     (rw c.get-settings.ensures at c.solution.ensures.fault)
 
 pub returns-in-Solve-clause-finding : goal.returns-in-Solve-clause-finding
 returns-in-Solve-clause-finding c =
     let inputs = c.args.inputs.now in
     let is = rw c.get-settings.ensures at c.in-Solve.is in
-    ok_also c.solution.result (IsSolution c.args.problem.now c.in-Solve.outputs.subset) (IsFinding c.args.problem.now inputs.settings (texts_in inputs))
-    (solution_found inputs.settings (texts_in inputs) c.args.problem.now c.requires.asked (solves_by inputs.settings.task c.in-Solve.outputs is) c.in-Solve.outputs.subset (wants_by inputs.settings.task c.in-Solve.outputs is))
-    c.solution.ensures.finding
+    ok_also c.solution.result (IsSolution c.args.problem.now inputs.settings.task) (IsFinding c.args.problem.now inputs.settings (texts_in inputs))
+    (solution_found inputs.settings (texts_in inputs) c.args.problem.now c.requires.asked (solves_by inputs.settings.task c.in-Solve.outputs is))
+    (rw c.get-settings.ensures at c.solution.ensures.finding)
 
 pub returns-in-Ok-clause-finding : goal.returns-in-Ok-clause-finding
 returns-in-Ok-clause-finding c =
