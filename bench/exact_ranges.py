@@ -6,7 +6,8 @@ usage: bench/exact_ranges.py FILE.mps .. [--program PATH] [--runs N] [--most SEC
 A FILE is a free MPS text of a linear program (bench/relaxations.py writes those of GLPK's examples). Each is solved without
 and with the option; a solve's share is what the ranges take over, by the number of ends (two of each column and of each
 bound of a row) times a solve. GLPK's ranges are those of its last basis, in floating point: a range of a cost is told as
-narrower, wider or other where one of its ends differs by more than a millionth.
+narrower, wider or other where one of its ends differs by more than what its five decimals leave out. Where GLPK's point is
+another one, so are its ranges.
 """
 import argparse
 import os
@@ -66,7 +67,7 @@ def compared(exact, other):
     """How many ranges of GLPK's are narrower, wider, or neither."""
     counts = {"narrower": 0, "wider": 0, "other": 0}
     for (low, high), (glpk_low, glpk_high) in zip(exact, other):
-        near = lambda a, b: a == b or abs(a - b) <= 1e-6 * max(1.0, abs(a), abs(b))
+        near = lambda a, b: a == b or abs(a - b) <= 6e-6 + 1e-6 * max(abs(a), abs(b))
         if near(low, glpk_low) and near(high, glpk_high):
             continue
         inside = (near(low, glpk_low) or glpk_low > low) and (near(high, glpk_high) or glpk_high < high)
