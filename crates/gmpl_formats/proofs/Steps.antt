@@ -6,7 +6,7 @@ use Rattle.std.specs.Prelude.{None, Result, Ok, Err}
 use Rattle.std.specs.Result.{IsErrAnd}
 use Rattle.gmpl_value.specs.declared.symbol.Symbol.{Symbol}
 use Rattle.gmpl_value.specs.declared.eval_fault.EvalFault.{EvalFault}
-use Rattle.gmpl_value.specs.declared.eval_fault.EvalFault.TheVariants.{NoValue, OutOfDomain, Restriction, DivZero, NotWhole, NotANumber, Nonlinear, BadFormat, Depth, TooMany, NoFit, NoMemory}
+use Rattle.gmpl_value.specs.declared.eval_fault.EvalFault.TheVariants.{NoValue, OutOfDomain, Restriction, DivZero, NotWhole, NotANumber, Nonlinear, BadFormat, Depth, TooMany, NoDual, NoFit, NoMemory}
 use Rattle.gmpl_value.specs.Outcome.{Faults, Follows, Outcome, then_do}
 use Rattle.gmpl_formats.specs.declared.conversion.Piece.{Piece}
 use Rattle.gmpl_formats.specs.Conversions.{number_on}
@@ -83,6 +83,7 @@ then_faults Nonlinear go answer is = ap (then_do go) is
 then_faults BadFormat go answer is = ap (then_do go) is
 then_faults Depth go answer is = ap (then_do go) is
 then_faults TooMany go answer is = ap (then_do go) is
+then_faults NoDual go answer is = ap (then_do go) is
 then_faults (NoFit n) go answer is = ap (then_do go) is
 
 next_printed : (text : List ℕ) (pieces : List Piece) (i : ℕ) (piece : Piece) (rest : List Symbol) → i < length pieces → piece ≡ get_or pieces i piece

@@ -2,7 +2,7 @@
 use Rattle.std.proofs.Common.{◌≡◌, ◌<◌, ◌≤◌, ℕ, zero, suc, Ok, [], ◌∷◌, length, refl, ap, arith, slice_get, map, None}
 use Rattle.rational.specs.Rational.{Rational}
 use Rattle.gmpl_value.specs.declared.eval_fault.EvalFault.{EvalFault}
-use Rattle.gmpl_value.specs.declared.eval_fault.EvalFault.TheVariants.{NoValue, OutOfDomain, Restriction, DivZero, NotWhole, NotANumber, Nonlinear, BadFormat, Depth, TooMany, NoFit, NoMemory}
+use Rattle.gmpl_value.specs.declared.eval_fault.EvalFault.TheVariants.{NoValue, OutOfDomain, Restriction, DivZero, NotWhole, NotANumber, Nonlinear, BadFormat, Depth, TooMany, NoDual, NoFit, NoMemory}
 use Rattle.gmpl_value.specs.Outcome.{Faults, Outcome, then_do}
 use Rattle.gmpl_functions.specs.declared.scaling.Scaling.{Scaling}
 use Rattle.gmpl_functions.specs.declared.variable.Variable.{Variable}
@@ -32,6 +32,7 @@ then_faults Nonlinear go answer is = ap (then_do go) is
 then_faults BadFormat go answer is = ap (then_do go) is
 then_faults Depth go answer is = ap (then_do go) is
 then_faults TooMany go answer is = ap (then_do go) is
+then_faults NoDual go answer is = ap (then_do go) is
 then_faults (NoFit n) go answer is = ap (then_do go) is
 
 pub scaled_fails : (s : Scaling) (i : ℕ) (ts : Terms) (f : EvalFault) → i < length ts → Faults f (scaled_number s (value_at ts i)) → Faults f (scaled_from s i ts)

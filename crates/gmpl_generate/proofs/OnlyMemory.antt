@@ -1,7 +1,7 @@
 -- What has a value has no fault but want of memory.
 use Rattle.std.proofs.Common.{◌≡◌, Ok, refl}
 use Rattle.gmpl_value.specs.declared.eval_fault.EvalFault.{EvalFault}
-use Rattle.gmpl_value.specs.declared.eval_fault.EvalFault.TheVariants.{NoValue, OutOfDomain, Restriction, DivZero, NotWhole, NotANumber, Nonlinear, BadFormat, Depth, TooMany, NoFit, NoMemory}
+use Rattle.gmpl_value.specs.declared.eval_fault.EvalFault.TheVariants.{NoValue, OutOfDomain, Restriction, DivZero, NotWhole, NotANumber, Nonlinear, BadFormat, Depth, TooMany, NoDual, NoFit, NoMemory}
 use Rattle.gmpl_value.specs.Outcome.{Faults, Outcome}
 
 abbrev value_of : {A : Type 0} → A → Outcome A
@@ -19,4 +19,5 @@ only_memory a Nonlinear is = absurd cc
 only_memory a BadFormat is = absurd cc
 only_memory a Depth is = absurd cc
 only_memory a TooMany is = absurd cc
+only_memory a NoDual is = absurd cc
 only_memory a (NoFit n) is = absurd cc

@@ -3,7 +3,7 @@ use Rattle.std.proofs.Common.{◌≡◌, ◌∙◌, ◌+◌, ℕ, zero, suc, Ok,
 use Rattle.std.specs.Prelude.{Result}
 use Rattle.std.specs.Result.{IsErrAnd}
 use Rattle.gmpl_value.specs.declared.eval_fault.EvalFault.{EvalFault}
-use Rattle.gmpl_value.specs.declared.eval_fault.EvalFault.TheVariants.{NoValue, OutOfDomain, Restriction, DivZero, NotWhole, NotANumber, Nonlinear, BadFormat, Depth, TooMany, NoFit, NoMemory}
+use Rattle.gmpl_value.specs.declared.eval_fault.EvalFault.TheVariants.{NoValue, OutOfDomain, Restriction, DivZero, NotWhole, NotANumber, Nonlinear, BadFormat, Depth, TooMany, NoDual, NoFit, NoMemory}
 use Rattle.gmpl_value.specs.Outcome.{Faults, GivesAs, Outcome, then_do}
 use Rattle.gmpl_functions.specs.Linear.{Terms}
 use Rattle.gmpl_data.specs.declared.tables.LoadedModel.{LoadedModel}
@@ -22,6 +22,7 @@ then_faults Nonlinear go answer is = ap (then_do go) is
 then_faults BadFormat go answer is = ap (then_do go) is
 then_faults Depth go answer is = ap (then_do go) is
 then_faults TooMany go answer is = ap (then_do go) is
+then_faults NoDual go answer is = ap (then_do go) is
 then_faults (NoFit n) go answer is = ap (then_do go) is
 
 pub next_term : (model : LoadedModel) (found : List Term) (ts : Terms) (i : ℕ) → terms_of model found (drop i ts) ≡ then_do (λ more. terms_of model more (drop (suc i) ts)) (term_at model found (slice_get ts i))

@@ -86,7 +86,9 @@ pub enum Suffix {
     LowerBound,
     /// `.ub`
     UpperBound,
-    /// `.status` and `.dual`, which are not supported.
+    /// `.dual`
+    Dual,
+    /// `.status`, which is not supported.
     LeftOut,
 }
 

@@ -60,7 +60,8 @@ S0/1 P1 P1 => set S := {1}; param a{i in S} := i; param b{i in S} := a[i];
 !Unsupported 1 1 => param p := sqrt(2);
 !Undeclared 1 1 => param p := sqrt(q);
 !WrongKind 2 1 => var x; param p := x.val;
-!Unsupported 2 1 => var x; param p := x.dual;
+!WrongKind 2 1 => var x; param p := x.dual;
+!Unsupported 2 1 => var x; param p := x.status;
 !Undeclared 1 1 => param p := x.val;
 ";
 
@@ -142,13 +143,15 @@ const SOLVED: &str = "\
 !WrongKind 2 1 => var x; display x;
 V0 => var x; solve; display x;
 !WrongKind 2 1 => var x; display x.val;
-V0 => var x; solve; display x.val, x.lb, x.ub;
+!WrongKind 2 1 => var x; display x.dual;
+V0 => var x; solve; display x.val, x.lb, x.ub, x.dual;
 !Unsupported 3 1 => var x; solve; display x.status;
 V1 => var x{1..2}; solve; display x, x[1], x[1].val;
 !WrongDimension 3 1 => var x{1..2}; solve; display x.val;
 !WrongKind 3 1 => var x; c: x >= 1; display c;
 V0 C0 => var x; c: x >= 1; solve; display c;
-V0 C0 => var x; c: x >= 1; solve; display c.lb, c.ub;
+!WrongKind 3 1 => var x; c: x >= 1; display c.dual;
+V0 C0 => var x; c: x >= 1; solve; display c.lb, c.ub, c.dual;
 !Unsupported 4 1 => var x; c: x >= 1; solve; display c.status;
 !WrongKind 3 1 => var x; minimize z: x; printf 'a', z;
 V0 O0 => var x; minimize z: x; solve; printf 'a', z;

@@ -25,6 +25,8 @@ pub enum EvalFault {
     Depth,
     /// A set would have more than 5,000,000 elements.
     TooMany,
+    /// What was solved has no dual values.
+    NoDual,
     /// The result of an operation doesn't fit.
     NoFit(NoFit),
     NoMemory,

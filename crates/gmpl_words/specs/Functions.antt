@@ -80,6 +80,6 @@ suffix_word text =
     if bytes_eq text (codes "val") then Some s.Value
     else if bytes_eq text (codes "lb") then Some s.LowerBound
     else if bytes_eq text (codes "ub") then Some s.UpperBound
+    else if bytes_eq text (codes "dual") then Some s.Dual
     else if bytes_eq text (codes "status") then Some s.LeftOut
-    else if bytes_eq text (codes "dual") then Some s.LeftOut
     else None

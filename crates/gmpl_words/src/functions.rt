@@ -125,8 +125,8 @@ pub fn suffix_word(text: &str) -> Option<Suffix>
         "val" => Some(Suffix::Value),
         "lb" => Some(Suffix::LowerBound),
         "ub" => Some(Suffix::UpperBound),
+        "dual" => Some(Suffix::Dual),
         "status" => Some(Suffix::LeftOut),
-        "dual" => Some(Suffix::LeftOut),
         _ => None,
     }
 }

@@ -65,6 +65,7 @@ evaluation_text eval.Nonlinear = codes "Nonlinear"
 evaluation_text eval.BadFormat = codes "BadFormat"
 evaluation_text eval.Depth = codes "Depth"
 evaluation_text eval.TooMany = codes "TooMany"
+evaluation_text eval.NoDual = codes "NoDual"
 evaluation_text (eval.NoFit f) = codes "NoFit " ++ operation_text f
 evaluation_text eval.NoMemory = codes "NoMemory"
 

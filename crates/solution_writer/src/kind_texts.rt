@@ -85,6 +85,7 @@ fn evaluation_text(alloc: Global, kind: EvalFault) -> Result<String, AllocError>
         EvalFault::BadFormat => "BadFormat".to_string(alloc),
         EvalFault::Depth => "Depth".to_string(alloc),
         EvalFault::TooMany => "TooMany".to_string(alloc),
+        EvalFault::NoDual => "NoDual".to_string(alloc),
         EvalFault::NoFit(fault) => {
             let operation = operation_text(alloc, fault)?;
             format!(in alloc; "NoFit {operation}")
