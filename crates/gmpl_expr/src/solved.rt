@@ -12,7 +12,7 @@ use fraction::Frac;
 use gmpl_functions::{Form, Variable};
 use gmpl_meaning::Bounds;
 use gmpl_operations::Value;
-use gmpl_solution::{Member, Solution, SolvedMember};
+use gmpl_solution::{Dual, Member, Solution, SolvedMember};
 use gmpl_syntax::Suffix;
 use gmpl_value::{EvalFault, Tuple};
 use std::alloc::Global;
@@ -60,6 +60,29 @@ fn bound_value(bound: Option<Frac>) -> Result<Value, EvalFault>
     Ok(Value::number(number))
 }
 
+// A dual value, where there is one.
+fn dual_value(dual: Dual) -> Result<Value, EvalFault>
+    ensures { result ≡ members.dual_value dual }
+{
+    match dual {
+        Dual::Number(number) => Ok(Value::number(number)),
+        Dual::NoFit(no_fit) => Err(EvalFault::NoFit(no_fit)),
+        Dual::Missing => Err(EvalFault::NoDual),
+    }
+}
+
+fn solved_dual(
+    alloc: Global,
+    place: usize,
+    subscripts: &Tuple,
+    solution: &Solution,
+) -> Result<Value, EvalFault>
+    ensures { Gives result (members.dual_value (solutions.dual_of solution.now (solutions.member place subscripts.now))) }
+{
+    let member = member(alloc, place, subscripts)?;
+    dual_value(solution.dual(&member))
+}
+
 // What is asked of a member of a variable behind `solve`.
 fn solved_variable(
     alloc: Global,
@@ -77,6 +100,7 @@ fn solved_variable(
             Suffix::Value => solved_value(alloc, place, subscripts, solution),
             Suffix::LowerBound => bound_value(bounds.lower),
             Suffix::UpperBound => bound_value(bounds.upper),
+            Suffix::Dual => solved_dual(alloc, place, subscripts, solution),
             Suffix::LeftOut => Err(EvalFault::NoValue),
         },
     }
@@ -112,6 +136,7 @@ pub(crate) fn solved_asked(asked: Option<Suffix>, member: SolvedMember) -> Resul
             Suffix::Value => Ok(Value::number(member.value)),
             Suffix::LowerBound => bound_value(member.lower),
             Suffix::UpperBound => bound_value(member.upper),
+            Suffix::Dual => dual_value(member.dual),
             Suffix::LeftOut => Err(EvalFault::NoValue),
         },
     }
@@ -126,6 +151,7 @@ fn asks_bound(asked: Option<Suffix>) -> bool
             Suffix::Value => false,
             Suffix::LowerBound => true,
             Suffix::UpperBound => true,
+            Suffix::Dual => false,
             Suffix::LeftOut => false,
         },
     }

@@ -2,12 +2,12 @@
 use crate::models::{asked, statements_of, tuple_of};
 use crate::rows::{Subject, check, cut, split};
 use crate::texts::{fault_word, form_word, set_word, symbol_word, tuple_word};
-use fraction::Frac;
+use fraction::{Frac, NoFit, Op};
 use gmpl_data::{DataTables, LoadedModel};
 use gmpl_expr::{Context, eval_value, member_value};
 use gmpl_operations::Value;
 use gmpl_resolved::Expr;
-use gmpl_solution::{Member, Solution, SolvedMember};
+use gmpl_solution::{Dual, Member, Solution, SolvedMember};
 use gmpl_value::{EvalFault, Tuple};
 use sqlite_items::Items;
 use std::alloc::{AllocError, Global};
@@ -18,7 +18,8 @@ const MODEL: &str = "\
 var x{1..3} >= 0, <= 5; var y; s.t. r{i in 1..2}: x[i] <= 4; maximize total: sum{i in 1..2} i * x[i]; solve; \
 param p{i in 1..3} := x[i] ** 2; ";
 
-// By hand after the language reference, where x[1] is 4 and x[2] is 3, and at its first demand x[1] was at most 7, and x[2] from 1 to 6.
+// By hand after the language reference, where x[1] is 4 and x[2] is 3, and at its first demand x[1] was at most 7, and x[2] from 1 to 6;
+// x[1] has the dual value 2 and r has 1/2, x[2] has none, and the sum of total does not fit.
 const SOLVED: &str = "\
 4 => x[1]
 4 => x[1].val
@@ -39,6 +40,12 @@ const SOLVED: &str = "\
 !OutOfDomain => x[4].val
 !OutOfDomain => x[4].ub
 !DivZero => x[1/0].ub
+2 => x[1].dual
+!NoDual => x[2].dual
+0 => x[3].dual
+0 => y.dual
+!OutOfDomain => x[4].dual
+!DivZero => x[1/0].dual
 16 => x[1] * x[1]
 7 => sum{i in 1..3} x[i]
 9 => p[2]
@@ -49,10 +56,13 @@ const SOLVED: &str = "\
 !NoValue => r[2].lb
 !OutOfDomain => r[3]
 !OutOfDomain => r[3].lb
+1/2 => r[1].dual
+!OutOfDomain => r[3].dual
 10 => total
 10 => total.val
 !NoValue => total.lb
 !NoValue => total.ub
+!NoFit 1 + 2 => total.dual
 ";
 
 // The same without a solution.
@@ -62,9 +72,11 @@ const UNSOLVED: &str = "\
 !OutOfDomain => x[4]
 !NoValue => x[1].val
 !NoValue => x[1].ub
+!NoValue => x[1].dual
 !OutOfDomain => x[4].val
 !NoValue => r[1]
 !NoValue => r[1].ub
+!NoValue => r[1].dual
 !NoValue => total
 ";
 
@@ -100,12 +112,20 @@ fn with_column(
     Ok(made)
 }
 
+fn half() -> Frac {
+    match Frac::whole(1).div(Frac::whole(2)) {
+        Ok(half) => half,
+        Err(_) => Frac::zero(),
+    }
+}
+
 // A row of `r`.
 fn row(value: Frac) -> SolvedMember {
     SolvedMember {
         value,
         lower: None,
         upper: Some(Frac::whole(4)),
+        dual: Dual::Number(half()),
     }
 }
 
@@ -131,6 +151,11 @@ fn with_objective(alloc: Global, solution: Solution) -> Result<Solution, AllocEr
         value: Frac::whole(10),
         lower: None,
         upper: None,
+        dual: Dual::NoFit(NoFit {
+            a: Frac::whole(1),
+            op: Op::Add,
+            b: Frac::whole(2),
+        }),
     };
     made.add_row(total, free)?;
     Ok(made)
@@ -141,13 +166,16 @@ fn solution(alloc: Global) -> Result<Solution, AllocError> {
         value: Frac::whole(4),
         lower: None,
         upper: Some(Frac::whole(7)),
+        dual: Dual::Number(Frac::whole(2)),
     };
     let second = SolvedMember {
         value: Frac::whole(3),
         lower: Some(Frac::whole(1)),
         upper: Some(Frac::whole(6)),
+        dual: Dual::Missing,
     };
-    let made = with_column(alloc, Solution::new(alloc), "1", first)?;
+    let made = Solution::new(alloc, Dual::Number(Frac::zero()));
+    let made = with_column(alloc, made, "1", first)?;
     let made = with_column(alloc, made, "2", second)?;
     let made = with_row(alloc, made, "1", Frac::whole(4))?;
     let made = with_row(alloc, made, "2", Frac::whole(3))?;

@@ -87,6 +87,7 @@ pub(crate) fn fault_word(alloc: Global, fault: EvalFault) -> Result<String, Allo
         EvalFault::BadFormat => "BadFormat",
         EvalFault::Depth => "Depth",
         EvalFault::TooMany => "TooMany",
+        EvalFault::NoDual => "NoDual",
         EvalFault::NoMemory => "NoMemory",
     };
     format!(in alloc; "!{kind}")

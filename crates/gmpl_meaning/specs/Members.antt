@@ -5,8 +5,10 @@ use Rattle.std.specs.Prelude.{ℕ, zero, suc, Bool, true, false, Option, Some, N
 use Rattle.rational.specs.Rational.{Rational, zero_ℚ, one_ℚ}
 use Rattle.gmpl_syntax.specs.declared.expression.Suffix.{Suffix}
 use Rattle.gmpl_syntax.specs.declared.expression.Suffix.TheVariants as suffix
+use Rattle.gmpl_solution.specs.declared.dual.Dual.{Dual}
+use Rattle.gmpl_solution.specs.declared.dual.Dual.TheVariants as dual
 use Rattle.gmpl_solution.specs.declared.solution.SolvedMember.{SolvedMember}
-use Rattle.gmpl_solution.specs.Solution.{Solution, member as member_named, value_of, column_of, row_of}
+use Rattle.gmpl_solution.specs.Solution.{Solution, member as member_named, value_of, dual_of, column_of, row_of}
 use Rattle.gmpl_resolved.specs.declared.expression.Expr.{Expr}
 use Rattle.gmpl_resolved.specs.declared.expression.Indexing.{Indexing}
 use Rattle.gmpl_resolved.specs.declared.statement.Attribute.{Attribute}
@@ -20,7 +22,7 @@ use Rattle.gmpl_members.specs.declared.value.Value.{Value as Kept}
 use Rattle.gmpl_members.specs.declared.value.Value.TheVariants as kept
 use Rattle.gmpl_data.specs.declared.tables.LoadedModel.{LoadedModel}
 use Rattle.gmpl_data.specs.Given.{statement_at, value_given, is_overfull, default_given}
-use Rattle.gmpl_value.specs.declared.eval_fault.EvalFault.TheVariants.{NoValue, OutOfDomain, TooMany, Depth}
+use Rattle.gmpl_value.specs.declared.eval_fault.EvalFault.TheVariants.{NoValue, OutOfDomain, TooMany, NoDual, NoFit, Depth}
 use Rattle.gmpl_value.specs.Outcome.{Outcome, then_do}
 use Rattle.gmpl_functions.specs.declared.variable.Variable.{Variable}
 use Rattle.gmpl_functions.specs.Linear.{linear}
@@ -59,6 +61,12 @@ abbrev pub bound_value : Option Rational → Outcome Value
 bound_value None = Err NoValue
 bound_value (Some q) = Ok (of_number q)
 
+-- a dual value, where there are any and its sum fits
+abbrev pub dual_value : Dual → Outcome Value
+dual_value (dual.Number q) = Ok (of_number q)
+dual_value (dual.NoFit n) = Err (NoFit n)
+dual_value dual.Missing = Err NoDual
+
 -- what is asked of a member of a variable with these bounds: before `solve` it is its form, and has no suffix
 abbrev pub variable_asked : ℕ → List Symbol → Option Solution → Option Suffix → Bounds → Outcome Value
 variable_asked place subscripts None None bounds = Ok (Linear (linear ((variable place subscripts, one_ℚ) ∷ []) zero_ℚ))
@@ -67,6 +75,7 @@ variable_asked place subscripts (Some s) None bounds = Ok (of_number (value_of s
 variable_asked place subscripts (Some s) (Some suffix.Value) bounds = Ok (of_number (value_of s (member_named place subscripts)))
 variable_asked place subscripts (Some s) (Some suffix.LowerBound) bounds = bound_value bounds.lower
 variable_asked place subscripts (Some s) (Some suffix.UpperBound) bounds = bound_value bounds.upper
+variable_asked place subscripts (Some s) (Some suffix.Dual) bounds = dual_value (dual_of s (member_named place subscripts))
 variable_asked place subscripts (Some s) (Some suffix.LeftOut) bounds = Err NoValue
 
 -- what is asked of a column or of a row
@@ -75,6 +84,7 @@ solved_asked None m = Ok (of_number m.value)
 solved_asked (Some suffix.Value) m = Ok (of_number m.value)
 solved_asked (Some suffix.LowerBound) m = bound_value m.lower
 solved_asked (Some suffix.UpperBound) m = bound_value m.upper
+solved_asked (Some suffix.Dual) m = dual_value m.dual
 solved_asked (Some suffix.LeftOut) m = Err NoValue
 
 abbrev pub asks_bound : Option Suffix → Bool
@@ -82,6 +92,7 @@ asks_bound None = false
 asks_bound (Some suffix.Value) = false
 asks_bound (Some suffix.LowerBound) = true
 asks_bound (Some suffix.UpperBound) = true
+asks_bound (Some suffix.Dual) = false
 asks_bound (Some suffix.LeftOut) = false
 
 -- behind `solve` a column has its own bounds, those of its first demand, which are not evaluated again

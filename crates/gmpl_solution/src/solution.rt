@@ -1,28 +1,31 @@
 // What members come to.
 ghost use Rattle.std.specs.Prelude.{◌≡◌, OnOk};
-ghost use Rattle.gmpl_solution.specs.Solution.{nothing, value_of, column_of, row_of, with_column, with_row};
+ghost use Rattle.gmpl_solution.specs.Solution.{nothing, value_of, dual_of, column_of, row_of, with_column, with_row};
 
+use crate::dual::Dual;
 use crate::member::Member;
 use fraction::Frac;
 use indexmap::IndexMap;
 use std::alloc::{AllocError, Global};
 use std::marker::Model;
 
-/// What a member that is a column or a row comes to: its number at the point, which of a row is the value of its form, and its own
-/// bounds.
+/// What a member that is a column or a row comes to: its number at the point, which of a row is the value of its form, its own
+/// bounds, and its dual value.
 #[derive(Clone, Copy)]
 pub struct SolvedMember {
     pub value: Frac,
     pub lower: Option<Frac>,
     pub upper: Option<Frac>,
+    pub dual: Dual,
 }
 
-/// What members come to at a point of the problem: those of variables that are columns, and those of constraints and objectives.
-/// Clauses see the two lists of pairs.
+/// What members come to at a point of the problem: those of variables that are columns, and those of constraints and objectives;
+/// and the dual value of a variable's member that is no column. Clauses see the two lists of pairs.
 #[derive(Drop)]
 pub struct Solution {
     columns: IndexMap<Member, SolvedMember>,
     rows: IndexMap<Member, SolvedMember>,
+    elsewhere: Dual,
 }
 
 impl Model for Solution {
@@ -30,17 +33,18 @@ impl Model for Solution {
 
     ghost Value = { SolutionOf };
 
-    ghost view = { λ s. record { columns = s.columns.entries; rows = s.rows.entries } };
+    ghost view = { λ s. record { columns = s.columns.entries; rows = s.rows.entries; elsewhere = s.elsewhere } };
 }
 
 impl Solution {
-    /// Nothing so far.
-    pub fn new(alloc: Global) -> Solution
-        ensures { result ≡ nothing }
+    /// Nothing so far, where a variable's member that is no column has this dual value.
+    pub fn new(alloc: Global, elsewhere: Dual) -> Solution
+        ensures { result ≡ nothing elsewhere }
     {
         Solution {
             columns: IndexMap::new(alloc),
             rows: IndexMap::new(alloc),
+            elsewhere,
         }
     }
 
@@ -51,6 +55,16 @@ impl Solution {
         match self.column(member) {
             Some(column) => column.value,
             None => Frac::zero(),
+        }
+    }
+
+    /// The dual value of a variable's member.
+    pub fn dual(&self, member: &Member) -> Dual
+        ensures { result ≡ dual_of self.now member.now }
+    {
+        match self.column(member) {
+            Some(column) => column.dual,
+            None => self.elsewhere,
         }
     }
 
