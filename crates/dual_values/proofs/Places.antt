@@ -1,0 +1,43 @@
+-- Sums place by place, one weight after another.
+use Rattle.std.proofs.Common.{◌≡◌, ◌<◌, ◌≤◌, ◌+◌, ◌==◌, ℕ, zero, suc, true, false, List, [], ◌∷◌, length, get_or, set, refl, sym, ap, arith}
+use Rattle.std.proofs.lemmas.Bool.Decides.{nat_tests}
+use Rattle.rational.specs.Rational.{Rational}
+use Rattle.verdicts.specs.Certificate.{Item}
+use Rattle.gmpl_solution.specs.declared.dual.Dual.{Dual}
+use Rattle.dual_values.specs.Duals.{plus, summed, sums_from}
+use Rattle.dual_values.specs.Places.{with_weight}
+
+-- a weight on a place before these
+before : (k : ℕ) (i : Item) (is : List Item) (ds : List Dual) → i.index < k → sums_from k (i ∷ is) ds ≡ sums_from k is ds
+before k i is [] h = refl
+before k i is (d ∷ ds) h =
+    let other : (i.index == k) ≡ false = grind (arith, nat_tests) in
+    rw other (ap (λ (rest : List Dual). summed k is d ∷ rest) (before (suc k) i is ds (omega (arith, h))))
+
+-- a weight on one of them
+among : (k n : ℕ) (i : Item) (is : List Item) (ds : List Dual) → i.index ≡ k + n → sums_from k (i ∷ is) ds ≡ sums_from k is (with_weight n i.weight ds)
+among k n i is [] h = refl
+among k zero i is (d ∷ ds) h =
+    let here : (i.index == k) ≡ true = grind (arith, nat_tests) in
+    rw here (ap (λ (rest : List Dual). summed k is (plus d i.weight) ∷ rest) (before (suc k) i is ds (omega (arith, h))))
+among k (suc n) i is (d ∷ ds) h =
+    let other : (i.index == k) ≡ false = grind (arith, nat_tests) in
+    rw other (ap (λ (rest : List Dual). summed k is d ∷ rest) (among (suc k) n i is ds (omega (arith, h))))
+
+pub one_more : (i : Item) (is : List Item) (ds : List Dual) → sums_from 0 (i ∷ is) ds ≡ sums_from 0 is (with_weight i.index i.weight ds)
+one_more i is ds = among 0 i.index i is ds (omega arith)
+
+pub no_more : (k : ℕ) (ds : List Dual) → sums_from k [] ds ≡ ds
+no_more k [] = refl
+no_more k (d ∷ ds) = ap (λ (rest : List Dual). d ∷ rest) (no_more (suc k) ds)
+
+-- the same as it is written at a place
+pub written : (k : ℕ) (w : Rational) (ds : List Dual) (d : Dual) → k < length ds → set ds k (plus (get_or ds k d) w) ≡ with_weight k w ds
+written k w [] d h = refl
+written zero w (e ∷ ds) d h = refl
+written (suc k) w (e ∷ ds) d h = ap (λ (rest : List Dual). e ∷ rest) (written k w ds d (omega (arith, h)))
+
+pub unwritten : (k : ℕ) (w : Rational) (ds : List Dual) → length ds ≤ k → with_weight k w ds ≡ ds
+unwritten k w [] h = refl
+unwritten zero w (e ∷ ds) h = absurd (omega (arith, h))
+unwritten (suc k) w (e ∷ ds) h = ap (λ (rest : List Dual). e ∷ rest) (unwritten k w ds (omega (arith, h)))
