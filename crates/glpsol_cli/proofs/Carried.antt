@@ -7,7 +7,9 @@ use Rattle.rational.specs.Rational.{Rational}
 use Rattle.milp.specs.Problem.{Problem}
 use Rattle.verdicts.specs.Certificate.{Certificate}
 use Rattle.verdicts.specs.Certificate as kind
+use Rattle.gmpl_solution.specs.Solution.{Duals}
 use Rattle.gmpl_generate.specs.declared.fault.ModelFault.{ModelFault}
+use Rattle.dual_values.specs.Duals.{duals_of}
 use Rattle.outside.specs.Told.{AppendsPrefix}
 use Rattle.branch_search.specs.declared.whole_fault.VerdictFault.TheVariants.{NoFit as SearchNoFit, PivotLimit, SplitLimit, NoMemory as SearchNoMemory}
 use Rattle.infeasible_subset.specs.declared.fault.SubsetFault.TheVariants.{NoFit as SubsetNoFit, PivotLimit as SubsetPivotLimit, NoMemory as SubsetNoMemory}
@@ -22,7 +24,7 @@ use Rattle.command_line.specs.declared.settings.Settings.{Settings}
 use Rattle.command_line.specs.declared.settings.Task.{Task}
 use Rattle.glpsol_cli.specs.Asked.{ToldNames, names_read, ranges_file, wants_ranges}
 use Rattle.glpsol_cli.specs.Pieces.{Piece, Outside, SameNames, WrittenUpTo, Whole}
-use Rattle.glpsol_cli.specs.Meaning.{Behind, Declared, IsAsked, Meaning, behind_at, behind_of, found_pieces, meaning_in, meaning_of, saved_in}
+use Rattle.glpsol_cli.specs.Meaning.{Behind, Declared, End, IsAsked, Meaning, behind_at, behind_of, behind_with, found_pieces, meaning_in, meaning_of, saved_in}
 use Rattle.glpsol_cli.specs.Cause.{AreRanges, Cause, EndsBehind, HasRanges, HasSubset, LacksRanges, IsAccepted, IsProved, IsTranslated, OfCertificate, reached_of}
 use Rattle.glpsol_cli.specs.Written.{Written, ThenLine, extent_of, line_of}
 use Rattle.glpsol_cli.specs.Stages.{ComesTo, same, to_ranges, EndsWriting, HasFailed, IsEndAtBest, without_ranges, ranged, unranged, ranges_unwritten, IsEndBehind, at_best, at_fault, unwritten, IsEndIn, IsFinding, IsKept, IsPublished, IsStop, IsSubject, IsUnfound, LeftIn, LeftWritten, RestWritten, TellsBehind, behind_in, pieces_of, range_pieces, reached_by, stop_answer, unfound_answer, unwritten_answer}
@@ -97,7 +99,7 @@ module _ (s : Settings) (texts : List (List ℕ)) where
     end = h.end;
     found = h.found;
     are = h.are;
-    has = subst (λ (n : Meaning). Q (n.done ++ (h.found ++ (behind_of s.task h.meaning.behind Size).pieces))) (some_same (sym means ∙ h.means)) (f (h.found ++ (behind_of s.task h.meaning.behind Size).pieces) h.has);
+    has = subst (λ (n : Meaning). Q (n.done ++ (h.found ++ (behind_of s.task h.meaning Size).pieces))) (some_same (sym means ∙ h.means)) (f (h.found ++ (behind_of s.task h.meaning Size).pieces) h.has);
   }
   left_in m means (Acceptance c) P Q f h = record {
     meaning = h.meaning;
@@ -106,7 +108,7 @@ module _ (s : Settings) (texts : List (List ℕ)) where
     end = h.end;
     found = h.found;
     are = h.are;
-    has = subst (λ (n : Meaning). Q (n.done ++ (h.found ++ (behind_of s.task h.meaning.behind (Acceptance c)).pieces))) (some_same (sym means ∙ h.means)) (f (h.found ++ (behind_of s.task h.meaning.behind (Acceptance c)).pieces) h.has);
+    has = subst (λ (n : Meaning). Q (n.done ++ (h.found ++ (behind_of s.task h.meaning (Acceptance c)).pieces))) (some_same (sym means ∙ h.means)) (f (h.found ++ (behind_of s.task h.meaning (Acceptance c)).pieces) h.has);
   }
   left_in m means (Verdict c) P Q f h = record {
     meaning = h.meaning;
@@ -115,7 +117,7 @@ module _ (s : Settings) (texts : List (List ℕ)) where
     end = h.end;
     found = h.found;
     are = h.are;
-    has = subst (λ (n : Meaning). Q (n.done ++ (h.found ++ (behind_of s.task h.meaning.behind (Verdict c)).pieces))) (some_same (sym means ∙ h.means)) (f (h.found ++ (behind_of s.task h.meaning.behind (Verdict c)).pieces) h.has);
+    has = subst (λ (n : Meaning). Q (n.done ++ (h.found ++ (behind_of s.task h.meaning (Verdict c)).pieces))) (some_same (sym means ∙ h.means)) (f (h.found ++ (behind_of s.task h.meaning (Verdict c)).pieces) h.has);
   }
   left_in m means (Subset c w) P Q f h = record {
     meaning = h.meaning;
@@ -124,7 +126,7 @@ module _ (s : Settings) (texts : List (List ℕ)) where
     end = h.end;
     found = h.found;
     are = h.are;
-    has = subst (λ (n : Meaning). Q (n.done ++ (h.found ++ (behind_of s.task h.meaning.behind (Subset c w)).pieces))) (some_same (sym means ∙ h.means)) (f (h.found ++ (behind_of s.task h.meaning.behind (Subset c w)).pieces) h.has);
+    has = subst (λ (n : Meaning). Q (n.done ++ (h.found ++ (behind_of s.task h.meaning (Subset c w)).pieces))) (some_same (sym means ∙ h.means)) (f (h.found ++ (behind_of s.task h.meaning (Subset c w)).pieces) h.has);
   }
   left_in m means (Ranges c r) P Q f h = record {
     meaning = h.meaning;
@@ -133,7 +135,7 @@ module _ (s : Settings) (texts : List (List ℕ)) where
     end = h.end;
     found = h.found;
     are = h.are;
-    has = subst (λ (n : Meaning). Q (n.done ++ (h.found ++ (behind_of s.task h.meaning.behind (Ranges c r)).pieces))) (some_same (sym means ∙ h.means)) (f (h.found ++ (behind_of s.task h.meaning.behind (Ranges c r)).pieces) h.has);
+    has = subst (λ (n : Meaning). Q (n.done ++ (h.found ++ (behind_of s.task h.meaning (Ranges c r)).pieces))) (some_same (sym means ∙ h.means)) (f (h.found ++ (behind_of s.task h.meaning (Ranges c r)).pieces) h.has);
   }
 
   -- the end is a fault
@@ -220,28 +222,28 @@ module _ (s : Settings) (texts : List (List ℕ)) (p : Problem) (later : Option 
   ends_at m means = ap (λ (n : Meaning). n.end) (some_same (sym means ∙ subject.means)) ∙ subject.declares
 
   -- what is left of a problem, by a meaning of the texts
-  left_of : (f : Finding) (P : List Piece → Type 0) (m : Meaning) (pieces : List Piece) → meaning_of s texts ≡ Some m → found_pieces s.task p (reached_by f) ≡ Some pieces → P (pieces ++ (behind_of s.task m.behind (reached_by f)).pieces) → LeftIn s texts (reached_by f) P
+  left_of : (f : Finding) (P : List Piece → Type 0) (m : Meaning) (pieces : List Piece) → meaning_of s texts ≡ Some m → found_pieces s.task p (reached_by f) ≡ Some pieces → P (pieces ++ (behind_of s.task m (reached_by f)).pieces) → LeftIn s texts (reached_by f) P
   left_of SizeFound P m pieces means are has = record { meaning = m; means = means; problem = p; end = ends_at m means; found = pieces; are = are; has = has }
   left_of (AcceptanceFound c) P m pieces means are has = record { meaning = m; means = means; problem = p; end = ends_at m means; found = pieces; are = are; has = has }
   left_of (VerdictFound c) P m pieces means are has = record { meaning = m; means = means; problem = p; end = ends_at m means; found = pieces; are = are; has = has }
   left_of (SubsetFound c w) P m pieces means are has = record { meaning = m; means = means; problem = p; end = ends_at m means; found = pieces; are = are; has = has }
 
   -- the same with ranges
-  left_with : (c : Certificate) (r : AllRanges) (P : List Piece → Type 0) (m : Meaning) (pieces : List Piece) → meaning_of s texts ≡ Some m → found_pieces s.task p (Verdict c) ≡ Some pieces → P (pieces ++ (behind_of s.task m.behind (Ranges c r)).pieces) → LeftIn s texts (Ranges c r) P
+  left_with : (c : Certificate) (r : AllRanges) (P : List Piece → Type 0) (m : Meaning) (pieces : List Piece) → meaning_of s texts ≡ Some m → found_pieces s.task p (Verdict c) ≡ Some pieces → P (pieces ++ (behind_of s.task m (Ranges c r)).pieces) → LeftIn s texts (Ranges c r) P
   left_with c r P m pieces means are has = record { meaning = m; means = means; problem = p; end = ends_at m means; found = pieces; are = are; has = has }
 
   module _ (f : Finding) (old middle : Outside) where
-    left_behind : (P : List Piece → Type 0) (last : Reached) (m : Meaning) (pieces : List Piece) → meaning_of s texts ≡ Some m → found_pieces s.task p (reached_by f) ≡ Some pieces → ComesTo (reached_by f) last → P (pieces ++ (behind_of s.task m.behind last).pieces) → LeftIn s texts last P
+    left_behind : (P : List Piece → Type 0) (last : Reached) (m : Meaning) (pieces : List Piece) → meaning_of s texts ≡ Some m → found_pieces s.task p (reached_by f) ≡ Some pieces → ComesTo (reached_by f) last → P (pieces ++ (behind_of s.task m last).pieces) → LeftIn s texts last P
     left_behind P last m pieces means are (same e) has =
-        subst (λ q. LeftIn s texts q P) (sym e) (left_of f P m pieces means are (subst (λ q. P (pieces ++ (behind_of s.task m.behind q).pieces)) e has))
+        subst (λ q. LeftIn s texts q P) (sym e) (left_of f P m pieces means are (subst (λ q. P (pieces ++ (behind_of s.task m q).pieces)) e has))
     left_behind P last m pieces means are (to_ranges c r from to) has =
         subst (λ q. LeftIn s texts q P) (sym to)
-        (left_with c r P m pieces means (subst (λ q. found_pieces s.task p q ≡ Some pieces) from are) (subst (λ q. P (pieces ++ (behind_of s.task m.behind q).pieces)) to has))
+        (left_with c r P m pieces means (subst (λ q. found_pieces s.task p q ≡ Some pieces) from are) (subst (λ q. P (pieces ++ (behind_of s.task m q).pieces)) to has))
 
     pub reported_written : (new : Outside) (answer : Answer) → IsPublished {T = Unit {0}} s.task p f old middle (Ok tt) → RestWritten (reached_by f) s texts middle new answer → LeftWritten s texts old new answer
     reported_written new answer published rest =
         left_behind (ThenLine (extent_of answer) (line_of answer) old new) (reached_of answer) rest.meaning published.pieces rest.means published.are rest.is_reached
-        (line_after (extent_of answer) (line_of answer) published.pieces (behind_of s.task rest.meaning.behind (reached_of answer)).pieces old middle new published.ends rest.has)
+        (line_after (extent_of answer) (line_of answer) published.pieces (behind_of s.task rest.meaning (reached_of answer)).pieces old middle new published.ends rest.has)
 
     module _ (fault : PublishFault) (r : Reached) (made answer : Answer) (reaches : r ≡ reached_by f) (means : made ≡ unwritten_answer r fault) (told_is : answer ≡ made) where
       is_answer : answer ≡ unwritten_answer (reached_by f) fault
@@ -256,7 +258,7 @@ module _ (s : Settings) (texts : List (List ℕ)) (p : Problem) (later : Option 
           let built : Answer = unwritten_answer (reached_by f) fault in
           let m : Meaning = meaning_in s subject.text subject.data_texts subject.tables in
           let P : List Piece → Type 0 = ThenLine (extent_of built) (line_of built) old new in
-          let more : List Piece = (behind_of s.task m.behind (reached_by f)).pieces in
+          let more : List Piece = (behind_of s.task m (reached_by f)).pieces in
           subst (LeftWritten s texts old new) (sym is_answer)
           (subst (λ q. LeftIn s texts q P) (sym (reached_unwritten (reached_by f) fault))
           (left_of f P m published.pieces subject.means published.are
@@ -266,14 +268,14 @@ module _ (s : Settings) (texts : List (List ℕ)) (p : Problem) (later : Option 
   -- ---- from the report on
 
   -- nothing is left
-  none_left : (r : Reached) (o : Outside) (answer : Answer) → (extent_of answer ≡ Whole) → (line_of answer ≡ []) → reached_of answer ≡ r → (behind_of s.task (meaning_in s subject.text subject.data_texts subject.tables).behind r).pieces ≡ [] → RestWritten r s texts o o answer
+  none_left : (r : Reached) (o : Outside) (answer : Answer) → (extent_of answer ≡ Whole) → (line_of answer ≡ []) → reached_of answer ≡ r → (behind_of s.task (meaning_in s subject.text subject.data_texts subject.tables) r).pieces ≡ [] → RestWritten r s texts o o answer
   none_left r o answer whole silent reaches none =
       let m : Meaning = meaning_in s subject.text subject.data_texts subject.tables in
       record {
         meaning = m;
         means = subject.means;
         is_reached = same reaches;
-        has = subst (λ q. ThenLine (extent_of answer) (line_of answer) o o (behind_of s.task m.behind q).pieces) (sym reaches)
+        has = subst (λ q. ThenLine (extent_of answer) (line_of answer) o o (behind_of s.task m q).pieces) (sym reaches)
             (subst (λ ps. ThenLine (extent_of answer) (line_of answer) o o ps) (sym none) (subst (λ e. ThenLine e (line_of answer) o o []) (sym whole) (no_line (line_of answer) [] o o (nothing o))));
       }
 
@@ -309,10 +311,12 @@ module _ (s : Settings) (texts : List (List ℕ)) (p : Problem) (later : Option 
     unbounded_cause files_rose out_rose is = (is, proved)
 
     pub infeasible_written : (o : Outside) → c.verdict ≡ kind.Infeasible → RestWritten (Verdict c) s texts o o (Infeasible c)
-    infeasible_written o is = none_left (Verdict c) o (Infeasible c) refl refl refl (ap (λ v. (behind_at (meaning_in s subject.text subject.data_texts subject.tables).behind v c.point).pieces) is)
+    infeasible_written o is = none_left (Verdict c) o (Infeasible c) refl refl refl (ap (λ (e : End). (behind_at (meaning_in s subject.text subject.data_texts subject.tables).behind e c).pieces) subject.declares
+        ∙ ap (λ v. (behind_with (meaning_in s subject.text subject.data_texts subject.tables).behind (duals_of p c) v c.point).pieces) is)
 
     pub unbounded_written : (o : Outside) → c.verdict ≡ kind.Unbounded → RestWritten (Verdict c) s texts o o (Unbounded c)
-    unbounded_written o is = none_left (Verdict c) o (Unbounded c) refl refl refl (ap (λ v. (behind_at (meaning_in s subject.text subject.data_texts subject.tables).behind v c.point).pieces) is)
+    unbounded_written o is = none_left (Verdict c) o (Unbounded c) refl refl refl (ap (λ (e : End). (behind_at (meaning_in s subject.text subject.data_texts subject.tables).behind e c).pieces) subject.declares
+        ∙ ap (λ v. (behind_with (meaning_in s subject.text subject.data_texts subject.tables).behind (duals_of p c) v c.point).pieces) is)
 
     module _ (best : c.verdict ≡ kind.Optimal) where
       pub best_point : IsSomeAnd c.point (IsShownPoint p)
@@ -329,10 +333,10 @@ module _ (s : Settings) (texts : List (List ℕ)) (p : Problem) (later : Option 
           let new : Outside = record { taken = taken'; told = told } in
           let m : Meaning = meaning_in s subject.text subject.data_texts subject.tables in
           subst (RestWritten (Verdict c) s texts old new) (sym is)
-          (record { meaning = m; means = subject.means; is_reached = same refl; has = inl (old, none_written (behind_of s.task m.behind (Verdict c)).pieces old, (line, λ name. refl)) })
+          (record { meaning = m; means = subject.means; is_reached = same refl; has = inl (old, none_written (behind_of s.task m (Verdict c)).pieces old, (line, λ name. refl)) })
 
       -- what they come to
-      module _ (b : BehindHeld) (is : (text : List ℕ) (data_texts tables : List (List ℕ)) (x : List Rational) → IsKept s text data_texts tables p later → c.point ≡ Some x → (meaning_in s text data_texts tables).behind x ≡ behind_in b) where
+      module _ (b : BehindHeld) (is : (text : List ℕ) (data_texts tables : List (List ℕ)) (x : List Rational) → IsKept s text data_texts tables p later → c.point ≡ Some x → (meaning_in s text data_texts tables).behind x (duals_of p c) ≡ behind_in b) where
         -- of the problem that is asked about
         ended : (fault : Option ModelFault) → b.fault ≡ fault → (o : Option (List Rational)) → c.point ≡ o → IsSomeAnd o (IsShownPoint p) → (e : EndsBehind fault c s texts) × (e.proved.problem ≡ p)
         unfolding proved reached
@@ -349,11 +353,11 @@ module _ (s : Settings) (texts : List (List ℕ)) (p : Problem) (later : Option 
           refl,
         )
 
-        comes_to : (o : Option (List Rational)) → c.point ≡ o → IsSomeAnd o (IsShownPoint p) → behind_of s.task (meaning_in s subject.text subject.data_texts subject.tables).behind (Verdict c) ≡ behind_in b
+        comes_to : (o : Option (List Rational)) → c.point ≡ o → IsSomeAnd o (IsShownPoint p) → behind_of s.task (meaning_in s subject.text subject.data_texts subject.tables) (Verdict c) ≡ behind_in b
         comes_to None e there = absurd there
         comes_to (Some x) e there =
-            let behind : List Rational → Behind = (meaning_in s subject.text subject.data_texts subject.tables).behind in
-            ap (λ v. behind_at behind v c.point) best ∙ ap (behind_at behind kind.Optimal) e ∙ is subject.text subject.data_texts subject.tables x subject.kept e
+            let behind : List Rational → Duals → Behind = (meaning_in s subject.text subject.data_texts subject.tables).behind in
+            ap (λ (end : End). behind_at behind end c) subject.declares ∙ ap (λ v. behind_with behind (duals_of p c) v c.point) best ∙ ap (behind_with behind (duals_of p c) kind.Optimal) e ∙ is subject.text subject.data_texts subject.tables x subject.kept e
 
         -- ---- with ranges, without them, or at a fault
 
@@ -392,13 +396,13 @@ module _ (s : Settings) (texts : List (List ℕ)) (p : Problem) (later : Option 
         end_reached files_rose out_rose answer (unwritten fault failed e) = same (ap reached_of e ∙ reached_unwritten (Verdict c) fault)
 
         -- the pieces behind `solve`, and those of ranges
-        behind_pieces : (last : Reached) → ComesTo (Verdict c) last → pieces_of b.pieces.items ++ range_pieces s.task last ≡ (behind_of s.task (meaning_in s subject.text subject.data_texts subject.tables).behind last).pieces
+        behind_pieces : (last : Reached) → ComesTo (Verdict c) last → pieces_of b.pieces.items ++ range_pieces s.task last ≡ (behind_of s.task (meaning_in s subject.text subject.data_texts subject.tables) last).pieces
         behind_pieces last (same e) =
-            subst (λ q. pieces_of b.pieces.items ++ range_pieces s.task q ≡ (behind_of s.task (meaning_in s subject.text subject.data_texts subject.tables).behind q).pieces) (sym e)
+            subst (λ q. pieces_of b.pieces.items ++ range_pieces s.task q ≡ (behind_of s.task (meaning_in s subject.text subject.data_texts subject.tables) q).pieces) (sym e)
             (append-nil (pieces_of b.pieces.items) ∙ ap (λ (r : Behind). r.pieces) (sym (comes_to c.point refl best_point)))
         behind_pieces last (to_ranges d r from to) =
-            subst (λ q. pieces_of b.pieces.items ++ range_pieces s.task q ≡ (behind_of s.task (meaning_in s subject.text subject.data_texts subject.tables).behind q).pieces) (sym to)
-            (subst (λ (k : Certificate). pieces_of b.pieces.items ++ range_pieces s.task (Ranges k r) ≡ (behind_of s.task (meaning_in s subject.text subject.data_texts subject.tables).behind (Ranges k r)).pieces) (verdict_same from)
+            subst (λ q. pieces_of b.pieces.items ++ range_pieces s.task q ≡ (behind_of s.task (meaning_in s subject.text subject.data_texts subject.tables) q).pieces) (sym to)
+            (subst (λ (k : Certificate). pieces_of b.pieces.items ++ range_pieces s.task (Ranges k r) ≡ (behind_of s.task (meaning_in s subject.text subject.data_texts subject.tables) (Ranges k r)).pieces) (verdict_same from)
             (ap (λ (k : Behind). k.pieces ++ saved_in (ranges_file s.task) (ranges_text r)) (sym (comes_to c.point refl best_point))))
           where
             verdict_same : {k l : Certificate} → Verdict k ≡ Verdict l → k ≡ l

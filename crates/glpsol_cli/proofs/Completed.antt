@@ -3,8 +3,11 @@ use Rattle.std.proofs.Common.{◌≡◌, ◌∙◌, ℕ, ◌<◌, ◌≤◌, tru
 use Rattle.std.specs.Prelude.{codes}
 use Rattle.rational.specs.Rational.{Rational}
 use Rattle.milp.specs.Problem.{Problem}
-use Rattle.milp.specs.Points.{IsOptimal}
+use Rattle.verdicts.specs.Certificate.{Certificate}
+use Rattle.verdicts.specs.Certificate as kind
+use Rattle.verdicts.specs.Proves.{Proves}
 use Rattle.fraction.specs.declared.frac.NoFit.{NoFit}
+use Rattle.dual_values.specs.Duals.{duals_of}
 use Rattle.search_tree.specs.Board.{Board}
 use Rattle.search_tree.specs.Kept.{IsKept}
 use Rattle.search_tree.specs.Steps.{IsReplay}
@@ -87,8 +90,9 @@ module _ (text : List ℕ) (p : Problem) (count : ℕ) (declares : declared text
       never_all_made (searched p wanted) (free wanted out.0) board out.1
 
   -- nothing stands behind `solve`
-  behind : (meaning : Meaning) → meaning_of plain_settings (text ∷ []) ≡ Some meaning → (x : List Rational) → IsOptimal p x → (meaning.behind x).fault ≡ None
-  behind meaning means x optimal = subst (λ (m : Meaning). (m.behind x).fault ≡ None) (some_same means) refl
+  behind : (meaning : Meaning) → meaning_of plain_settings (text ∷ []) ≡ Some meaning → (c : Certificate) → Proves p c → c.verdict ≡ kind.Optimal
+      → (x : List Rational) → c.point ≡ Some x → (meaning.behind x (duals_of p c)).fault ≡ None
+  behind meaning means c proves best x at = subst (λ (m : Meaning). (m.behind x (duals_of p c)).fault ≡ None) (some_same means) refl
     where
       some_same : {a b : Meaning} → Some a ≡ Some b → a ≡ b
       some_same e = cc

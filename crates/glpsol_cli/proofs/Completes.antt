@@ -5,12 +5,12 @@ use Rattle.std.proofs.Math.Seq.{drop-append_seam}
 use Rattle.std.specs.Prelude.{Result, Ok, Err, slice_get}
 use Rattle.std.specs.Option.{option_map}
 use Rattle.milp.specs.Problem.{Problem}
-use Rattle.milp.specs.Points.{IsOptimal}
 use Rattle.fraction.specs.declared.frac.NoFit.{NoFit}
 use Rattle.gmpl_generate.specs.declared.fault.ModelFault.{ModelFault}
 use Rattle.verdicts.specs.Certificate.{Certificate}
 use Rattle.verdicts.specs.Certificate as kind
-use Rattle.verdicts.specs.Proves.{Part as PartOf, Holds, tests, first_failing}
+use Rattle.verdicts.specs.Proves.{Part as PartOf, Proves, tests, first_failing}
+use Rattle.dual_values.specs.Duals.{duals_of}
 use Rattle.certificate.specs.Text.{certificate_text}
 use Rattle.certificate_reader.specs.Reading.{read_of}
 use Rattle.certificate_lines.specs.declared.fault.CertFault.{CertFault}
@@ -43,7 +43,6 @@ use Rattle.glpsol_cli.specs.declared.answer.Reached.TheVariants.{Nothing, Execut
 use Rattle.glpsol_cli.specs.declared.answer.Target.{Target}
 use Rattle.glpsol_cli.specs.declared.answer.Target.TheVariants.{Out, File}
 use Rattle.glpsol_cli.proofs.Reports.{declared_same}
-use Rattle.glpsol_cli.proofs.Verdicts.{AreRight}
 
 -- ---- told files
 
@@ -270,7 +269,7 @@ undecided_over (Pivots wanted bases) s ts h = declared_over s ts h.problem h.ask
 undecided_over (SubsetPivots members bases) s ts h = proved_over h.certificate s ts h.proved
 undecided_over (Splits wanted board) s ts h = declared_over s ts h.problem h.asked
 
-module _ (words : List (List ℕ)) (told : ToldNames) (files_rose out_rose : Type 0) (right : AreRight) (k : IsComplete words told files_rose out_rose) where
+module _ (words : List (List ℕ)) (told : ToldNames) (files_rose out_rose : Type 0) (k : IsComplete words told files_rose out_rose) where
   over : IsOver k.settings (k.texts ++ k.tables)
   over = declared_over k.settings (k.texts ++ k.tables) k.problem k.asked
 
@@ -287,10 +286,9 @@ module _ (words : List (List ℕ)) (told : ToldNames) (files_rose out_rose : Typ
   -- at a best point no statement behind `solve` has a fault
   no_fault_behind : (fault : ModelFault) (c : Certificate) → c.verdict ≡ kind.Optimal → EndsBehind (Some fault) c k.settings (k.texts ++ k.tables) → ⊥
   no_fault_behind fault c is h =
-      let holds : Holds h.proved.problem c kind.Optimal = subst (Holds h.proved.problem c) is (right h.proved.problem c h.proved.proves) in
       let same : h.proved.problem ≡ k.problem = declared_same h.proved.problem k.problem (sym h.proved.asked ∙ k.asked) in
-      let point : h.point ≡ holds.0 = some_same h.point holds.0 (sym h.has_point ∙ holds.1) in
-      none_some fault (sym (k.behind h.meaning h.means h.point (subst (λ p. IsOptimal p h.point) same (subst (IsOptimal h.proved.problem) (sym point) holds.3))) ∙ h.ends)
+      none_some fault (sym (k.behind h.meaning h.means c (subst (λ (p : Problem). Proves p c) same h.proved.proves) is h.point h.has_point)
+          ∙ ap (λ (p : Problem). (h.meaning.behind h.point (duals_of p c)).fault) (sym same) ∙ h.ends)
 
   all_linear : IsNotLinear k.settings (k.texts ++ k.tables) → ⊥
   all_linear h =

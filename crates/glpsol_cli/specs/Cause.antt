@@ -30,6 +30,7 @@ use Rattle.exact_ranges.specs.Ranges.{AllRanges, AreCostRanges, AreBoundRanges}
 use Rattle.exact_ranges.specs.ShownBest.{best_point, best_weights}
 use Rattle.exact_ranges.specs.Faults.{IsFault as IsRangeFault, IsNotByPivots as IsRangeNotByPivots}
 use Rattle.exact_ranges.specs.declared.fault.RangeFault.{RangeFault}
+use Rattle.dual_values.specs.Duals.{duals_of}
 use Rattle.outside.specs.Told.{Lacks, Has}
 use Rattle.command_line.specs.Meaning.{settings_of}
 use Rattle.command_line.specs.declared.settings.Settings.{Settings}
@@ -121,14 +122,14 @@ pub record HasRay (c : Certificate) (s : Settings) (texts : List (List ℕ)) : T
   pub has_ray : c.ray ≡ Some ray
   pub unbounded : IsUnbounded problem point ray
 
--- c proves its verdict, and at its point the statements behind `solve` have this fault, or none
+-- c proves its verdict, and at its point, with its dual values, the statements behind `solve` have this fault, or none
 pub record EndsBehind (fault : Option ModelFault) (c : Certificate) (s : Settings) (texts : List (List ℕ)) : Type 0 where
   pub proved : IsProved c s texts
   pub meaning : Meaning
   pub means : meaning_of s texts ≡ Some meaning
   pub point : List Rational
   pub has_point : c.point ≡ Some point
-  pub ends : (meaning.behind point).fault ≡ fault
+  pub ends : (meaning.behind point (duals_of proved.problem c)).fault ≡ fault
 
 -- the same without a fault, where no ranges are wanted
 pub record EndsWithoutRanges (c : Certificate) (s : Settings) (texts : List (List ℕ)) : Type 0 where

@@ -3,14 +3,16 @@ use Rattle.std.specs.Prelude.{◌≡◌, ◌≤◌, ℕ, true, List, [], ◌∷�
 use Rattle.std.specs.declared.option.Option.{Option}
 use Rattle.rational.specs.Rational.{Rational}
 use Rattle.milp.specs.Problem.{Problem}
-use Rattle.milp.specs.Points.{IsOptimal}
 use Rattle.fraction.specs.declared.frac.NoFit.{NoFit}
 use Rattle.branch_search.specs.Plain.{NoneInteger}
 use Rattle.branch_search.specs.declared.whole_fault.VerdictFault.TheVariants.{NoFit as SearchNoFit, PivotLimit, SplitLimit, NoMemory as SearchNoMemory}
 use Rattle.exact_ranges.specs.declared.fault.RangeFault.{RangeFault}
 use Rattle.exact_ranges.specs.declared.fault.RangeFault.TheVariants.{Search, TooLarge, Weight, MovedBound, NoMemory as RangeNoMemory}
 use Rattle.verdicts.specs.Certificate.{Certificate}
+use Rattle.verdicts.specs.Certificate as kind
+use Rattle.verdicts.specs.Proves.{Proves}
 use Rattle.certificate.specs.Text.{certificate_text}
+use Rattle.dual_values.specs.Duals.{duals_of}
 use Rattle.outside.specs.Told.{Has}
 use Rattle.command_line.specs.Meaning.{settings_of}
 use Rattle.command_line.specs.declared.settings.Settings.{Settings}
@@ -68,8 +70,9 @@ IsVerdictOrNoMemory (NoMemory reached) = Unit {0}
 IsVerdictOrNoMemory answer = ⊥
 
 -- Words that ask for a solution, told files, of the command and of tables, texts that declare a problem, no operation that doesn't
--- fit, no run that is too long, no search that needs more splits than are allowed, no best point at which a statement behind `solve`
--- has a fault, no integer column where a subset is wanted, and counts that didn't rise: then nothing but a verdict or want of memory is answered.
+-- fit, no run that is too long, no search that needs more splits than are allowed, no certificate of a best point at which, with the
+-- dual values of the certificate, a statement behind `solve` has a fault, no integer column where a subset is wanted, and counts that
+-- didn't rise: then nothing but a verdict or want of memory is answered.
 pub record IsComplete (words : List (List ℕ)) (told : ToldNames) (files_rose out_rose : Type 0) : Type 0 where
   pub settings : Settings
   pub texts : List (List ℕ)
@@ -84,7 +87,8 @@ pub record IsComplete (words : List (List ℕ)) (told : ToldNames) (files_rose o
   pub fits : (at : OverflowSite) (e : NoFit) → ¬ (IsOverflow at e settings (texts ++ tables))
   pub ends : (limit : Limit) → ¬ (IsUndecided limit settings (texts ++ tables))
   pub ranged : (fault : RangeFault) (c : Certificate) → LacksRanges fault c settings (texts ++ tables) → IsWantOfMemory fault
-  pub behind : (meaning : Meaning) → meaning_of settings (texts ++ tables) ≡ Some meaning → (x : List Rational) → IsOptimal problem x → (meaning.behind x).fault ≡ None
+  pub behind : (meaning : Meaning) → meaning_of settings (texts ++ tables) ≡ Some meaning → (c : Certificate) → Proves problem c → c.verdict ≡ kind.Optimal
+      → (x : List Rational) → c.point ≡ Some x → (meaning.behind x (duals_of problem c)).fault ≡ None
   pub files_held : files_rose → ⊥
   pub out_held : out_rose → ⊥
 

@@ -10,6 +10,8 @@ use Rattle.verdicts.specs.Certificate.{Certificate, Verdict, Version, One, Two}
 use Rattle.verdicts.specs.Certificate as kind
 use Rattle.verdicts.specs.Migrated.{migrated}
 use Rattle.certificate.specs.Text.{certificate_text}
+use Rattle.gmpl_solution.specs.Solution.{Duals}
+use Rattle.dual_values.specs.Duals.{duals_of}
 use Rattle.gmpl_generate.specs.declared.fault.ModelFault.{ModelFault}
 use Rattle.gmpl_generate.specs.Running.{File as TableFile, Made}
 use Rattle.gmpl_reader.specs.MathProg.{Ending, Declares, Fails, Wants, ending as ending_of_math_prog, making as making_of_math_prog, afterwards as afterwards_of_math_prog}
@@ -52,12 +54,13 @@ pub record Behind : Type 0 where
   pub fault : Option ModelFault
 
 -- the files of tables that are made while the texts are executed, in order; all that is written by then, which is these files and
--- behind them what is displayed, and how that ends; and what the statements behind `solve` come to at a point of the problem
+-- behind them what is displayed, and how that ends; and what the statements behind `solve` come to at a point of the problem, with dual
+-- values
 pub record Meaning : Type 0 where
   pub files : List Piece
   pub done : List Piece
   pub end : End
-  pub behind : List Rational → Behind
+  pub behind : List Rational → Duals → Behind
 
 abbrev pub text_fault_of : MathProgFault → TextFault
 text_fault_of (math_prog.Syntax fault) = text_fault.Syntax fault
@@ -102,11 +105,11 @@ made_in MathProg text data_texts tables = making_of_math_prog text data_texts ta
 made_in FreeMps text data_texts tables = None
 made_in CplexLp text data_texts tables = None
 
--- what the statements behind `solve` print and make at a point, and their first fault, where there are any
-abbrev pub afterwards_in : Language → List ℕ → List (List ℕ) → List (List ℕ) → List Rational → Option (Made × Option ModelFault)
-afterwards_in MathProg text data_texts tables x = afterwards_of_math_prog text data_texts tables x
-afterwards_in FreeMps text data_texts tables x = None
-afterwards_in CplexLp text data_texts tables x = None
+-- what the statements behind `solve` print and make at a point with dual values, and their first fault, where there are any
+abbrev pub afterwards_in : Language → List ℕ → List (List ℕ) → List (List ℕ) → List Rational → Duals → Option (Made × Option ModelFault)
+afterwards_in MathProg text data_texts tables x duals = afterwards_of_math_prog text data_texts tables x duals
+afterwards_in FreeMps text data_texts tables x duals = None
+afterwards_in CplexLp text data_texts tables x duals = None
 
 -- where printed texts go: the file that `--display` names, or the output
 abbrev pub display_target : Option (List ℕ) → Target
@@ -154,7 +157,7 @@ meaning_in s text data_texts tables = record {
   files = files_by (made_in s.language text data_texts tables);
   done = files_by (made_in s.language text data_texts tables) ++ shown_by s.display (made_in s.language text data_texts tables);
   end = ends_in s s.language text data_texts tables;
-  behind = λ x. behind_by s.display (printed_by (made_in s.language text data_texts tables)) (afterwards_in s.language text data_texts tables x);
+  behind = λ x duals. behind_by s.display (printed_by (made_in s.language text data_texts tables)) (afterwards_in s.language text data_texts tables x duals);
 }
 
 -- how many texts stand behind the model's that are read before it is executed
@@ -230,25 +233,31 @@ found_pieces task p (RangesReached c r) = option_map (solved_pieces task p c) (w
 found_pieces task p (SubsetReached c w) = Some (solved_pieces task p c (subset_report p w.witnesses))
 
 -- the statements behind `solve` are executed at a best point alone
-abbrev pub behind_at : (List Rational → Behind) → Verdict → Option (List Rational) → Behind
-behind_at behind kind.Optimal (Some x) = behind x
-behind_at behind kind.Optimal None = nothing_behind
-behind_at behind kind.Infeasible point = nothing_behind
-behind_at behind kind.Unbounded point = nothing_behind
+abbrev pub behind_with : (List Rational → Duals → Behind) → Duals → Verdict → Option (List Rational) → Behind
+behind_with behind duals kind.Optimal (Some x) = behind x duals
+behind_with behind duals kind.Optimal None = nothing_behind
+behind_with behind duals kind.Infeasible point = nothing_behind
+behind_with behind duals kind.Unbounded point = nothing_behind
+
+-- at the point of a certificate of the problem that is declared, with the dual values that it has there
+abbrev pub behind_at : (List Rational → Duals → Behind) → End → Certificate → Behind
+behind_at behind (Declared p) c = behind_with behind (duals_of p c) c.verdict c.point
+behind_at behind (Faulty fault) c = nothing_behind
+behind_at behind (Wanting name) c = nothing_behind
 
 -- the ranges go to their file behind all else
 abbrev pub with_ranges : Option (List ℕ) → AllRanges → Behind → Behind
 with_ranges file r behind = record behind { pieces = behind.pieces ++ saved_in file (ranges_text r) }
 
 -- what comes behind the report once this was reached
-abbrev pub behind_of : Task → (List Rational → Behind) → Reached → Behind
-behind_of task behind Nothing = nothing_behind
-behind_of task behind Executed = nothing_behind
-behind_of task behind Size = nothing_behind
-behind_of task behind (Acceptance c) = nothing_behind
-behind_of task behind (VerdictReached c) = behind_at behind c.verdict c.point
-behind_of task behind (SubsetReached c w) = nothing_behind
-behind_of task behind (RangesReached c r) = with_ranges (ranges_file task) r (behind_at behind c.verdict c.point)
+abbrev pub behind_of : Task → Meaning → Reached → Behind
+behind_of task m Nothing = nothing_behind
+behind_of task m Executed = nothing_behind
+behind_of task m Size = nothing_behind
+behind_of task m (Acceptance c) = nothing_behind
+behind_of task m (VerdictReached c) = behind_at m.behind m.end c
+behind_of task m (SubsetReached c w) = nothing_behind
+behind_of task m (RangesReached c r) = with_ranges (ranges_file task) r (behind_at m.behind m.end c)
 
 -- P holds of what is written while the texts are executed
 pub record HasDone (P : List Piece → Type 0) (s : Settings) (texts : List (List ℕ)) : Type 0 where
@@ -264,4 +273,4 @@ pub record HasFound (reached : Reached) (P : List Piece → Type 0) (s : Setting
   pub end : meaning.end ≡ Declared problem
   pub found : List Piece
   pub are : found_pieces s.task problem reached ≡ Some found
-  pub has : P (meaning.done ++ (found ++ (behind_of s.task meaning.behind reached).pieces))
+  pub has : P (meaning.done ++ (found ++ (behind_of s.task meaning reached).pieces))

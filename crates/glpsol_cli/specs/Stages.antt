@@ -7,6 +7,7 @@ use Rattle.milp.specs.Problem.{Problem}
 use Rattle.verdicts.specs.Certificate.{Certificate}
 use Rattle.verdicts.specs.Certificate as kind
 use Rattle.verdicts.specs.Proves.{Proves}
+use Rattle.gmpl_solution.specs.Solution.{Duals}
 use Rattle.gmpl_generate.specs.declared.fault.ModelFault.{ModelFault}
 use Rattle.gmpl_generate.specs.Running.{File as TableFile, files_of}
 use Rattle.gmpl_reader.specs.MathProg.{Declares, IsPending, IsRest, ending as ending_of_math_prog, making as making_of_math_prog}
@@ -107,7 +108,7 @@ pub record IsLater (s : Settings) (text : List ℕ) (data_texts tables : List (L
 
 -- nothing is kept only where no statement stands behind `solve`
 abbrev pub IsKept : Settings → List ℕ → List (List ℕ) → List (List ℕ) → Problem → Option Later → Type 0
-IsKept s text data_texts tables p None = (x : List Rational) → (meaning_in s text data_texts tables).behind x ≡ nothing_behind
+IsKept s text data_texts tables p None = (x : List Rational) (duals : Duals) → (meaning_in s text data_texts tables).behind x duals ≡ nothing_behind
 IsKept s text data_texts tables p (Some later) = IsLater s text data_texts tables p later
 
 -- the execution ends so
@@ -567,7 +568,7 @@ pub record HasLeft (reached : Reached) (P : List Piece → Type 0) (s : Settings
   pub end : meaning.end ≡ Declared problem
   pub found : List Piece
   pub are : found_pieces s.task problem reached ≡ Some found
-  pub has : P (found ++ (behind_of s.task meaning.behind reached).pieces)
+  pub has : P (found ++ (behind_of s.task meaning reached).pieces)
 
 -- P holds of what is left to be written once this was reached, where all that was printed before is written
 abbrev pub LeftIn : Settings → List (List ℕ) → Reached → (List Piece → Type 0) → Type 0
@@ -592,4 +593,4 @@ pub record RestWritten (reached : Reached) (s : Settings) (texts : List (List �
   pub meaning : Meaning
   pub means : meaning_of s texts ≡ Some meaning
   pub is_reached : ComesTo reached (reached_of answer)
-  pub has : ThenLine (extent_of answer) (line_of answer) old new (behind_of s.task meaning.behind (reached_of answer)).pieces
+  pub has : ThenLine (extent_of answer) (line_of answer) old new (behind_of s.task meaning (reached_of answer)).pieces

@@ -5,6 +5,7 @@ ghost use Rattle.cert_check.specs.Outcome.{Acceptance, outcome, trials};
 ghost use Rattle.rational.specs.Rational.{Rational};
 ghost use Rattle.outside.specs.Causes.{Rose};
 ghost use Rattle.gmpl_generate.specs.Solved.{RowsFit};
+ghost use Rattle.dual_values.specs.Duals.{duals_of};
 ghost use Rattle.solution_writer.specs.Report.{IsShownPoint};
 ghost use Rattle.glpsol_cli.specs.Meaning.{meaning_in};
 ghost use Rattle.glpsol_cli.specs.Written.{ThenLine, extent_of, line_of};
@@ -19,6 +20,7 @@ use crate::tell::{tell, tell_unwritten};
 use crate::{Answer, Reached};
 use certificate::Certificate;
 use command_line::Settings;
+use dual_values::dual_values;
 use gmpl_generate::ModelFault;
 use gmpl_reader::{Afterwards, after_solve};
 use instance::{Instance, Point};
@@ -34,7 +36,7 @@ pub struct Behind {
     pub fault: Option<ModelFault>,
 }
 
-/// What the statements behind `solve` come to at the certificate's point; nothing, where there are none.
+/// What the statements behind `solve` come to at the certificate's point, with its dual values; nothing, where there are none.
 pub fn afterwards(
     alloc: Global,
     settings: &Settings,
@@ -44,13 +46,13 @@ pub fn afterwards(
 ) -> Result<Behind, AllocError>
     requires { IsSomeAnd certificate.now.point (IsShownPoint problem.now) }
     ensures { IfOk result (λ b. (text : List ℕ) (data_texts tables : List (List ℕ)) (x : List Rational) → IsKept settings.now text data_texts tables problem.now later
-        → certificate.now.point ≡ Some x → (meaning_in settings.now text data_texts tables).behind x ≡ behind_in b) }
+        → certificate.now.point ≡ Some x → (meaning_in settings.now text data_texts tables).behind x (duals_of problem.now certificate.now) ≡ behind_in b) }
 {
     let Some(point) = certificate.point() else {
         unreachable!()
     };
     match later {
-        Some(later) => at_point(alloc, settings, later, problem, point),
+        Some(later) => at_point(alloc, settings, later, problem, certificate, point),
         None => Ok(Behind {
             pieces: Vec::new(alloc),
             fault: None,
@@ -58,21 +60,23 @@ pub fn afterwards(
     }
 }
 
-// What they come to at a point.
+// What they come to at a point, with the dual values of a certificate.
 fn at_point(
     alloc: Global,
     settings: &Settings,
     later: Later,
     problem: &Instance,
+    certificate: &Certificate,
     point: &Point,
 ) -> Result<Behind, AllocError>
     requires size { length point.now ≡ length problem.now.columns }
     requires rows { RowsFit point.now problem.now.rows }
     ensures { IfOk result (λ b. (text : List ℕ) (data_texts tables : List (List ℕ)) → IsLater settings.now text data_texts tables problem.now later
-        → (meaning_in settings.now text data_texts tables).behind point.now ≡ behind_in b) }
+        → (meaning_in settings.now text data_texts tables).behind point.now (duals_of problem.now certificate.now) ≡ behind_in b) }
 {
     let Later { printed, rest } = later;
-    let after = after_solve(alloc, rest.into_inner(), problem, point)?;
+    let duals = dual_values(alloc, problem, certificate)?;
+    let after = after_solve(alloc, rest.into_inner(), problem, point, &duals)?;
     let Afterwards {
         printed: more,
         files,

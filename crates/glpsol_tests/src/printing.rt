@@ -33,6 +33,16 @@ const BEHIND: &str = "\
 0 before$OPTIMAL$objective z 7/2$column x 7/2$row z 7/2$row r 7/2$z = 7/2$3.5 3.5 3.5 9$ <- --math f <- printf 'before\\n'; var x >= 1, <= 9; minimize z: x; s.t. r: x >= 7/2; solve; display z; printf '%g %g %g %g\\n', x, r, r.lb, x.ub; end;
 0 OPTIMAL$objective z 2$column y 2$row z 2$0 2 1$ <- --math f <- var x >= 1; var y >= 2; minimize z: x - x + y; solve; printf '%g %g %g\\n', x, y.val, x.lb; end;
 0 OPTIMAL$objective z 3$column x[1] 1$column x[2] 2$row z 3$row r[1] 1$row r[2] 2$1 2 $twice 6$ <- --math f <- var x{1..2}; minimize z: x[1] + x[2]; s.t. r{i in 1..2}: x[i] >= i; solve; for{i in 1..2: x[i] > 0} printf '%g ', r[i].val; printf '\\n'; param twice := 2 * (x[1] + x[2]); printf 'twice %g\\n', twice; end;
+0 OPTIMAL$objective z 13/5$column x 7/5$column y 6/5$row z 13/5$row a 4$row b 5$2/5 1/5 0$ <- --math f <- var x >= 0; var y >= 0; maximize z: x + y; s.t. a: 2*x + y <= 4; s.t. b: x + 3*y <= 5; solve; printf '%s %s %s\\n', a.dual, b.dual, x.dual; end;
+0 OPTIMAL$objective z 9$column x 3$column y 1$row z 9$row r 4$3 -1 0 0$ <- --math f <- var x >= 0, <= 3; var y >= 0; minimize z: 2*x + 3*y; s.t. r: x + y >= 4; solve; printf '%s %s %s %s\\n', r.dual, x.dual, y.dual, z.dual; end;
+0 OPTIMAL$objective z 6$column x 3$row z 6$2$ <- --math f --max <- var x >= 1, <= 3; minimize z: 2*x; solve; printf '%s\\n', x.dual; end;
+0 OPTIMAL$objective z 3$column x 1$row z 3$3$ <- --math f --min <- var x >= 1; maximize z: 3*x; solve; printf '%s\\n', x.dual; end;
+0 OPTIMAL$objective z 2$column x 2$row z 2$row r 2$0 0 1$ <- --math f <- var x >= 0; var y; minimize z: x; s.t. r: x >= 2; solve; printf '%s %s %s\\n', x.dual, y.dual, r.dual; end;
+2 OPTIMAL$objective z 2$column x 2$row z 2$row r 2$a$model fault: statement 6, line 1: NoDual$ <- --math f <- var x integer, >= 0; minimize z: x; s.t. r: x >= 3/2; solve; printf 'a\\n'; printf '%s\\n', r.dual; end;
+2 OPTIMAL$objective z 2$column x 2$row z 2$model fault: statement 5, line 1: NoDual$ <- --math f <- var x integer, >= 2; var y; minimize z: x; solve; printf '%s\\n', y.dual; end;
+0 OPTIMAL$objective z 3/2$column x 3/2$row z 3/2$row r 3/2$1$ <- --math f --nomip <- var x integer, >= 0; minimize z: x; s.t. r: x >= 3/2; solve; printf '%s\\n', r.dual; end;
+2 syntax fault: statement 3, line 1: WrongKind$ <- --math f <- var x >= 1; minimize z: x; printf '%s\\n', x.dual; solve; end;
+2 syntax fault: statement 4, line 1: Unsupported$ <- --math f <- var x >= 1; minimize z: x; solve; printf '%s\\n', x.status; end;
 0 INFEASIBLE$ <- --math f <- var x >= 1; minimize z: x; s.t. r: x <= 0; solve; printf 'no\\n'; end;
 0 UNBOUNDED$column x 0 1$ <- --math f <- var x >= 0; maximize z: x; solve; printf 'no\\n'; end;
 2 OPTIMAL$objective z 1$column x 1$row z 1$model fault: statement 4, line 1: NoValue$ <- --math f <- var x >= 1; minimize z: x; solve; printf '%d\\n', x.ub; end;

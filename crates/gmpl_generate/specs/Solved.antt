@@ -6,8 +6,9 @@ use Rattle.milp.specs.Form.{sum_at}
 use Rattle.milp.specs.Problem.{Row}
 use Rattle.instance.specs.Sums.{sum_answer}
 use Rattle.gmpl_resolved.specs.declared.statement.Numbered.{Numbered}
+use Rattle.gmpl_solution.specs.declared.dual.Dual.{Dual}
 use Rattle.gmpl_solution.specs.declared.member.Member.{Member}
-use Rattle.gmpl_solution.specs.Solution.{Solution, nothing, with_column, with_row}
+use Rattle.gmpl_solution.specs.Solution.{Duals, Solution, nothing, with_column, with_row}
 use Rattle.gmpl_data.specs.declared.tables.LoadedModel.{LoadedModel}
 use Rattle.gmpl_rows.specs.Draft.{Draft}
 use Rattle.gmpl_rows.specs.Problem.{column_members, problem_of, row_members}
@@ -24,30 +25,32 @@ RowsFit x (r ∷ rs) = IsOk (sum_answer x zero_ℚ r.entries) × RowsFit x rs
 
 -- ---- the numbers of members at a point
 
-abbrev pub with_solved_column : ColumnMember → Rational → Solution → Solution
-with_solved_column c value s = with_column s c.member (record { value = value; lower = c.bounds.lower; upper = c.bounds.upper })
+abbrev pub with_solved_column : ColumnMember → Rational → Dual → Solution → Solution
+with_solved_column c value dual s = with_column s c.member (record { value = value; lower = c.bounds.lower; upper = c.bounds.upper; dual = dual })
 
--- the columns' members have the numbers of the point, and the columns' own bounds
-abbrev pub with_columns : List ColumnMember → List Rational → Solution → Solution
-with_columns [] qs s = s
-with_columns (c ∷ cs) [] s = s
-with_columns (c ∷ cs) (q ∷ qs) s = with_columns cs qs (with_solved_column c q s)
+-- the columns' members have the numbers of the point, the columns' own bounds, and their dual values
+abbrev pub with_columns : List ColumnMember → List Rational → List Dual → Solution → Solution
+with_columns [] qs ds s = s
+with_columns (c ∷ cs) [] ds s = s
+with_columns (c ∷ cs) (q ∷ qs) [] s = s
+with_columns (c ∷ cs) (q ∷ qs) (d ∷ ds) s = with_columns cs qs ds (with_solved_column c q d s)
 
-abbrev pub with_solved_row : Member → Row → Rational → Solution → Solution
-with_solved_row m r value s = with_row s m (record { value = value; lower = r.lower; upper = r.upper })
+abbrev pub with_solved_row : Member → Row → Rational → Dual → Solution → Solution
+with_solved_row m r value dual s = with_row s m (record { value = value; lower = r.lower; upper = r.upper; dual = dual })
 
--- the rows' members have the values of the rows' forms, and the rows' bounds
-abbrev pub with_rows : List Rational → List Member → List Row → Solution → Solution
-with_rows x [] rs s = s
-with_rows x (m ∷ ms) [] s = s
-with_rows x (m ∷ ms) (r ∷ rs) s = with_rows x ms rs (with_solved_row m r (sum_at x r.entries) s)
+-- the rows' members have the values of the rows' forms, the rows' bounds, and their dual values
+abbrev pub with_rows : List Rational → List Member → List Row → List Dual → Solution → Solution
+with_rows x [] rs ds s = s
+with_rows x (m ∷ ms) rs [] s = s
+with_rows x (m ∷ ms) [] (d ∷ ds) s = s
+with_rows x (m ∷ ms) (r ∷ rs) (d ∷ ds) s = with_rows x ms rs ds (with_solved_row m r (sum_at x r.entries) d s)
 
-abbrev pub solution_by : List ColumnMember → List Member → List Row → List Rational → Solution
-solution_by columns rows rs x = with_rows x rows rs (with_columns columns x nothing)
+abbrev pub solution_by : List ColumnMember → List Member → List Row → List Rational → Duals → Solution
+solution_by columns rows rs x duals = with_rows x rows rs duals.rows (with_columns columns x duals.columns (nothing duals.elsewhere))
 
 -- of the problem of a draft
-abbrev pub solution_at : Draft → List Rational → Solution
-solution_at d x = solution_by (column_members d) (row_members d) (problem_of d).rows x
+abbrev pub solution_at : Draft → List Rational → Duals → Solution
+solution_at d x duals = solution_by (column_members d) (row_members d) (problem_of d).rows x duals
 
 abbrev pub with_solution : LoadedModel → Solution → LoadedModel
 with_solution model s = record model { solution = Some s }
@@ -76,6 +79,6 @@ made_after a = record { printed = string_bytes a.printed; files = files_of a.fil
 abbrev pub behind_solve : LoadedModel → Made × Option ModelFault
 behind_solve model = made_and_fault (all_after model nothing_made)
 
--- of a model, the rows of its execution, and a point of their problem
-unfoldable pub after_by : LoadedModel → Draft → List Rational → Made × Option ModelFault
-after_by model d x = behind_solve (with_solution model (solution_at d x))
+-- of a model, the rows of its execution, and a point of their problem with dual values
+unfoldable pub after_by : LoadedModel → Draft → List Rational → Duals → Made × Option ModelFault
+after_by model d x duals = behind_solve (with_solution model (solution_at d x duals))

@@ -17,7 +17,7 @@ use gmpl_data::LoadedModel;
 use gmpl_expr::Context;
 use gmpl_resolved::Numbered;
 use gmpl_rows::ColumnMember;
-use gmpl_solution::{Member, Solution, SolvedMember};
+use gmpl_solution::{Dual, Duals, Member, Solution, SolvedMember};
 use gmpl_value::EvalFault;
 use instance::{Instance, Point, Row, activity};
 use sqlite_items::Boxed;
@@ -54,13 +54,15 @@ fn add_column(
     solution: &mut Solution,
     column: &ColumnMember,
     value: Frac,
+    dual: Dual,
 ) -> Result<(), AllocError>
-    ensures { OnOk result (solution.new ≡ spec.with_solved_column column.now value solution.old) }
+    ensures { OnOk result (solution.new ≡ spec.with_solved_column column.now value dual solution.old) }
 {
     let solved = SolvedMember {
         value,
         lower: column.bounds.lower,
         upper: column.bounds.upper,
+        dual,
     };
     solution.add_column(column.member.copied(alloc)?, solved)
 }
@@ -70,16 +72,22 @@ fn add_columns(
     solution: &mut Solution,
     columns: &[ColumnMember],
     point: &[Frac],
+    duals: &[Dual],
 ) -> Result<(), AllocError>
-    ensures { OnOk result (solution.new ≡ spec.with_columns columns.now point.now solution.old) }
+    ensures { OnOk result (solution.new ≡ spec.with_columns columns.now point.now duals.now solution.old) }
 {
     let mut left = point;
+    let mut duals_left = duals;
     for column in columns {
         let Some((value, rest)) = left.split_first() else {
             return Ok(());
         };
-        add_column(alloc, solution, column, *value)?;
+        let Some((dual, duals_rest)) = duals_left.split_first() else {
+            return Ok(());
+        };
+        add_column(alloc, solution, column, *value, *dual)?;
         left = rest;
+        duals_left = duals_rest;
     }
     Ok(())
 }
@@ -90,13 +98,15 @@ fn add_row(
     member: &Member,
     row: &Row,
     value: Frac,
+    dual: Dual,
 ) -> Result<(), AllocError>
-    ensures { OnOk result (solution.new ≡ spec.with_solved_row member.now row.now value solution.old) }
+    ensures { OnOk result (solution.new ≡ spec.with_solved_row member.now row.now value dual solution.old) }
 {
     let solved = SolvedMember {
         value,
         lower: row.lower(),
         upper: row.upper(),
+        dual,
     };
     solution.add_row(member.copied(alloc)?, solved)
 }
@@ -107,21 +117,27 @@ fn add_rows(
     members: &[Member],
     problem: &Instance,
     point: &Point,
+    duals: &[Dual],
 ) -> Result<(), AllocError>
     requires size { length point.now ≡ length problem.now.columns }
     requires rows { RowsFit point.now problem.now.rows }
-    ensures { OnOk result (solution.new ≡ spec.with_rows point.now members.now problem.now.rows solution.old) }
+    ensures { OnOk result (solution.new ≡ spec.with_rows point.now members.now problem.now.rows duals.now solution.old) }
 {
     problem.keeps_its_limits();
     let rows = problem.rows();
     let mut left = members;
+    let mut duals_left = duals;
     for (i, row) in rows.iter().enumerate() {
         let Some((member, rest)) = left.split_first() else {
             return Ok(());
         };
+        let Some((dual, duals_rest)) = duals_left.split_first() else {
+            return Ok(());
+        };
         let value = row_value(problem, i as u32, point);
-        add_row(alloc, solution, member, row, value)?;
+        add_row(alloc, solution, member, row, value, *dual)?;
         left = rest;
+        duals_left = duals_rest;
     }
     Ok(())
 }
@@ -132,14 +148,16 @@ fn solution_by(
     rows: &[Member],
     problem: &Instance,
     point: &Point,
+    duals: &Duals,
 ) -> Result<Solution, AllocError>
     requires size { length point.now ≡ length problem.now.columns }
     requires rows { RowsFit point.now problem.now.rows }
-    ensures { IfOk result (λ made. made ≡ spec.solution_by columns.now rows.now problem.now.rows point.now) }
+    ensures { IfOk result (λ made. made ≡ spec.solution_by columns.now rows.now problem.now.rows point.now duals.now) }
 {
-    let mut solution = Solution::new(alloc);
-    add_columns(alloc, &mut solution, columns, point.as_slice())?;
-    add_rows(alloc, &mut solution, rows, problem, point)?;
+    let mut solution = Solution::new(alloc, duals.elsewhere());
+    let numbers = point.as_slice();
+    add_columns(alloc, &mut solution, columns, numbers, duals.columns())?;
+    add_rows(alloc, &mut solution, rows, problem, point, duals.rows())?;
     Ok(solution)
 }
 
@@ -230,7 +248,7 @@ fn behind_solve(alloc: Global, model: &LoadedModel) -> Result<Afterwards, AllocE
 }
 
 /// The statements behind `solve`, in order, up to the first fault, where the members that the columns and rows of the problem come
-/// from have these numbers, and the columns' members those bounds: what they print and write, and the fault.
+/// from have these numbers and dual values, and the columns' members those bounds: what they print and write, and the fault.
 /// Errors: want of memory.
 #[tactic(auto, unfolding(crate::specs::Solved::after_by))]
 pub fn after_solve(
@@ -240,12 +258,13 @@ pub fn after_solve(
     rows: &[Member],
     problem: &Instance,
     point: &Point,
+    duals: &Duals,
 ) -> Result<Afterwards, AllocError>
     requires size { length point.now ≡ length problem.now.columns }
     requires rows { RowsFit point.now problem.now.rows }
     ensures { IfOk result (λ after. (d : Draft) → columns.now ≡ column_members d → rows.now ≡ row_members d → problem.now.rows ≡ (problem_of d).rows
-        → spec.after_by model d point.now ≡ (made_after after, after.fault)) }
+        → spec.after_by model d point.now duals.now ≡ (made_after after, after.fault)) }
 {
-    let solution = solution_by(alloc, columns, rows, problem, point)?;
+    let solution = solution_by(alloc, columns, rows, problem, point, duals)?;
     behind_solve(alloc, &with_solution(model.into_inner(), solution))
 }

@@ -7,6 +7,7 @@ use Rattle.milp.specs.Problem.{Problem, Row}
 use Rattle.model_text.specs.declared.error.ReadError.{ReadError}
 use Rattle.model_text.specs.declared.error.ReadError.TheVariants.{Fault, NoMemory}
 use Rattle.gmpl_solution.specs.declared.member.Member.{Member}
+use Rattle.gmpl_solution.specs.Solution.{Duals}
 use Rattle.gmpl_data.specs.declared.tables.LoadedModel.{LoadedModel}
 use Rattle.gmpl_rows.specs.Draft.{Draft}
 use Rattle.gmpl_rows.specs.Problem.{column_members, problem_of, row_members}
@@ -262,17 +263,17 @@ fewer_left pending printed table_text r h = by h.execution r.end (fewer pending.
 same_problem : (p q : Problem) → Declares p ≡ Declares q → p ≡ q
 same_problem p q same = cc
 
-is_after : (text : List ℕ) (files tables : List (List ℕ)) (rest : Rest) (p : Problem) (rows : List Row) (x : List Rational) (answer : Made × Option ModelFault)
-    → ((d : Draft) → rest.columns.items ≡ column_members d → rest.rows.items ≡ row_members d → rows ≡ (problem_of d).rows → after_by rest.model d x ≡ answer)
-    → ending text files tables ≡ Declares p → IsRest text files tables rest → p.rows ≡ rows → afterwards text files tables x ≡ Some answer
-is_after text files tables rest p rows x answer law ends is same =
-    ap (after_execution x) is.is ∙ ap Some (law is.draft is.columns is.rows (sym same ∙ ap (λ (q : Problem). q.rows) (same_problem p (problem_of is.draft) (sym ends ∙ ap ending_by is.is))))
+is_after : (text : List ℕ) (files tables : List (List ℕ)) (rest : Rest) (p : Problem) (rows : List Row) (x : List Rational) (duals : Duals) (answer : Made × Option ModelFault)
+    → ((d : Draft) → rest.columns.items ≡ column_members d → rest.rows.items ≡ row_members d → rows ≡ (problem_of d).rows → after_by rest.model d x duals ≡ answer)
+    → ending text files tables ≡ Declares p → IsRest text files tables rest → p.rows ≡ rows → afterwards text files tables x duals ≡ Some answer
+is_after text files tables rest p rows x duals answer law ends is same =
+    ap (after_execution x duals) is.is ∙ ap Some (law is.draft is.columns is.rows (sym same ∙ ap (λ (q : Problem). q.rows) (same_problem p (problem_of is.draft) (sym ends ∙ ap ending_by is.is))))
 
 -- where the columns and rows are lent
-pub is_answer : {E : Type 0} (rest : Rest) (rows : List Row) (x : List Rational) (columns : List ColumnMember) (lines : List Member) → columns ≡ rest.columns.items → lines ≡ rest.rows.items
+pub is_answer : {E : Type 0} (rest : Rest) (rows : List Row) (x : List Rational) (duals : Duals) (columns : List ColumnMember) (lines : List Member) → columns ≡ rest.columns.items → lines ≡ rest.rows.items
     → (result : Result Afterwards E)
-    → IfOk result (λ a. (d : Draft) → columns ≡ column_members d → lines ≡ row_members d → rows ≡ (problem_of d).rows → after_by rest.model d x ≡ (made_after a, a.fault))
-    → IfOk result (λ a. (text : List ℕ) (files tables : List (List ℕ)) (p : Problem) → ending text files tables ≡ Declares p → IsRest text files tables rest → p.rows ≡ rows → afterwards text files tables x ≡ Some (made_after a, a.fault))
-is_answer rest rows x columns lines cs ls (Ok a) law =
-    λ text files tables p ends is same. is_after text files tables rest p rows x (made_after a, a.fault) (λ d f g. law d (cs ∙ f) (ls ∙ g)) ends is same
-is_answer rest rows x columns lines cs ls (Err e) law = tt
+    → IfOk result (λ a. (d : Draft) → columns ≡ column_members d → lines ≡ row_members d → rows ≡ (problem_of d).rows → after_by rest.model d x duals ≡ (made_after a, a.fault))
+    → IfOk result (λ a. (text : List ℕ) (files tables : List (List ℕ)) (p : Problem) → ending text files tables ≡ Declares p → IsRest text files tables rest → p.rows ≡ rows → afterwards text files tables x duals ≡ Some (made_after a, a.fault))
+is_answer rest rows x duals columns lines cs ls (Ok a) law =
+    λ text files tables p ends is same. is_after text files tables rest p rows x duals (made_after a, a.fault) (λ d f g. law d (cs ∙ f) (ls ∙ g)) ends is same
+is_answer rest rows x duals columns lines cs ls (Err e) law = tt

@@ -22,6 +22,7 @@ use Rattle.gmpl_generate.specs.InputTables.{tables_left as left_to_read}
 use Rattle.gmpl_generate.specs.Problem.{Executing, IsEnd, execution, with_texts}
 use Rattle.gmpl_generate.specs.Running.{File, Made, files_of, result_of, state_of}
 use Rattle.gmpl_generate.specs.Solved.{after_by}
+use Rattle.gmpl_solution.specs.Solution.{Duals}
 use Rattle.gmpl_generate.specs.declared.fault.ModelFault.{ModelFault}
 use Rattle.gmpl_reader.specs.Data.{given}
 use Rattle.gmpl_reader.specs.declared.fault.MathProgFault.{MathProgFault}
@@ -95,21 +96,22 @@ making text data_files tables = made_by (executing text data_files tables)
 
 -- ---- behind `solve`
 
-abbrev pub after_stop : List Rational → LoadedModel → Stopped → Option (Made × Option ModelFault)
-after_stop x model (stopped.AtEnd d) = Some (after_by model d x)
-after_stop x model (stopped.AtTable p) = None
+abbrev pub after_stop : List Rational → Duals → LoadedModel → Stopped → Option (Made × Option ModelFault)
+after_stop x duals model (stopped.AtEnd d) = Some (after_by model d x duals)
+after_stop x duals model (stopped.AtTable p) = None
 
-abbrev pub after_run : List Rational → Executing → Option (Made × Option ModelFault)
-after_run x (Ok r) = after_stop x r.0.model r.0.stopped
-after_run x (Err r) = None
+abbrev pub after_run : List Rational → Duals → Executing → Option (Made × Option ModelFault)
+after_run x duals (Ok r) = after_stop x duals r.0.model r.0.stopped
+after_run x duals (Err r) = None
 
-abbrev pub after_execution : List Rational → Result Executing MathProgFault → Option (Made × Option ModelFault)
-after_execution x (Ok run) = after_run x run
-after_execution x (Err fault) = None
+abbrev pub after_execution : List Rational → Duals → Result Executing MathProgFault → Option (Made × Option ModelFault)
+after_execution x duals (Ok run) = after_run x duals run
+after_execution x duals (Err fault) = None
 
--- what the statements behind `solve` make at a point of the problem, and their first fault; none, where no problem is declared
-abbrev pub afterwards : List ℕ → List (List ℕ) → List (List ℕ) → List Rational → Option (Made × Option ModelFault)
-afterwards text data_files tables x = after_execution x (executing text data_files tables)
+-- what the statements behind `solve` make at a point of the problem with these dual values, and their first fault; none, where no
+-- problem is declared
+abbrev pub afterwards : List ℕ → List (List ℕ) → List (List ℕ) → List Rational → Duals → Option (Made × Option ModelFault)
+afterwards text data_files tables x duals = after_execution x duals (executing text data_files tables)
 
 -- ---- what a call answers; want of memory is free
 

@@ -19,7 +19,7 @@ use gmpl_generate::{
 use gmpl_lexer::read_tokens;
 use gmpl_parse::{Model, ParseError, parse};
 use gmpl_rows::ColumnMember;
-use gmpl_solution::Member;
+use gmpl_solution::{Duals, Member};
 use instance::{Instance, Point};
 use model_text::ReadError;
 use sqlite_items::Boxed;
@@ -216,23 +216,24 @@ fn reading_end(alloc: Global, end: End) -> Result<ReadingEnd, AllocError>
     }
 }
 
-/// What the statements behind `solve` print and make at a point of the problem that a text declares, and the first that cannot be
-/// executed.
+/// What the statements behind `solve` print and make at a point of the problem that a text declares, with these dual values, and the
+/// first that cannot be executed.
 /// Errors: want of memory.
 pub fn after_solve(
     alloc: Global,
     rest: Rest,
     problem: &Instance,
     point: &Point,
+    duals: &Duals,
 ) -> Result<Afterwards, AllocError>
     requires size { length point.now ≡ length problem.now.columns }
     requires rows { RowsFit point.now problem.now.rows }
-    ensures { IfOk result (λ a. (text : List ℕ) (files tables : List (List ℕ)) (p : Problem) → ending text files tables ≡ Declares p → IsRest text files tables rest → p.rows ≡ problem.now.rows → afterwards text files tables point.now ≡ Some (made_after a, a.fault)) }
+    ensures { IfOk result (λ a. (text : List ℕ) (files tables : List (List ℕ)) (p : Problem) → ending text files tables ≡ Declares p → IsRest text files tables rest → p.rows ≡ problem.now.rows → afterwards text files tables point.now duals.now ≡ Some (made_after a, a.fault)) }
 {
     let Rest {
         model,
         columns,
         rows,
     } = rest;
-    gmpl_generate::after_solve(alloc, model, &columns, &rows, problem, point)
+    gmpl_generate::after_solve(alloc, model, &columns, &rows, problem, point, duals)
 }

@@ -90,7 +90,7 @@ returns-clause-complete g c =
     let files_rose = Rose (g.S.Store.faults c.args.files.now) (g.S.Store.faults c.carried_out.new.files) in
     let out_rose = Rose (g.O.Sink.faults c.args.out.now) (g.O.Sink.faults c.carried_out.new.out) in
     let cause = rw c.deref.ensures.value at c.carried_out.ensures.cause in
-    λ k. complete words told files_rose out_rose c.certificates_are_right.ensures k c.carried_out.result cause
+    λ k. complete words told files_rose out_rose k c.carried_out.result cause
 
 pub returns-clause-written : goal.returns-clause-written
 returns-clause-written g c = rw c.deref.ensures.value at c.carried_out.ensures.written
