@@ -51,11 +51,7 @@ fn without_values(alloc: Global, problem: &Instance) -> Result<Duals, AllocError
     Ok(Duals::new(columns, rows, Dual::Missing))
 }
 
-fn by_weights(
-    alloc: Global,
-    problem: &Instance,
-    weights: &LeafWeights,
-) -> Result<Duals, AllocError>
+fn by_weights(alloc: Global, problem: &Instance, weights: &LeafWeights) -> Result<Duals, AllocError>
     ensures { IfOk result (λ made. made ≡ spec.duals_by problem.now (Some weights.now)) }
 {
     let weights = weights.weights();

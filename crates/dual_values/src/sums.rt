@@ -46,7 +46,6 @@ fn add_weight(sums: &mut [Dual], item: Item)
     }
 }
 
-#[tactic(auto, using(crate::proofs::Places::one_more, crate::proofs::Places::no_more))]
 fn add_weights(sums: &mut [Dual], items: &[Item])
     ensures { sums.new ≡ spec.sums_from 0 items.now sums.old }
 {

@@ -288,7 +288,7 @@ module _ (words : List (List ℕ)) (told : ToldNames) (files_rose out_rose : Typ
   no_fault_behind fault c is h =
       let same : h.proved.problem ≡ k.problem = declared_same h.proved.problem k.problem (sym h.proved.asked ∙ k.asked) in
       none_some fault (sym (k.behind h.meaning h.means c (subst (λ (p : Problem). Proves p c) same h.proved.proves) is h.point h.has_point)
-          ∙ ap (λ (p : Problem). (h.meaning.behind h.point (duals_of p c)).fault) (sym same) ∙ h.ends)
+      ∙ ap (λ (p : Problem). (h.meaning.behind h.point (duals_of p c)).fault) (sym same) ∙ h.ends)
 
   all_linear : IsNotLinear k.settings (k.texts ++ k.tables) → ⊥
   all_linear h =
