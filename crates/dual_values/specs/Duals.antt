@@ -44,6 +44,10 @@ directed direction Missing = Missing
 abbrev pub dual_list : {A : Type 0} → Direction → List Item → List A → List Dual
 dual_list direction is places = map (directed direction) (sums_from 0 is (map (λ _. Number zero_ℚ) places))
 
+-- for each place none
+abbrev pub missing_list : {A : Type 0} → List A → List Dual
+missing_list places = map (λ _. Missing) places
+
 -- ---- the weights of a certificate
 
 -- of a tree that is one leaf
@@ -72,8 +76,8 @@ only_weights p c = if has_integer p.columns then None else of_tree c.derived c.t
 
 abbrev pub duals_by : Problem → Option Weights → Duals
 duals_by p None = record {
-  columns = map (λ _. Missing) p.columns;
-  rows = map (λ _. Missing) p.rows;
+  columns = missing_list p.columns;
+  rows = missing_list p.rows;
   elsewhere = Missing;
 }
 duals_by p (Some w) = record {

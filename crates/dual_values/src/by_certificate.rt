@@ -4,7 +4,7 @@ ghost use Rattle.std.specs.Option.{option_map};
 ghost use Rattle.certificate.specs.Values.{node_of};
 ghost use Rattle.dual_values.specs.Duals as spec;
 
-use crate::sums::{alike, dual_list};
+use crate::sums::{dual_list, missing_list};
 use certificate::{Certificate, LeafWeights, TreeNode};
 use fraction::Frac;
 use gmpl_solution::{Dual, Duals};
@@ -46,8 +46,8 @@ fn only_weights<'a>(problem: &Instance, certificate: &'a Certificate) -> Option<
 fn without_values(alloc: Global, problem: &Instance) -> Result<Duals, AllocError>
     ensures { IfOk result (λ made. made ≡ spec.duals_by problem.now None) }
 {
-    let columns = alike(alloc, problem.columns(), &Dual::Missing)?;
-    let rows = alike(alloc, problem.rows(), &Dual::Missing)?;
+    let columns = missing_list(alloc, problem.columns())?;
+    let rows = missing_list(alloc, problem.rows())?;
     Ok(Duals::new(columns, rows, Dual::Missing))
 }
 

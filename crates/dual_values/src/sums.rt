@@ -54,8 +54,8 @@ fn add_weights(sums: &mut [Dual], items: &[Item])
     }
 }
 
-/// The same for each place.
-pub(crate) fn alike<T>(alloc: Global, places: &[T], dual: &Dual) -> Result<Vec<Dual>, AllocError>
+// The same for each place.
+fn alike<T>(alloc: Global, places: &[T], dual: &Dual) -> Result<Vec<Dual>, AllocError>
     ensures { IfOk result (λ made. made.items ≡ map (λ _. dual.now) places.now) }
 {
     let mut made = Vec::with_capacity(alloc, places.len())?;
@@ -73,6 +73,13 @@ fn directed_all(alloc: Global, direction: Direction, sums: &[Dual]) -> Result<Ve
         made.push(directed(direction, *sum))?;
     }
     Ok(made)
+}
+
+/// For each place none.
+pub(crate) fn missing_list<T>(alloc: Global, places: &[T]) -> Result<Vec<Dual>, AllocError>
+    ensures { IfOk result (λ made. made.items ≡ spec.missing_list places.now) }
+{
+    alike(alloc, places, &Dual::Missing)
 }
 
 /// For each place the sum of its weights, in the sign of the direction.
