@@ -17,9 +17,9 @@ loop-i-preserved c =
     let rows = c.args.problem.now.rows in
     let i = c.loop-i.i in
     let at = at_row_of x rows c.rows-rows.result.now i c.index-rows-i.result c.rows-rows.ensures c.loop-i-test.true c.index-rows-i.is c.loop-i.invariant.fit in
-    let more : c.add_row.new.solution ≡ with_solved_row c.in-Some.member.now c.index-rows-i.result (sum_at x (form_of (slice_get rows i))) c.in-Some-2.dual c.loop-i.solution = search rules in
+    let more : c.add_row.new.solution ≡ with_solved_row c.in-Some.member.now c.index-rows-i.result (sum_at x (form_of (slice_get rows i))) c.in-Some-split_first.dual.now c.loop-i.solution = search rules in
     record {
-      solution = sym (next_row x rows i c.index-rows-i.result c.in-Some.member.now c.in-Some.rest.now c.loop-i.left.now c.in-Some-2.dual c.in-Some-2.duals_rest.now c.loop-i.duals_left.now c.loop-i.solution c.add_row.new.solution (with_rows x c.args.members.now rows c.args.duals.now c.args.solution.now) at (search rules) (search rules) (sym c.loop-i.invariant.solution) more);
+      solution = sym (next_row x rows i c.index-rows-i.result c.in-Some.member.now c.in-Some.rest.now c.loop-i.left.now c.in-Some-split_first.dual.now c.in-Some-split_first.duals_rest.now c.loop-i.duals_left.now c.loop-i.solution c.add_row.new.solution (with_rows x c.args.members.now rows c.args.duals.now c.args.solution.now) at (search rules) (search rules) (sym c.loop-i.invariant.solution) more);
       fit = at.left;
     }
 
