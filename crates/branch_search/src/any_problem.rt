@@ -8,9 +8,10 @@ ghost use Rattle.branch_search.specs.Plain.{NoneInteger, IsPlainCertificate};
 ghost use Rattle.branch_search.specs.WholeFaults.{IsFault, IsNotByPivots};
 
 use crate::endless::beyond;
-use crate::search;
+use crate::search_by;
 use crate::told::ray_or_fault;
 use crate::whole_fault::{VerdictFault, Wanted};
+use candidate::Proposer;
 use certificate::Certificate;
 use instance::Instance;
 use std::alloc::Global;
@@ -42,7 +43,37 @@ pub fn solve(
     ensures fault { IfErr result (IsFault problem.now split_limit pivot_limit) }
     ensures unlimited { pivot_limit ≡ 0 → IfErr result IsNotByPivots }
 {
-    match search(alloc, problem, first_columns, split_limit, pivot_limit) {
+    let mut proposer = Proposer::new(alloc, pivot_limit, first_columns);
+    let done = solve_by(
+        alloc,
+        problem,
+        first_columns,
+        split_limit,
+        pivot_limit,
+        &mut proposer,
+    );
+    std::mem::drop(proposer);
+    done
+}
+
+/// The same, with what proposes at the nodes of the first search: it takes up this problem, behind others.
+pub fn solve_by(
+    alloc: Global,
+    problem: &Instance,
+    first_columns: usize,
+    split_limit: usize,
+    pivot_limit: u32,
+    proposer: &mut Proposer,
+) -> Result<Certificate, VerdictFault>
+    ensures proves { IfOk result (λ c. Proves problem.now c) }
+    ensures accepted { IfOk result (λ c. outcome (trials problem.now c) ≡ Acceptance) }
+    ensures version { IfOk result (λ c. c.version ≡ Two) }
+    ensures splits { IfOk result IsBySplitsOfColumns }
+    ensures plain { NoneInteger problem.now.columns → IfOk result (λ c. IsPlainCertificate problem.now c) }
+    ensures fault { IfErr result (IsFault problem.now split_limit pivot_limit) }
+    ensures unlimited { pivot_limit ≡ 0 → IfErr result IsNotByPivots }
+{
+    match search_by(alloc, problem, split_limit, pivot_limit, proposer) {
         Ok(certificate) => Ok(certificate),
         Err(fault) => match ray_or_fault(Wanted::Best, fault) {
             Ok(ray) => beyond(alloc, problem, ray, first_columns, split_limit, pivot_limit),

@@ -14,10 +14,10 @@ mod whole;
 mod whole_fault;
 mod work;
 
-pub use any_problem::solve;
+pub use any_problem::{solve, solve_by};
 pub use continuous::has_no_integer_column;
 pub use fault::{EndlessAt, SearchFault};
 pub use treatment::{Found, Fractional, Treatment};
-pub use whole::search;
+pub use whole::{search, search_by};
 pub use whole_fault::{VerdictFault, Wanted};
 pub use work::{treat, treat_with};

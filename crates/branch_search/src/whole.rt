@@ -42,6 +42,27 @@ pub fn search(
     ensures plain { NoneInteger problem.now.columns → IfOk result (λ c. IsPlainCertificate problem.now c) }
     ensures fault { IfErr result (IsFault problem.now [] split_limit pivot_limit) }
 {
+    let mut proposer = Proposer::new(alloc, pivot_limit, first_columns);
+    let done = search_by(alloc, problem, split_limit, pivot_limit, &mut proposer);
+    std::mem::drop(proposer);
+    done
+}
+
+/// The same, with what proposes at the nodes: it takes up this problem, behind others.
+pub fn search_by(
+    alloc: Global,
+    problem: &Instance,
+    split_limit: usize,
+    pivot_limit: u32,
+    proposer: &mut Proposer,
+) -> Result<Certificate, SearchFault>
+    ensures proves { IfOk result (λ c. Proves problem.now c) }
+    ensures accepted { IfOk result (λ c. outcome (trials problem.now c) ≡ Acceptance) }
+    ensures version { IfOk result (λ c. c.version ≡ Two) }
+    ensures splits { IfOk result IsBySplitsOfColumns }
+    ensures plain { NoneInteger problem.now.columns → IfOk result (λ c. IsPlainCertificate problem.now c) }
+    ensures fault { IfErr result (IsFault problem.now [] split_limit pivot_limit) }
+{
     let copy = problem.copy(alloc)?;
     let mut board = Board::start(
         alloc,
@@ -50,32 +71,13 @@ pub fn search(
         split_limit,
         pivot_limit,
     )?;
-    run(alloc, &mut board, first_columns, pivot_limit)?;
+    proposer.take_up();
+    run(alloc, &mut board, pivot_limit, proposer)?;
     ended(alloc, board)
 }
 
 // Round after round, until no leaf is to be worked on.
 fn run(
-    alloc: Global,
-    board: &mut Board,
-    first_columns: usize,
-    pivot_limit: u32,
-) -> Result<(), SearchFault>
-    requires cuts { board.old.cuts ≡ [] }
-    requires pivots { board.old.pivot_limit ≡ pivot_limit }
-    requires going { IsGoing board.old }
-    ensures same { IfOk result (λ done. AreSame board.old board.new) }
-    ensures at_end { IfOk result (λ done. IsAtEnd board.new) }
-    ensures fault { IfErr result (IsFault board.old.problem board.old.cuts board.old.split_limit board.old.pivot_limit) }
-{
-    let mut proposer = Proposer::new(alloc, pivot_limit, first_columns);
-    let done = run_with(alloc, board, pivot_limit, &mut proposer);
-    std::mem::drop(proposer);
-    done
-}
-
-// The same, with what proposes at the nodes.
-fn run_with(
     alloc: Global,
     board: &mut Board,
     pivot_limit: u32,

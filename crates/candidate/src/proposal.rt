@@ -45,13 +45,15 @@ pub enum Candidate {
     Unbounded(ProposedRay),
 }
 
-/// What proposes for the nodes of one problem. What is the same at each of them is made once, and what splits brought is kept.
+/// What proposes for the nodes of one problem, and then of the next. What is the same at each node is made once, and what splits
+/// brought is kept; and of a linear program the basis of its best point, for the next one.
 #[derive(Drop)]
 pub struct Proposer {
     steps: u32,
     first_columns: usize,
     model: Option<Model>,
     gains: Gains,
+    last: Option<Basis>,
 }
 
 impl Proposer {
@@ -64,7 +66,14 @@ impl Proposer {
             first_columns,
             model: None,
             gains: Gains::new(alloc),
+            last: None,
         }
+    }
+
+    /// Another problem comes. If it is a linear program, and the one before was one of as many columns and rows, its search begins
+    /// where that one's ended.
+    pub fn take_up(&mut self) {
+        self.model = None;
     }
 
     /// Looks for a verdict on the linear program that the problem is below these splits, its columns taken as continuous. It starts
@@ -94,7 +103,7 @@ impl Proposer {
         cutoff: &Option<Frac>,
     ) -> Result<Candidate, Stop> {
         if start.is_none() && !has_integer(problem.columns()) {
-            match self.from_triangle(alloc, problem, splits, cutoff) {
+            match self.from_itself(alloc, problem, splits, cutoff) {
                 Err(Stop::NoFit) | Err(Stop::Steps) => {}
                 outcome => return outcome,
             }
@@ -113,6 +122,40 @@ impl Proposer {
         self.from_start(alloc, problem, model, start, aim)
     }
 
+    // From where the last linear program ended, or else from a triangular start.
+    fn from_itself(
+        &mut self,
+        alloc: Global,
+        problem: &Instance,
+        splits: &SplitsTaken,
+        cutoff: &Option<Frac>,
+    ) -> Result<Candidate, Stop> {
+        match self.from_last(alloc, problem, splits, cutoff) {
+            Err(Stop::NoFit) | Err(Stop::Steps) => {
+                self.from_triangle(alloc, problem, splits, cutoff)
+            }
+            outcome => outcome,
+        }
+    }
+
+    // From the basis at which the last linear program ended, which is given up as a triangular start is.
+    fn from_last(
+        &mut self,
+        alloc: Global,
+        problem: &Instance,
+        splits: &SplitsTaken,
+        cutoff: &Option<Frac>,
+    ) -> Result<Candidate, Stop> {
+        let Some(last) = mem::replace(&mut self.last, None) else {
+            return Err(Stop::NoFit);
+        };
+        let model = self.model_below(alloc, problem, splits)?;
+        let aim = given_up_aim(&model, splits, cutoff);
+        let start = start_of(alloc, &model, Some(&last))?;
+        self.last = Some(last);
+        self.from_start(alloc, problem, model, start, aim)
+    }
+
     // From a triangular start, which is given up where the dual phase takes more than twice as many steps as there are rows.
     fn from_triangle(
         &mut self,
@@ -122,13 +165,7 @@ impl Proposer {
         cutoff: &Option<Frac>,
     ) -> Result<Candidate, Stop> {
         let model = self.model_below(alloc, problem, splits)?;
-        let rows = u32::try_from(model.matrix.rows).unwrap_or(u32::MAX);
-        let aim = Aim {
-            splits,
-            cutoff,
-            spread_after: spread_after(&model),
-            dual_steps: rows.saturating_mul(2),
-        };
+        let aim = given_up_aim(&model, splits, cutoff);
         match crashed(alloc, &model) {
             Ok(Some(start)) => self.from_start(alloc, problem, model, start, aim),
             Ok(None) => {
@@ -195,18 +232,36 @@ impl Proposer {
             }
             End::Optimal => {
                 self.note(state, departure);
-                optimum(
+                let candidate = optimum(
                     alloc,
                     problem.columns(),
                     self.first_columns,
                     state,
                     &self.gains,
                     aim.cutoff,
-                )
+                )?;
+                self.keep_basis(alloc, problem, &candidate)?;
+                Ok(candidate)
             }
             End::Infeasible(blocked) => contradiction(alloc, state, &blocked),
             End::Unbounded(endless) => endless_ray(alloc, state, &endless),
         }
+    }
+
+    // A linear program ends at this basis.
+    fn keep_basis(
+        &mut self,
+        alloc: Global,
+        problem: &Instance,
+        candidate: &Candidate,
+    ) -> Result<(), Stop> {
+        if has_integer(problem.columns()) {
+            return Ok(());
+        }
+        if let Candidate::Optimal(found) = candidate {
+            self.last = Some(found.basis.copy(alloc)?);
+        }
+        Ok(())
     }
 
     // What the split above brought.
@@ -215,6 +270,17 @@ impl Proposer {
             (Some(departure), Ok(value)) => self.gains.note(&departure, value),
             _ => {}
         }
+    }
+}
+
+// From a start that is given up where the dual phase takes more than twice as many steps as there are rows.
+fn given_up_aim<'a>(model: &Model, splits: &'a SplitsTaken, cutoff: &'a Option<Frac>) -> Aim<'a> {
+    let rows = u32::try_from(model.matrix.rows).unwrap_or(u32::MAX);
+    Aim {
+        splits,
+        cutoff,
+        spread_after: spread_after(model),
+        dual_steps: rows.saturating_mul(2),
     }
 }
 

@@ -1,7 +1,7 @@
 -- The dual values of a problem by a certificate that shows a best point: 1 or -1, the sign of the direction, times the sum of the
 -- weights that the certificate has on a column or a row. There are none where a column is integer, or the certificate has a derived
 -- row or more than one leaf.
-use Rattle.std.specs.Prelude.{ℕ, suc, ◌==◌, Bool, true, false, ◌||◌, List, [], ◌∷◌, map, Option, Some, None, Result, Ok, Err, if◌then◌else◌}
+use Rattle.std.specs.Prelude.{ℕ, suc, ◌==◌, Bool, false, ◌||◌, List, [], ◌∷◌, map, Option, Some, None, Result, Ok, Err, if◌then◌else◌}
 use Rattle.rational.specs.Rational.{Rational, zero_ℚ, ◌*ℚ◌}
 use Rattle.milp.specs.declared.Direction.{Direction}
 use Rattle.milp.specs.Points.{sign_of}

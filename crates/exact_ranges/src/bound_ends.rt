@@ -11,6 +11,7 @@ ghost use Rattle.exact_ranges.specs.Faults.{IsFault, IsNotByPivots};
 use crate::used::Used;
 use crate::verdict::best_number;
 use crate::{End, RangeFault, Sought};
+use candidate::Proposer;
 use certificate::Certificate;
 use fraction::Frac;
 use instance::{Column, Instance, Row};
@@ -27,6 +28,7 @@ pub(crate) fn bound_end(
     used: &Used,
     end: End,
     pivot_limit: u32,
+    proposer: &mut Proposer,
 ) -> Result<Option<Frac>, RangeFault>
     requires continuous { NoneInteger problem.now.columns }
     requires best { IsShownBest problem.now (best_point certificate.now) (best_weights certificate.now) }
@@ -46,6 +48,7 @@ pub(crate) fn bound_end(
         used,
         end,
         pivot_limit,
+        proposer,
     )?;
     moved(problem, certificate, used, end, distance)
 }
@@ -60,6 +63,7 @@ fn distance(
     used: &Used,
     end: End,
     pivot_limit: u32,
+    proposer: &mut Proposer,
 ) -> Result<Option<Frac>, RangeFault>
     requires continuous { NoneInteger problem.now.columns }
     requires best { IsShownBest problem.now (best_point certificate.now) (best_weights certificate.now) }
@@ -74,7 +78,7 @@ fn distance(
     auxiliaries_have_points();
     let sought = Sought::OfBound(used.row, used.side, end);
     let column = problem.columns().len() as u32;
-    best_number(alloc, columns, rows, column, &sought, pivot_limit)
+    best_number(alloc, columns, rows, column, &sought, pivot_limit, proposer)
 }
 
 // The bound, moved by the distance.

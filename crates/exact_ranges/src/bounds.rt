@@ -15,6 +15,7 @@ use crate::bound_ends::bound_end;
 use crate::bound_rows::{bound_columns, bound_rows};
 use crate::used::{Used, used_at};
 use crate::{End, Range, RangeFault, RowRanges, Side};
+use candidate::Proposer;
 use certificate::Certificate;
 use fraction::Frac;
 use instance::{Column, Instance, Row};
@@ -27,6 +28,7 @@ pub(crate) fn bound_ranges(
     problem: &Instance,
     certificate: &Certificate,
     pivot_limit: u32,
+    proposer: &mut Proposer,
 ) -> Result<Vec<RowRanges>, RangeFault>
     requires continuous { NoneInteger problem.now.columns }
     requires best { IsShownBest problem.now (best_point certificate.now) (best_weights certificate.now) }
@@ -38,7 +40,15 @@ pub(crate) fn bound_ranges(
     let columns = bound_columns(alloc, problem)?;
     let mut ranges = Vec::new(alloc);
     for row in 0..problem.rows().len() {
-        let made = row_ranges(alloc, problem, certificate, &columns, row, pivot_limit)?;
+        let made = row_ranges(
+            alloc,
+            problem,
+            certificate,
+            &columns,
+            row,
+            pivot_limit,
+            proposer,
+        )?;
         add(&mut ranges, made.lower, made.upper)?;
     }
     Ok(ranges)
@@ -63,6 +73,7 @@ fn row_ranges(
     columns: &[Column],
     row: usize,
     pivot_limit: u32,
+    proposer: &mut Proposer,
 ) -> Result<RowRanges, RangeFault>
     requires continuous { NoneInteger problem.now.columns }
     requires best { IsShownBest problem.now (best_point certificate.now) (best_weights certificate.now) }
@@ -80,6 +91,7 @@ fn row_ranges(
         row,
         Side::Lower,
         pivot_limit,
+        proposer,
     )?;
     let upper = range_on(
         alloc,
@@ -89,6 +101,7 @@ fn row_ranges(
         row,
         Side::Upper,
         pivot_limit,
+        proposer,
     )?;
     Ok(RowRanges { lower, upper })
 }
@@ -102,6 +115,7 @@ fn range_on(
     row: usize,
     side: Side,
     pivot_limit: u32,
+    proposer: &mut Proposer,
 ) -> Result<Option<Range>, RangeFault>
     requires continuous { NoneInteger problem.now.columns }
     requires best { IsShownBest problem.now (best_point certificate.now) (best_weights certificate.now) }
@@ -123,6 +137,7 @@ fn range_on(
         side,
         bound,
         pivot_limit,
+        proposer,
     )
 }
 
@@ -144,6 +159,7 @@ fn side_range(
     side: Side,
     bound: Option<Frac>,
     pivot_limit: u32,
+    proposer: &mut Proposer,
 ) -> Result<Option<Range>, RangeFault>
     requires continuous { NoneInteger problem.now.columns }
     requires best { IsShownBest problem.now (best_point certificate.now) (best_weights certificate.now) }
@@ -164,6 +180,7 @@ fn side_range(
             side,
             bound,
             pivot_limit,
+            proposer,
         ),
     }
 }
@@ -177,6 +194,7 @@ fn range_at(
     side: Side,
     bound: Frac,
     pivot_limit: u32,
+    proposer: &mut Proposer,
 ) -> Result<Option<Range>, RangeFault>
     requires continuous { NoneInteger problem.now.columns }
     requires best { IsShownBest problem.now (best_point certificate.now) (best_weights certificate.now) }
@@ -188,7 +206,15 @@ fn range_at(
 {
     match used_at(problem, certificate, row, side, bound) {
         Ok(used) => {
-            let range = range_of(alloc, problem, certificate, columns, used, pivot_limit)?;
+            let range = range_of(
+                alloc,
+                problem,
+                certificate,
+                columns,
+                used,
+                pivot_limit,
+                proposer,
+            )?;
             Ok(Some(range))
         }
         Err(fault) => Err(RangeFault::Weight(row, side, fault)),
@@ -202,6 +228,7 @@ fn range_of(
     columns: &[Column],
     used: Used,
     pivot_limit: u32,
+    proposer: &mut Proposer,
 ) -> Result<Range, RangeFault>
     requires continuous { NoneInteger problem.now.columns }
     requires best { IsShownBest problem.now (best_point certificate.now) (best_weights certificate.now) }
@@ -221,6 +248,7 @@ fn range_of(
         &used,
         End::Least,
         pivot_limit,
+        proposer,
     )?;
     let high = bound_end(
         alloc,
@@ -231,6 +259,7 @@ fn range_of(
         &used,
         End::Greatest,
         pivot_limit,
+        proposer,
     )?;
     Ok(between(problem, &used, low, high))
 }

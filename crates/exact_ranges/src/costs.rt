@@ -14,6 +14,7 @@ use crate::reached::reached;
 use crate::table::{AtColumn, table};
 use crate::verdict::best_number;
 use crate::{End, Range, RangeFault, Sought};
+use candidate::Proposer;
 use certificate::Certificate;
 use fraction::Frac;
 use instance::{Column, Entries, Instance, Row};
@@ -29,6 +30,7 @@ pub(crate) fn cost_ranges(
     problem: &Instance,
     certificate: &Certificate,
     pivot_limit: u32,
+    proposer: &mut Proposer,
 ) -> Result<Vec<Range>, RangeFault>
     requires continuous { NoneInteger problem.now.columns }
     requires best { IsShownBest problem.now (best_point certificate.now) (best_weights certificate.now) }
@@ -38,7 +40,7 @@ pub(crate) fn cost_ranges(
     ensures unlimited { pivot_limit ≡ 0 → IfErr result IsNotByPivots }
 {
     let forms = reached(alloc, problem, best_point(certificate))?;
-    with_forms(alloc, problem, certificate, &forms, pivot_limit)
+    with_forms(alloc, problem, certificate, &forms, pivot_limit, proposer)
 }
 
 // The same, with the forms of the bounds that the point reaches.
@@ -48,6 +50,7 @@ fn with_forms(
     certificate: &Certificate,
     forms: &[Entries],
     pivot_limit: u32,
+    proposer: &mut Proposer,
 ) -> Result<Vec<Range>, RangeFault>
     requires continuous { NoneInteger problem.now.columns }
     requires best { IsShownBest problem.now (best_point certificate.now) (best_weights certificate.now) }
@@ -60,7 +63,15 @@ fn with_forms(
     problem.keeps_its_limits();
     let columns = cost_columns(alloc, forms)?;
     let table = table(alloc, problem, forms)?;
-    each_range(alloc, problem, certificate, &columns, &table, pivot_limit)
+    each_range(
+        alloc,
+        problem,
+        certificate,
+        &columns,
+        &table,
+        pivot_limit,
+        proposer,
+    )
 }
 
 fn each_range(
@@ -70,6 +81,7 @@ fn each_range(
     columns: &[Column],
     table: &[AtColumn],
     pivot_limit: u32,
+    proposer: &mut Proposer,
 ) -> Result<Vec<Range>, RangeFault>
     requires continuous { NoneInteger problem.now.columns }
     requires best { IsShownBest problem.now (best_point certificate.now) (best_weights certificate.now) }
@@ -90,6 +102,7 @@ fn each_range(
             table,
             column,
             pivot_limit,
+            proposer,
         )?;
         add(&mut ranges, range.low, range.high)?;
     }
@@ -112,6 +125,7 @@ fn cost_range(
     table: &[AtColumn],
     column: usize,
     pivot_limit: u32,
+    proposer: &mut Proposer,
 ) -> Result<Range, RangeFault>
     requires continuous { NoneInteger problem.now.columns }
     requires best { IsShownBest problem.now (best_point certificate.now) (best_weights certificate.now) }
@@ -132,6 +146,7 @@ fn cost_range(
         column,
         End::Least,
         pivot_limit,
+        proposer,
     )?;
     let high = cost_end(
         alloc,
@@ -142,6 +157,7 @@ fn cost_range(
         column,
         End::Greatest,
         pivot_limit,
+        proposer,
     )?;
     Ok(between(problem, certificate, column, low, high))
 }
@@ -176,6 +192,7 @@ fn cost_end(
     column: usize,
     end: End,
     pivot_limit: u32,
+    proposer: &mut Proposer,
 ) -> Result<Option<Frac>, RangeFault>
     requires continuous { NoneInteger problem.now.columns }
     requires best { IsShownBest problem.now (best_point certificate.now) (best_weights certificate.now) }
@@ -191,5 +208,5 @@ fn cost_end(
     optima_show_cost_ends();
     cost_auxiliaries_show_costs();
     let sought = Sought::OfCost(column, end);
-    best_number(alloc, columns, rows, 0, &sought, pivot_limit)
+    best_number(alloc, columns, rows, 0, &sought, pivot_limit, proposer)
 }

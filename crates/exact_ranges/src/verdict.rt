@@ -17,7 +17,8 @@ use crate::forms::number;
 use crate::parts::problem_of;
 use crate::sought::wanted_by;
 use crate::{RangeFault, Sought};
-use branch_search::{VerdictFault, solve};
+use branch_search::{VerdictFault, solve_by};
+use candidate::Proposer;
 use certificate::{Certificate, Verdict};
 use fraction::Frac;
 use instance::{BuildFault, Column, Instance, Row};
@@ -32,6 +33,7 @@ pub(crate) fn best_number(
     column: u32,
     sought: &Sought,
     pivot_limit: u32,
+    proposer: &mut Proposer,
 ) -> Result<Option<Frac>, RangeFault>
     requires forms { AreForms (length columns.now) rows.now }
     requires column { column < length columns.now }
@@ -43,7 +45,7 @@ pub(crate) fn best_number(
     ensures unlimited { pivot_limit ≡ 0 → IfErr result IsNotByPivots }
 {
     let auxiliary = auxiliary(alloc, columns, rows, column, sought, pivot_limit)?;
-    match solved(alloc, &auxiliary, column, pivot_limit) {
+    match solved(alloc, &auxiliary, column, pivot_limit, proposer) {
         Ok(number) => Ok(number),
         Err(fault) => Err(RangeFault::Search(*sought, fault)),
     }
@@ -77,6 +79,7 @@ fn solved(
     auxiliary: &Instance,
     column: u32,
     pivot_limit: u32,
+    proposer: &mut Proposer,
 ) -> Result<Option<Frac>, VerdictFault>
     requires continuous { NoneInteger auxiliary.now.columns }
     requires some { (z : List Rational) × Feasible auxiliary.now z }
@@ -84,7 +87,7 @@ fn solved(
     ensures fault { IfErr result (search.IsFault auxiliary.now 0 pivot_limit) }
     ensures unlimited { pivot_limit ≡ 0 → IfErr result search.IsNotByPivots }
 {
-    let certificate = solve(alloc, auxiliary, 0, 0, pivot_limit)?;
+    let certificate = solve_by(alloc, auxiliary, 0, 0, pivot_limit, proposer)?;
     Ok(told(auxiliary, &certificate, column))
 }
 

@@ -9,7 +9,8 @@ ghost use Rattle.exact_ranges.specs.Faults.{IsFault, IsNotByPivots};
 
 use crate::bounds::bound_ranges;
 use crate::costs::cost_ranges;
-use crate::{RangeFault, Ranges};
+use crate::{Range, RangeFault, Ranges, RowRanges};
+use candidate::Proposer;
 use certificate::Certificate;
 use instance::Instance;
 use std::alloc::Global;
@@ -59,7 +60,46 @@ fn found(
     ensures fault { IfErr result (IsFault problem.now (best_point certificate.now) (best_weights certificate.now) pivot_limit) }
     ensures unlimited { pivot_limit ≡ 0 → IfErr result IsNotByPivots }
 {
-    let costs = cost_ranges(alloc, problem, certificate, pivot_limit)?;
-    let rows = bound_ranges(alloc, problem, certificate, pivot_limit)?;
+    let costs = all_costs(alloc, problem, certificate, pivot_limit)?;
+    let rows = all_bounds(alloc, problem, certificate, pivot_limit)?;
     Ok(Ranges::new(costs, rows))
+}
+
+// Each search begins where the one before it ended.
+fn all_costs(
+    alloc: Global,
+    problem: &Instance,
+    certificate: &Certificate,
+    pivot_limit: u32,
+) -> Result<Vec<Range>, RangeFault>
+    requires continuous { NoneInteger problem.now.columns }
+    requires best { IsShownBest problem.now (best_point certificate.now) (best_weights certificate.now) }
+    ensures count { IfOk result (λ ranges. length ranges.items ≡ length problem.now.columns) }
+    ensures ranges { IfOk result (λ ranges. AreCostRanges problem.now (best_point certificate.now) ranges.items) }
+    ensures fault { IfErr result (IsFault problem.now (best_point certificate.now) (best_weights certificate.now) pivot_limit) }
+    ensures unlimited { pivot_limit ≡ 0 → IfErr result IsNotByPivots }
+{
+    let mut proposer = Proposer::new(alloc, pivot_limit, 0);
+    let done = cost_ranges(alloc, problem, certificate, pivot_limit, &mut proposer);
+    std::mem::drop(proposer);
+    done
+}
+
+fn all_bounds(
+    alloc: Global,
+    problem: &Instance,
+    certificate: &Certificate,
+    pivot_limit: u32,
+) -> Result<Vec<RowRanges>, RangeFault>
+    requires continuous { NoneInteger problem.now.columns }
+    requires best { IsShownBest problem.now (best_point certificate.now) (best_weights certificate.now) }
+    ensures count { IfOk result (λ ranges. length ranges.items ≡ length problem.now.rows) }
+    ensures ranges { IfOk result (λ ranges. AreBoundRanges problem.now (best_point certificate.now) (best_weights certificate.now) ranges.items) }
+    ensures fault { IfErr result (IsFault problem.now (best_point certificate.now) (best_weights certificate.now) pivot_limit) }
+    ensures unlimited { pivot_limit ≡ 0 → IfErr result IsNotByPivots }
+{
+    let mut proposer = Proposer::new(alloc, pivot_limit, 0);
+    let done = bound_ranges(alloc, problem, certificate, pivot_limit, &mut proposer);
+    std::mem::drop(proposer);
+    done
 }

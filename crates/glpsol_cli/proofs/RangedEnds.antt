@@ -1,5 +1,5 @@
 -- How a run ends at a best point, with its ranges.
-use Rattle.std.proofs.Common.{◌≡◌, ◌∙◌, ◌≤◌, ℕ, true, false, List, [], Option, Some, None, sym, ap, subst}
+use Rattle.std.proofs.Common.{◌≡◌, ◌∙◌, ◌≤◌, ℕ, is_some, true, false, List, [], Option, Some, None, sym, ap, subst}
 use Rattle.milp.specs.Problem.{Problem}
 use Rattle.verdicts.specs.Certificate.{Certificate}
 use Rattle.gmpl_generate.specs.declared.fault.ModelFault.{ModelFault}
@@ -9,7 +9,7 @@ use Rattle.outside.specs.Causes.{Rose}
 use Rattle.outside.specs.Told.{AppendsPrefix}
 use Rattle.command_line.specs.declared.settings.Settings.{Settings}
 use Rattle.command_line.specs.declared.settings.Task.{Task}
-use Rattle.glpsol_cli.specs.Asked.{ToldNames, is_named, ranges_file, wants_ranges}
+use Rattle.glpsol_cli.specs.Asked.{ToldNames, ranges_file, wants_ranges}
 use Rattle.glpsol_cli.specs.Pieces.{Outside, Whole}
 use Rattle.glpsol_cli.specs.Meaning.{saved_in}
 use Rattle.glpsol_cli.specs.Cause.{AreRanges, reached_of}
@@ -37,10 +37,10 @@ module _ (a b c d : ℕ) (before : a ≤ b) (after : c ≤ d) (e f g h : ℕ) (b
 -- ---- ranges that are found
 
 pub ranges_wanted : (task : Task) (file : List ℕ) → ranges_file task ≡ Some file → wants_ranges task ≡ true
-ranges_wanted task file is = ap is_named is
+ranges_wanted task file is = ap is_some is
 
 pub no_ranges_wanted : (task : Task) → ranges_file task ≡ None → wants_ranges task ≡ false
-no_ranges_wanted task is = ap is_named is
+no_ranges_wanted task is = ap is_some is
 
 module _ (p : Problem) (s : Settings) (c : Certificate) (r : AllRanges) (files_rose out_rose : Type 0) (answer : Answer) where
   pub at_best_saving : wants_ranges s.task ≡ true → AreRanges p c r → IsEndSaving c r files_rose out_rose answer → IsEndAtBest p s c files_rose out_rose answer

@@ -1,5 +1,5 @@
 -- What a command asks for, by its words alone, and the files that it reads.
-use Rattle.std.specs.Prelude.{◌≡◌, ◌≤◌, ◌||◌, ℕ, Bool, true, false, List, [], ◌∷◌, ◌++◌, length, Some, None}
+use Rattle.std.specs.Prelude.{◌≡◌, ◌≤◌, ◌||◌, ℕ, Bool, true, false, List, [], ◌∷◌, ◌++◌, length, is_some, Some, None}
 use Rattle.std.specs.declared.option.Option.{Option}
 use Rattle.outside.specs.Told.{Lacks, Has}
 use Rattle.command_line.specs.Meaning.{settings_of}
@@ -51,13 +51,9 @@ ranges_file (Solve outputs) = outputs.ranges
 ranges_file Translate = None
 ranges_file (CheckCertificate name migrated) = None
 
-abbrev pub is_named : Option (List ℕ) → Bool
-is_named None = false
-is_named (Some name) = true
-
 -- exact ranges are wanted
 abbrev pub wants_ranges : Task → Bool
-wants_ranges task = is_named (ranges_file task)
+wants_ranges task = is_some (ranges_file task)
 
 -- what is wanted is told of problems without integer columns alone
 abbrev pub wants_linear : Task → Bool

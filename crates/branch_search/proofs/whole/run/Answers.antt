@@ -1,6 +1,6 @@
 use Rattle.branch_search.specs.Underway.{work_left}
 use Rattle.branch_search.proofs.Further.{same_then, still_going, between, smaller}
-use Rattle.branch_search.proofs.whole.run_with.Goals as goal
+use Rattle.branch_search.proofs.whole.run.Goals as goal
 
 pub loop-more-smaller : goal.loop-more-smaller
 loop-more-smaller c =

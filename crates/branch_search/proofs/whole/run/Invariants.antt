@@ -1,7 +1,7 @@
 use Rattle.std.proofs.Common.{suc, cond}
 use Rattle.branch_search.specs.Underway.{work_left, AreSame}
 use Rattle.branch_search.proofs.Further.{IsBetween, weight}
-use Rattle.branch_search.proofs.whole.run_with.Given as goal
+use Rattle.branch_search.proofs.whole.run.Given as goal
 
 abbrev pub invariant-loop-more : goal.invariant-loop-more
 invariant-loop-more l = record {

@@ -1,7 +1,7 @@
 use Rattle.std.proofs.Common.{◌∙◌, sym}
 use Rattle.branch_search.specs.declared.whole_fault.Wanted.TheVariants.{Best}
 use Rattle.branch_search.proofs.Causes.{ray_found, search_fault}
-use Rattle.branch_search.proofs.any_problem.solve.Goals as goal
+use Rattle.branch_search.proofs.any_problem.solve_by.Goals as goal
 
 pub returns-in-Err-ray_or_fault-clause-fault : goal.returns-in-Err-ray_or_fault-clause-fault
 returns-in-Err-ray_or_fault-clause-fault c =
