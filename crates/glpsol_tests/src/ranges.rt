@@ -22,7 +22,7 @@ const NO_RANGES: &str = "\
 0 UNBOUNDED$column x 0 1$ <- none <- --lp f --ranges-exact y <- max$ x$st$end$
 2 not linear$ <- none <- --lp f --ranges-exact y <- min$ x$st$ 1 <= 3 x <= 2$general$ x$end$
 2 OPTIMAL$objective z 1$column x 1$row z 1$model fault: statement 4, line 1: CheckFailed$ <- none <- --math f --ranges-exact y <- var x >= 1; minimize z: x; solve; check: x > 1; end;
-4 OPTIMAL$objective obj 13/5$column x 7/5$column y 6/5$row r.1 4$row r.2 5$UNDECIDED pivots$ <- none <- --lp f --pivlim 2 --ranges-exact y <- max$ x + y$st$ 2 x + y <= 4$ x + 3 y <= 5$end$
+4 OPTIMAL$objective obj 14$column x 7$column y 0$row r.1 7$UNDECIDED pivots$ <- none <- --lp f --pivlim 1 --ranges-exact y <- max$ 2 x + y$st$ x + y <= 7$end$
 ";
 
 #[test]
