@@ -2,9 +2,10 @@
 ghost use Rattle.std.specs.Prelude.{◌≡◌};
 ghost use Rattle.gmpl_kinds.specs.Kinds as spec;
 
-use crate::demands::{
-    add_dimensions, as_branch, as_logic, as_scalar, as_set, gathered, gathered_shape, iterated_by,
-    joined, left_of, or_one, part_of, related, right_of, same_branch, same_dimension,
+use crate::demands::{gathered_shape, part_of};
+use crate::judged::{
+    added, both_scalars, compared, conditional, counted, gathered_with, indexed_entry, iterated,
+    linked, logic, plain_entry, range, scalar, set, set_of_dimension, tuple, under,
 };
 use crate::objects::named;
 use crate::shape::{Gathered, Object, Shape, Site};
@@ -29,24 +30,26 @@ pub fn shape_of(objects: &[Object], site: Site, whole: &Expr) -> Result<Shape, S
         Expr::Group(parts) => group(objects, site, parts.as_slice()),
         Expr::Braces(indexing) => braces(objects, site, indexing),
         Expr::Iterated(iteration, indexing, body) => {
-            indexing_dimension(objects, site, indexing)?;
-            iterated_by(*iteration, shape_of(objects, site, body.get())?)
+            let dimension = indexing_dimension(objects, site, indexing);
+            let body = shape_of(objects, site, body.get());
+            iterated(*iteration, dimension, body)
         }
         Expr::If(condition, first, other) => {
-            as_logic(shape_of(objects, site, condition.get())?)?;
-            let first = as_branch(shape_of(objects, site, first.get())?)?;
+            let condition = shape_of(objects, site, condition.get());
+            let first = shape_of(objects, site, first.get());
             match other {
-                None => Ok(first),
+                None => conditional(condition, first, None),
                 Some(other) => {
-                    let other = as_branch(shape_of(objects, site, other.get())?)?;
-                    same_branch(first, other)
+                    let other = shape_of(objects, site, other.get());
+                    conditional(condition, first, Some(other))
                 }
             }
         }
-        Expr::Signed(_, part) => as_scalar(shape_of(objects, site, part.get())?),
+        Expr::Signed(_, part) => scalar(shape_of(objects, site, part.get())),
         Expr::Power(base, exponent) => {
-            as_scalar(shape_of(objects, site, base.get())?)?;
-            as_scalar(shape_of(objects, site, exponent.get())?)
+            let base = shape_of(objects, site, base.get());
+            let exponent = shape_of(objects, site, exponent.get());
+            both_scalars(base, exponent)
         }
         Expr::Chain(first, links) => {
             let before = shape_of(objects, site, first.get())?;
@@ -59,22 +62,22 @@ pub fn shape_of(objects: &[Object], site: Site, whole: &Expr) -> Result<Shape, S
             }
         }
         Expr::Range(first, last, step) => {
-            as_scalar(shape_of(objects, site, first.get())?)?;
-            as_scalar(shape_of(objects, site, last.get())?)?;
+            let first = shape_of(objects, site, first.get());
+            let last = shape_of(objects, site, last.get());
             match step {
-                None => Ok(Shape::SetOf(Some(1))),
+                None => range(first, last, None),
                 Some(step) => {
-                    as_scalar(shape_of(objects, site, step.get())?)?;
-                    Ok(Shape::SetOf(Some(1)))
+                    let step = shape_of(objects, site, step.get());
+                    range(first, last, Some(step))
                 }
             }
         }
         Expr::Compared(relation, left, right) => {
-            let left = left_of(*relation, shape_of(objects, site, left.get())?)?;
-            let right = right_of(*relation, shape_of(objects, site, right.get())?)?;
-            related(left, right)
+            let left = shape_of(objects, site, left.get());
+            let right = shape_of(objects, site, right.get());
+            compared(*relation, left, right)
         }
-        Expr::Not(part) => as_logic(shape_of(objects, site, part.get())?),
+        Expr::Not(part) => logic(shape_of(objects, site, part.get())),
     }
 }
 
@@ -84,7 +87,7 @@ pub fn all_scalars(objects: &[Object], site: Site, all: &[Expr]) -> Result<Shape
     ensures { result ≡ spec.all_scalars (spec.shapes_of objects.now site all.now) }
 {
     for one in all {
-        as_scalar(shape_of(objects, site, one)?)?;
+        scalar(shape_of(objects, site, one))?;
     }
     Ok(Shape::Scalar)
 }
@@ -94,7 +97,7 @@ fn all_sets(objects: &[Object], site: Site, all: &[Expr]) -> Result<Shape, Synta
     ensures { result ≡ spec.all_sets (spec.shapes_of objects.now site all.now) }
 {
     for one in all {
-        as_set(shape_of(objects, site, one)?)?;
+        set(shape_of(objects, site, one))?;
     }
     Ok(Shape::Scalar)
 }
@@ -106,7 +109,7 @@ fn group(objects: &[Object], site: Site, parts: &[Expr]) -> Result<Shape, Syntax
     match parts {
         [] => Ok(Shape::Scalar),
         [only] => shape_of(objects, site, only),
-        [_, _, ..] => Ok(Shape::Tuple(tuple_parts(objects, site, 0, parts)?)),
+        [_, _, ..] => tuple(tuple_parts(objects, site, 0, parts)),
     }
 }
 
@@ -122,8 +125,7 @@ fn tuple_parts(
 {
     let mut count = before;
     for one in parts {
-        as_scalar(shape_of(objects, site, one)?)?;
-        count = add_dimensions(count, 1)?;
+        count = counted(count, shape_of(objects, site, one))?;
     }
     Ok(count)
 }
@@ -139,8 +141,8 @@ fn all_links(
 {
     let mut shape = first;
     for link in links {
-        let part = part_of(link.operator, shape_of(objects, site, &link.operand)?)?;
-        shape = joined(link.operator, shape, part)?;
+        let operand = shape_of(objects, site, &link.operand);
+        shape = linked(shape, link.operator, operand)?;
     }
     Ok(shape)
 }
@@ -156,12 +158,12 @@ pub fn indexing_dimension(
 ) -> Result<usize, SyntaxFaultKind>
     ensures { result ≡ spec.indexing_dimension (spec.indexing_parts objects.now site whole.now) }
 {
-    let dimension = dimensions_from(objects, site, 0, whole.entries.as_slice())?;
+    let dimension = dimensions_from(objects, site, 0, whole.entries.as_slice());
     match &whole.condition {
-        None => Ok(dimension),
+        None => under(dimension, None),
         Some(condition) => {
-            as_logic(shape_of(objects, site, condition.get())?)?;
-            Ok(dimension)
+            let condition = shape_of(objects, site, condition.get());
+            under(dimension, Some(condition))
         }
     }
 }
@@ -177,8 +179,7 @@ fn dimensions_from(
 {
     let mut dimension = before;
     for one in entries {
-        let more = entry_dimension(objects, site, one)?;
-        dimension = add_dimensions(dimension, more)?;
+        dimension = added(dimension, entry_dimension(objects, site, one))?;
     }
     Ok(dimension)
 }
@@ -188,12 +189,11 @@ fn entry_dimension(objects: &[Object], site: Site, whole: &Entry) -> Result<usiz
     ensures { result ≡ spec.entry_dimension (spec.entry_parts objects.now site whole.now) }
 {
     match &whole.index {
-        None => Ok(or_one(as_set(shape_of(objects, site, &whole.set)?)?)),
+        None => plain_entry(shape_of(objects, site, &whole.set)),
         Some(index) => {
-            all_parts(objects, site, index.as_slice())?;
-            let set = as_set(shape_of(objects, site, &whole.set)?)?;
-            same_dimension(Some(index.len()), set)?;
-            Ok(index.len())
+            let parts = all_parts(objects, site, index.as_slice());
+            let elements = shape_of(objects, site, &whole.set);
+            indexed_entry(parts, index.len(), elements)
         }
     }
 }
@@ -214,7 +214,7 @@ fn component(objects: &[Object], site: Site, whole: &Component) -> Result<Shape,
 {
     match whole {
         Component::New => Ok(Shape::Scalar),
-        Component::Value(value) => as_scalar(shape_of(objects, site, value)?),
+        Component::Value(value) => scalar(shape_of(objects, site, value)),
     }
 }
 
@@ -236,7 +236,7 @@ fn braces(objects: &[Object], site: Site, whole: &Indexing) -> Result<Shape, Syn
     ensures { result ≡ spec.braces (spec.indexing_parts objects.now site whole.now) }
 {
     if whole.condition.is_some() || is_indexed(objects, site, whole.entries.as_slice()) {
-        Ok(Shape::SetOf(Some(indexing_dimension(objects, site, whole)?)))
+        set_of_dimension(indexing_dimension(objects, site, whole))
     } else {
         plain_braces(objects, site, whole.entries.as_slice())
     }
@@ -248,7 +248,7 @@ fn plain_braces(objects: &[Object], site: Site, entries: &[Entry]) -> Result<Sha
 {
     let mut all = Gathered::Nothing;
     for one in entries {
-        all = gathered(all, shape_of(objects, site, &one.set)?)?;
+        all = gathered_with(all, shape_of(objects, site, &one.set))?;
     }
     Ok(gathered_shape(all))
 }

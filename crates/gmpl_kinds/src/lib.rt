@@ -4,6 +4,7 @@
 #![tactic(auto)]
 
 mod demands;
+mod judged;
 mod kinds;
 mod objects;
 mod shape;
