@@ -55,14 +55,12 @@ fn head(
     objects: &Names,
     scope: &mut Names,
     whole: &Head,
-) -> Result<resolved::Head, NamesError>
+) -> Result<Boxed<resolved::Head>, NamesError>
     ensures { Follows (spec.head objects.now whole.now scope.old) result scope.new }
 {
+    let name = whole.name.copied(alloc)?;
     let domain = optional_indexing(alloc, objects, scope, &whole.domain)?;
-    Ok(resolved::Head {
-        name: whole.name.copied(alloc)?,
-        domain,
-    })
+    Ok(Boxed::new(alloc, resolved::Head { name, domain })?)
 }
 
 fn attribute(
@@ -117,7 +115,10 @@ pub(crate) fn declaration(
 {
     let head = head(alloc, objects, scope, &whole.head)?;
     let attributes = attributes(alloc, objects, scope, whole.attributes.as_slice())?;
-    Ok(resolved::Declaration { head, attributes })
+    Ok(resolved::Declaration {
+        head: head.into_inner(),
+        attributes,
+    })
 }
 
 pub(crate) fn constraint(
@@ -125,20 +126,21 @@ pub(crate) fn constraint(
     objects: &Names,
     scope: &mut Names,
     whole: &Constraint,
-) -> Result<resolved::Constraint, NamesError>
+) -> Result<Boxed<resolved::Constraint>, NamesError>
     ensures { Follows (spec.constraint objects.now whole.now scope.old) result scope.new }
 {
     let head = head(alloc, objects, scope, &whole.head)?;
     let left = boxed_expr(alloc, objects, scope, &whole.left)?;
     let right = boxed_expr(alloc, objects, scope, &whole.right)?;
     let last = optional_side(alloc, objects, scope, &whole.last)?;
-    Ok(resolved::Constraint {
-        head,
+    let made = resolved::Constraint {
+        head: head.into_inner(),
         left: left.into_inner(),
         relation: whole.relation,
         right: right.into_inner(),
         last,
-    })
+    };
+    Ok(Boxed::new(alloc, made)?)
 }
 
 pub(crate) fn objective(
@@ -146,14 +148,15 @@ pub(crate) fn objective(
     objects: &Names,
     scope: &mut Names,
     whole: &Objective,
-) -> Result<resolved::Objective, NamesError>
+) -> Result<Boxed<resolved::Objective>, NamesError>
     ensures { Follows (spec.objective objects.now whole.now scope.old) result scope.new }
 {
     let head = head(alloc, objects, scope, &whole.head)?;
     let form = resolve_expr(alloc, objects, scope, &whole.form)?;
-    Ok(resolved::Objective {
+    let made = resolved::Objective {
         direction: whole.direction,
-        head,
+        head: head.into_inner(),
         form,
-    })
+    };
+    Ok(Boxed::new(alloc, made)?)
 }

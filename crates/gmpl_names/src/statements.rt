@@ -34,8 +34,7 @@ fn declared_constraint(
 {
     declare(alloc, objects, &whole.head.name)?;
     let mut scope = Names::new(alloc);
-    let made = constraint(alloc, objects, &mut scope, whole)?;
-    Ok(Boxed::new(alloc, made)?)
+    constraint(alloc, objects, &mut scope, whole)
 }
 
 fn declared_objective(
@@ -47,8 +46,7 @@ fn declared_objective(
 {
     declare(alloc, objects, &whole.head.name)?;
     let mut scope = Names::new(alloc);
-    let made = objective(alloc, objects, &mut scope, whole)?;
-    Ok(Boxed::new(alloc, made)?)
+    objective(alloc, objects, &mut scope, whole)
 }
 
 fn read(
