@@ -2,20 +2,29 @@
 use sparse_factors::{Stop, add};
 use std::alloc::Global;
 
-/// A slot, and its score when it was added.
+/// A slot, with its score and its rank among those of the same score when it was added.
 #[derive(Clone, Copy)]
 pub(crate) struct Ranked {
     pub(crate) score: i64,
+    pub(crate) rank: usize,
     pub(crate) slot: usize,
 }
 
 impl Ranked {
-    // The higher score comes first, of equal ones the first slot.
+    // The higher score comes first, of equal ones the lower rank.
     fn is_before(&self, other: &Ranked) -> bool {
         if self.score == other.score {
-            self.slot < other.slot
+            self.rank < other.rank
         } else {
             self.score > other.score
+        }
+    }
+
+    /// It comes before the best one so far, if there is one.
+    pub(crate) fn is_before_all(&self, best: Option<Ranked>) -> bool {
+        match best {
+            None => true,
+            Some(best) => self.is_before(&best),
         }
     }
 }

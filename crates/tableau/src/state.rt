@@ -73,6 +73,8 @@ pub struct State {
     pub steps_left: u32,
     pub stalls: usize,
     pub costs_are_shifted: bool,
+    // among slots that come equal it is the least variable that counts, and not the first slot
+    ranks_variables: bool,
     // the objective's value for the true costs, where it is known
     pub objective: Option<Frac>,
 }
@@ -104,6 +106,7 @@ impl State {
             steps_left: steps,
             stalls: 0,
             costs_are_shifted: false,
+            ranks_variables: !model.has_no_costs(),
             objective: None,
             model,
         };
@@ -330,9 +333,26 @@ impl State {
 
     // A slot that was looked at, or whose score fell, is ranked anew. Old ranks of it may stay.
     fn rank(&mut self, slot: usize) -> Result<(), Stop> {
-        match self.score(slot) {
+        match self.ranked(slot) {
             None => Ok(()),
-            Some(score) => self.ranking.add(Ranked { score, slot }),
+            Some(ranked) => self.ranking.add(ranked),
+        }
+    }
+
+    fn ranked(&self, slot: usize) -> Option<Ranked> {
+        Some(Ranked {
+            score: self.score(slot)?,
+            rank: self.rank_among_equals(slot),
+            slot,
+        })
+    }
+
+    // Which slot a variable has changes where the basis is factored anew.
+    fn rank_among_equals(&self, slot: usize) -> usize {
+        if self.ranks_variables {
+            self.variable_at(slot)
+        } else {
+            slot
         }
     }
 
@@ -344,7 +364,8 @@ impl State {
         Some(i64::from(size.saturating_mul(2)) - i64::from(weight))
     }
 
-    /// The slot whose variable is farthest beyond a bound in fair units, of equal ones the first.
+    /// The slot whose variable is farthest beyond a bound in fair units, of equal ones that of the least variable, or the first slot
+    /// where there are no costs.
     pub fn farthest_slot(&mut self) -> Result<Option<usize>, Stop> {
         if !self.ranks_slots() {
             return Ok(self.farthest_of_all());
@@ -357,17 +378,13 @@ impl State {
 
     fn farthest_of_all(&self) -> Option<usize> {
         let mut best = None;
-        let mut most = i64::MIN;
         for slot in 0..self.gaps.len() {
-            match self.score(slot) {
-                Some(score) if score > most => {
-                    most = score;
-                    best = Some(slot);
-                }
+            match self.ranked(slot) {
+                Some(ranked) if ranked.is_before_all(best) => best = Some(ranked),
                 _ => {}
             }
         }
-        best
+        Some(best?.slot)
     }
 
     // The first one by its rank. Scores rise only where a slot is looked at, so a rank that is not what the score is now is too high.
@@ -377,13 +394,18 @@ impl State {
                 None => return Ok(None),
                 Some(first) => first,
             };
-            if self.score(first.slot) == Some(first.score) {
+            if self.is_still(&first) {
                 return Ok(Some(first.slot));
             }
             self.ranking.drop_first();
             self.rank(first.slot)?;
         }
         Ok(None)
+    }
+
+    fn is_still(&self, ranked: &Ranked) -> bool {
+        self.score(ranked.slot) == Some(ranked.score)
+            && self.rank_among_equals(ranked.slot) == ranked.rank
     }
 
     // ---- factoring anew
