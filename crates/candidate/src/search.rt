@@ -45,6 +45,8 @@ pub(crate) fn run(state: &mut State, alloc: Global, aim: Aim<'_>) -> Result<Foun
         state.ties = next_rule(state.ties);
         state.steps_between = (state.steps_between / 2).max(4);
         state.try_to_refactor(alloc)?;
+        // a step that was broken off may have moved what rests
+        state.settle();
         match run_once(state, alloc, later) {
             Err(Stop::NoFit) => {}
             outcome => return outcome,

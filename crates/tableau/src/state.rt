@@ -8,6 +8,7 @@ use sparse_factors::{
     number_at, put, zeros,
 };
 use std::alloc::Global;
+use std::mem;
 
 /// Which variable is taken among those with equal ratios.
 #[derive(Clone, Copy, PartialEq, Eq)]
@@ -233,20 +234,44 @@ impl State {
 
     // ---- values where variables rest
 
-    // Sets the places, and the values of the resting variables.
-    fn settle(&mut self) {
+    /// Sets the places, and the values of the resting variables.
+    pub fn settle(&mut self) {
         for v in 0..self.places.len() {
             self.places[v] = None;
         }
-        for slot in 0..self.slots.len() {
-            let v = self.slots[slot];
-            put(&mut self.places, v, Some(slot));
-        }
+        self.place_all();
         for v in 0..self.values.len() {
             self.mark(v);
             if !self.is_basic(v) {
                 self.rest(v);
             }
+        }
+    }
+
+    // The same where only these variables were basic before: all others rest already.
+    fn settle_again(&mut self, basic: &[usize]) {
+        self.unplace(basic);
+        self.place_all();
+        for v in basic {
+            self.mark(*v);
+            if !self.is_basic(*v) {
+                self.rest(*v);
+            }
+        }
+    }
+
+    fn unplace(&mut self, variables: &[usize]) {
+        for v in variables {
+            put(&mut self.places, *v, None);
+        }
+    }
+
+    // Sets the places of the basic variables, which may not have been basic before.
+    fn place_all(&mut self) {
+        for slot in 0..self.slots.len() {
+            let v = self.slots[slot];
+            put(&mut self.places, v, Some(slot));
+            put(&mut self.marks, v, Mark::Closed);
         }
     }
 
@@ -414,9 +439,9 @@ impl State {
     fn refactor(&mut self, alloc: Global) -> Result<(), Stop> {
         let weights = self.weights_by_variable(alloc)?;
         let Factored { factors, slots } = factorise(alloc, &self.model.matrix, &self.slots)?;
+        let basic = mem::replace(&mut self.slots, slots);
         self.factors = factors;
-        self.slots = slots;
-        self.settle();
+        self.settle_again(&basic);
         self.take_weights(&weights);
         Ok(())
     }
