@@ -70,7 +70,7 @@ history_leaves b c (e ∷ log) way lease h there leave =
     let more = history_leaves h.0 c log way lease h.2 one.0 leave.1 in
     (more.0, λ above. more.1 above ∙ one.1 above)
 
-at_replaced : (t : Tree) (way : List Side) (x u : Tree) → at_place t way ≡ Some x → at_place (replaced t way u) way ≡ Some u
+pub at_replaced : (t : Tree) (way : List Side) (x u : Tree) → at_place t way ≡ Some x → at_place (replaced t way u) way ≡ Some u
 at_replaced t [] x u h = refl
 at_replaced (AtLeaf leaf) (side ∷ way) x u h = cc
 at_replaced (Divided s low high) (Low ∷ way) x u h = at_replaced low way x u h

@@ -1,5 +1,6 @@
 -- Open leases from call to call.
 use Rattle.std.proofs.Common.{ℕ, ◌≡◌, List, [], ◌∷◌, ◌++◌, Option, refl, sym, ap, subst}
+use Rattle.std.specs.Option.{IfSome}
 use Rattle.rational.specs.Rational.{Rational}
 use Rattle.verdicts.specs.Certificate.{Side as SideOf}
 use Rattle.search_tree.specs.declared.leaf.Lease.{Lease}
@@ -9,9 +10,15 @@ use Rattle.search_tree.specs.declared.event.Entry.{Entry}
 use Rattle.search_tree.specs.Tree.{sides_to}
 use Rattle.search_tree.specs.Board.{Board}
 use Rattle.search_tree.specs.Steps.{IsHistory, IsOffer, opening}
-use Rattle.tree_pool.specs.declared.answer.LeaseAnswer.{LeaseAnswer}
-use Rattle.tree_pool.specs.declared.answer.LeaseAnswer.TheVariants.{Leased}
-use Rattle.tree_pool.specs.Answers.{IsAnswer}
+use Rattle.search_node.specs.Sides.{sides_of}
+use Rattle.search_tree.specs.Honest.{IsHonestWay}
+use Rattle.search_tree.specs.Kept.{IsKept}
+use Rattle.search_tree.proofs.Laws.{replay_kept}
+use Rattle.certificate.specs.declared.split.Side.{Side}
+use Rattle.board_pool.specs.declared.asked.LeasedLeaf.{LeasedLeaf}
+use Rattle.board_pool.specs.declared.asked.Asked.{Asked}
+use Rattle.board_pool.specs.declared.asked.Asked.TheVariants.{Leased}
+use Rattle.board_pool.specs.Asks.{IsAsked}
 use Rattle.turn_pool.specs.declared.view.View.{View}
 use Rattle.turn_pool.specs.Logs.{Has, GoesOn}
 use Rattle.turn_pool.specs.Calls.{Called}
@@ -21,22 +28,32 @@ use Rattle.board_pool.specs.OpenLeases.{lease_to, IsLeasedBelow}
 use Rattle.board_pool.specs.LeasesStay.{none_ends, leased_behind}
 use Rattle.board_pool.proofs.Grafts.{same_opening}
 
--- a lease that a pass was given is open for it
-pub given_is_open : (v w : View Board Entry) (lease : Lease) (hint : Unit {0}) → Called touched log_of IsOfSearch (λ seat b (answer : LeaseAnswer) c. IsAnswer b seat answer c) v (Leased lease hint) w
-    → (sides : List SideOf) × IsLeasedBelow v.key.first.value w.spans w.seen lease sides
-given_is_open v w lease hint c =
+-- the way to each place of a kept board is honest
+abbrev WaysAreHonest : Type 0
+WaysAreHonest = (b : Board) → IsKept b → (way : List Side) → IsHonestWay b.problem b.cuts b.split_limit (sides_to b.tree way [])
+
+-- so it is on a board of a search, as the first board tells its problem
+honest_on_board : WaysAreHonest → (first b : Board) → IsOfSearch first b → (way : List Side) → IsHonestWay first.problem first.cuts first.split_limit (sides_to b.tree way [])
+honest_on_board honest first b of way = rw (sym of.problem, sym of.cuts, sym of.split_limit) (honest b (replay_kept b of.replay) way)
+
+-- a lease that a pass was given is open for it, on an honest way, and the node that was told is that of the leaf
+pub given_is_open : WaysAreHonest → (v w : View Board Entry) (leaf : LeasedLeaf) → Called touched log_of IsOfSearch (λ seat b (asked : Asked) c. IsAsked b seat asked c) v (Leased leaf) w
+    → (sides : List SideOf) × IsLeasedBelow v.key.first.value w.spans w.seen leaf.lease sides × IsHonestWay v.key.first.value.problem v.key.first.value.cuts v.key.first.value.split_limit sides × IfSome leaf.node (λ node. sides_of node.splits ≡ sides)
+given_is_open honest v w leaf c =
     let way = c.event.0 in
     let s = c.event.1 in
-    let log_is : c.after.log ≡ c.before.log ++ lease_to v.own way lease ∷ [] = ap log_of s.new in
-    let history : IsHistory (opening c.after) (c.before.log ++ lease_to v.own way lease ∷ []) c.after = subst (λ (log : List Entry). IsHistory (opening c.after) log c.after) log_is c.replay.replay.history in (
+    let log_is : c.after.log ≡ c.before.log ++ lease_to v.own way leaf.lease ∷ [] = ap log_of s.new in
+    let history : IsHistory (opening c.after) (c.before.log ++ lease_to v.own way leaf.lease ∷ []) c.after = subst (λ (log : List Entry). IsHistory (opening c.after) log c.after) log_is c.replay.replay.history in (
       sides_to c.after.tree way [],
-      subst (λ (x : View Board Entry). IsLeasedBelow v.key.first.value x.spans x.seen lease (sides_to c.after.tree way [])) (sym c.sees) (record {
+      subst (λ (x : View Board Entry). IsLeasedBelow v.key.first.value x.spans x.seen leaf.lease (sides_to c.after.tree way [])) (sym c.sees) (record {
         way = way;
         is_open = record { seat = v.own; before = c.before.log; since = []; is_log = log_is; number = ap (λ (l : Lease). l.number) s.is_lease; has = c.within v.own c.own; not_ended = tt };
         given = c.after;
-        history = subst (λ (x : Board). IsHistory x (c.before.log ++ lease_to v.own way lease ∷ []) c.after) (same_opening v.key.first.value c.after c.replay) history;
+        history = subst (λ (x : Board). IsHistory x (c.before.log ++ lease_to v.own way leaf.lease ∷ []) c.after) (same_opening v.key.first.value c.after c.replay) history;
         is_below = refl;
       }),
+      honest_on_board honest v.key.first.value c.after c.replay way,
+      c.event.2,
     )
 
 -- a log that goes on without the numbers leaves it open, and so it is for who holds more numbers

@@ -1,3 +1,4 @@
+pub mod AskedLeaves
 pub mod EventsOnce
 pub mod Grafts
 pub mod LeafStays

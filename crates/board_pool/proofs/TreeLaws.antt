@@ -12,13 +12,15 @@ use Rattle.search_tree.specs.Nodes.{IsHonestSplit, IsWorthwhile, KeepsLeaf}
 use Rattle.search_tree.specs.Board.{Board, IsTold}
 use Rattle.board_pool.specs.OpenLeases.{IsLeasedBelow}
 use Rattle.board_pool.specs.Grafts.{MayBePut}
+use Rattle.board_pool.specs.Stuck.{IsNotStuck}
 
 pub leaf_may_be_put : (first : Board) (spans : List (ℕ × ℕ)) (log : List Entry) (lease : Lease) (sides : List SideOf) (goal : Option Rational) (leaf : Leaf) → IsLeasedBelow first spans log lease sides → IfSome goal (λ v. IsTold v log)
-    → KeepsLeaf first.problem first.cuts first.pivot_limit goal sides leaf → IsNotLeased leaf → MayBePut first spans log lease (AtLeaf leaf)
-leaf_may_be_put first spans log lease sides goal leaf l told keeps not_leased = record {
+    → KeepsLeaf first.problem first.cuts first.pivot_limit goal sides leaf → IsNotLeased leaf → IsNotStuck leaf → MayBePut first spans log lease (AtLeaf leaf)
+leaf_may_be_put first spans log lease sides goal leaf l told keeps not_leased not_stuck = record {
   sides = sides;
   is_leased = l;
   sound = record { splits = tt; goal = goal; is_told = told; leaves = keeps; none_leased = not_leased };
+  none_stuck = not_stuck;
   within = omega arith;
   worthwhile = tt;
 }
@@ -29,6 +31,7 @@ split_may_be_put first spans log lease sides s l honest worthwhile granted = rec
   sides = sides;
   is_leased = l;
   sound = record { splits = (honest, tt, tt); goal = None; is_told = tt; leaves = (tt, tt); none_leased = (refl, refl) };
+  none_stuck = (tt, tt);
   within = omega (arith, granted);
   worthwhile = (worthwhile, tt, tt);
 }

@@ -36,6 +36,7 @@ graft_stays first spans log rest lease t m apart = record {
   sides = m.sides;
   is_leased = leased_behind first spans log rest lease m.sides m.is_leased (none_ends spans log rest m.is_leased.way lease m.is_leased.is_open apart);
   sound = sound_behind first log rest m.sides t m.sound;
+  none_stuck = m.none_stuck;
   within = m.within;
   worthwhile = m.worthwhile;
 }

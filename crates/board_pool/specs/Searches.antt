@@ -7,16 +7,19 @@ use Rattle.search_tree.specs.declared.event.Entry.{Entry}
 use Rattle.search_tree.specs.Tree.{AtLeaf}
 use Rattle.search_tree.specs.Board.{Board}
 use Rattle.search_tree.specs.Steps.{IsReplay}
+use Rattle.board_pool.specs.Stuck.{NoneStuck}
 
 abbrev pub log_of : Board → List Entry
 log_of b = b.log
 
--- the board has the problem, the cuts and the limits of the first one, and is the replay of its log
+-- the board has the problem, the cuts and the limits of the first one, no leaf at which the work is stuck, and is the replay of its
+-- log
 pub record IsOfSearch (first b : Board) : Type 0 where
   pub problem : b.problem ≡ first.problem
   pub cuts : b.cuts ≡ first.cuts
   pub split_limit : b.split_limit ≡ first.split_limit
   pub pivot_limit : b.pivot_limit ≡ first.pivot_limit
+  pub none_stuck : NoneStuck b.tree
   pub replay : IsReplay b
 
 -- a board of no search, for proofs that want some board

@@ -1,10 +1,10 @@
 // The lease of a leaf, as an event.
 ghost use Rattle.std.specs.Prelude.{◌≡◌};
-ghost use Rattle.tree_pool.specs.Answers.{IsAnswer};
+ghost use Rattle.board_pool.specs.Asks.{IsAsked};
 
+use crate::asked::Asked;
 use crate::machine::SharedBoard;
 use std::alloc::Global;
-use tree_pool::LeaseAnswer;
 use turn_pool::Event;
 
 /// Who makes it asks for a leaf to work on.
@@ -12,17 +12,17 @@ use turn_pool::Event;
 pub struct Ask;
 
 impl Event<SharedBoard> for Ask {
-    type Reply = LeaseAnswer;
+    type Reply = Asked;
 
     ghost may = { λ event spans first log. Unit {0} };
 
-    ghost does = { λ event seat b answer c. IsAnswer b seat answer c };
+    ghost does = { λ event seat b asked c. IsAsked b seat asked c };
 
-    fn make(self, alloc: Global, seat: u32, machine: &mut SharedBoard) -> Result<LeaseAnswer, Ask> {
+    fn make(self, alloc: Global, seat: u32, machine: &mut SharedBoard) -> Result<Asked, Ask> {
         match machine.lease(alloc, seat) {
-            Ok(answer) => {
+            Ok(asked) => {
                 machine.keeps_its_log();
-                Ok(answer)
+                Ok(asked)
             }
             Err(_) => Err(self),
         }

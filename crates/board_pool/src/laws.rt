@@ -1,5 +1,5 @@
 // What holds of open leases, and of trees that are put in their places.
-ghost use Rattle.std.specs.Prelude.{ℕ, ◌≤◌, List, Option, IfSome};
+ghost use Rattle.std.specs.Prelude.{ℕ, ◌≡◌, ◌≤◌, List, Option, IfSome};
 ghost use Rattle.rational.specs.Rational.{Rational};
 ghost use Rattle.verdicts.specs.Certificate.{Split, Side as SideOf};
 ghost use Rattle.turn_pool.specs.declared.view.View.{View};
@@ -13,34 +13,46 @@ ghost use Rattle.search_tree.specs.Tree.{Divided, AtLeaf, IsNotLeased};
 ghost use Rattle.search_tree.specs.Nodes.{IsHonestSplit, IsWorthwhile, KeepsLeaf};
 ghost use Rattle.search_tree.specs.Board.{Board, IsTold};
 ghost use Rattle.search_tree.specs.Steps.{IsOffer};
-ghost use Rattle.tree_pool.specs.declared.answer.LeaseAnswer.{LeaseAnswer};
-ghost use Rattle.tree_pool.specs.declared.answer.LeaseAnswer.TheVariants.{Leased};
-ghost use Rattle.tree_pool.specs.Answers.{IsAnswer};
+ghost use Rattle.search_tree.specs.Honest.{IsHonestWay};
+ghost use Rattle.search_node.specs.Sides.{sides_of};
+ghost use Rattle.board_pool.specs.declared.asked.LeasedLeaf.{LeasedLeaf};
+ghost use Rattle.board_pool.specs.declared.asked.Asked.{Asked};
+ghost use Rattle.board_pool.specs.declared.asked.Asked.TheVariants.{Leased};
+ghost use Rattle.board_pool.specs.Asks.{IsAsked};
+ghost use Rattle.board_pool.specs.Stuck.{IsNotStuck};
 ghost use Rattle.board_pool.specs.Touched.{touched};
 ghost use Rattle.board_pool.specs.Searches.{log_of, IsOfSearch};
 ghost use Rattle.board_pool.specs.OpenLeases.{IsLeasedBelow};
 ghost use Rattle.board_pool.specs.Grafts.{MayBePut};
 
-/// A lease that a pass was given is open for it. It stays open while the log goes on without the pass's numbers (so when
-/// another pass makes an event, or a pass is split or joined), and behind an offer of its own.
+use search_tree::ways_of_boards;
+
+/// A lease that a pass was given is open for it, its leaf stands on an honest way, and the node that was told is that of the
+/// leaf. It stays open while the log goes on without the pass's numbers (so when another pass makes an event, or a pass is
+/// split or joined), and behind an offer of its own.
 pub fn leases_stay_open()
-    ensures given { (v w : View Board Entry) (lease : Lease) (hint : Unit {0}) →
-        Called touched log_of IsOfSearch (λ seat b (answer : LeaseAnswer) c. IsAnswer b seat answer c) v (Leased lease hint) w →
-        (sides : List SideOf) × IsLeasedBelow v.key.first.value w.spans w.seen lease sides }
+    ensures given { (v w : View Board Entry) (leaf : LeasedLeaf) →
+        Called touched log_of IsOfSearch (λ seat b (asked : Asked) c. IsAsked b seat asked c) v (Leased leaf) w →
+        (sides : List SideOf) × IsLeasedBelow v.key.first.value w.spans w.seen leaf.lease sides
+        × IsHonestWay v.key.first.value.problem v.key.first.value.cuts v.key.first.value.split_limit sides
+        × IfSome leaf.node (λ node. sides_of node.splits ≡ sides) }
     ensures goes_on { (first : Board) (spans more : List (ℕ × ℕ)) (seen log : List Entry) (lease : Lease) (sides : List SideOf) →
         IsLeasedBelow first spans seen lease sides → GoesOn touched spans seen log → ((k : ℕ) → Has spans k → Has more k) →
         IsLeasedBelow first more log lease sides }
     ensures offered { (v w : View Board Entry) (x : List Rational) (best : Option Rational) (lease : Lease) (sides : List SideOf) →
         Called touched log_of IsOfSearch (λ seat b (told : Option Rational) c. IsOffer b seat x told c) v best w →
         IsLeasedBelow v.key.first.value v.spans v.seen lease sides → IsLeasedBelow v.key.first.value w.spans w.seen lease sides }
-{}
+{
+    ways_of_boards();
+}
 
-/// In the place of a leaf that is leased a leaf may be put that says what holds of its node, against a value that was told;
-/// and an honest split, where one is granted, at a node that beats the value that the lease told.
+/// In the place of a leaf that is leased a leaf may be put that says what holds of its node, against a value that was told,
+/// where the work at it is not stuck; and an honest split, where one is granted, at a node that beats the value that the
+/// lease told.
 pub fn trees_of_leases()
     ensures leaf { (first : Board) (spans : List (ℕ × ℕ)) (log : List Entry) (lease : Lease) (sides : List SideOf) (goal : Option Rational)
         (leaf : Leaf) → IsLeasedBelow first spans log lease sides → IfSome goal (λ v. IsTold v log) →
-        KeepsLeaf first.problem first.cuts first.pivot_limit goal sides leaf → IsNotLeased leaf → MayBePut first spans log lease (AtLeaf leaf) }
+        KeepsLeaf first.problem first.cuts first.pivot_limit goal sides leaf → IsNotLeased leaf → IsNotStuck leaf → MayBePut first spans log lease (AtLeaf leaf) }
     ensures split { (first : Board) (spans : List (ℕ × ℕ)) (log : List Entry) (lease : Lease) (sides : List SideOf) (s : Split) →
         IsLeasedBelow first spans log lease sides → IsHonestSplit first.problem first.cuts sides s →
         IsWorthwhile first.problem first.cuts lease.best sides → 1 ≤ lease.grant →

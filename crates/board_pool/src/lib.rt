@@ -3,12 +3,14 @@
 #![tactic(auto)]
 
 mod ask;
+mod asked;
 mod graft;
 mod laws;
 mod machine;
 mod offer;
 
 pub use ask::Ask;
+pub use asked::{Asked, LeasedLeaf};
 pub use graft::Graft;
 pub use laws::{leases_stay_open, trees_of_leases};
 pub use machine::SharedBoard;

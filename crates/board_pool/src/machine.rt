@@ -4,16 +4,17 @@ ghost use Rattle.milp.specs.Points.{Feasible};
 ghost use Rattle.certificate.specs.declared.split.Side.{Side as SideOf};
 ghost use Rattle.search_tree.specs.Kept.{HasSums};
 ghost use Rattle.search_tree.specs.Steps.{MayGraft, IsGraft, IsOffer, IsReplay};
-ghost use Rattle.tree_pool.specs.Answers.{IsAnswer};
+ghost use Rattle.board_pool.specs.Asks.{IsAsked};
 ghost use Rattle.board_pool.specs.Touched.{touched};
 ghost use Rattle.board_pool.specs.Searches.{IsOfSearch, nowhere};
 
+use crate::asked::{Asked, leased};
 use fraction::Frac;
 use instance::Point;
 use search_tree::{Entry, Lease, Subtree};
 use std::alloc::{AllocError, Global};
 use std::marker::Model;
-use tree_pool::{Board, LeaseAnswer};
+use tree_pool::Board;
 use turn_pool::Machine;
 
 /// The board of a search, which workers share.
@@ -50,11 +51,11 @@ impl SharedBoard {
     }
 
     // Leases a leaf that is to be worked on, or tells that there is none.
-    pub(crate) fn lease(&mut self, alloc: Global, seat: u32) -> Result<LeaseAnswer, AllocError>
-        ensures ok { IfOk result (λ answer. IsAnswer self.old seat answer self.new) }
+    pub(crate) fn lease(&mut self, alloc: Global, seat: u32) -> Result<Asked, AllocError>
+        ensures ok { IfOk result (λ asked. IsAsked self.old seat asked self.new) }
         ensures kept { OnErr result (self.new ≡ self.old) }
     {
-        self.board.lease(alloc, seat as usize)
+        leased(alloc, &mut self.board, seat)
     }
 
     // Puts a tree in the place of the leaf that is leased, and tells the best value.
