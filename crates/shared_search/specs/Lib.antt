@@ -1,0 +1,4 @@
+pub mod Crews
+pub mod Holders
+pub mod Leaves
+pub mod Left

@@ -1,0 +1,14 @@
+//! Several workers search one problem together, on one board that they share.
+#![tactic(auto)]
+
+mod crew;
+mod gate;
+mod leaves;
+mod rounds;
+mod task;
+mod turns;
+mod whole;
+mod worker;
+
+pub use gate::{Gate, OpenGate};
+pub use whole::search_together;

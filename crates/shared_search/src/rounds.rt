@@ -1,0 +1,170 @@
+// The rounds of one worker.
+ghost use Rattle.std.specs.Prelude.{◌≡◌, IfSome};
+ghost use Rattle.turn_pool.specs.Passes.{view_of};
+ghost use Rattle.shared_search.specs.Holders.{first_in, IsTaskOf, IsFaultOf};
+ghost use Rattle.shared_search.specs.Leaves.{IsGiven};
+ghost use Rattle.shared_search.specs.Crews.{IsReady, numbers};
+
+use crate::gate::Gate;
+use crate::leaves::at_leaf;
+use crate::task::Task;
+use crate::turns::{TRIES, ask};
+use crate::worker::{Step, Worker};
+use board_pool::{Asked, LeasedLeaf, SharedBoard};
+use branch_search::SearchFault;
+use candidate::Proposer;
+use sqlite_items::Boxed;
+use std::alloc::Global;
+use std::sync::atomic::AtomicBool;
+use std::sync::atomic::Ordering::SeqCst;
+use std::thread::yield_now;
+use turn_pool::{Pool, PoolFault};
+
+// So often a worker that has found no leaf lets others go before, until it asks again.
+const PAUSE: u32 = 16;
+
+/// Works on leaf after leaf. A worker ends where no leaf is to be worked on and none is leased, where its leaf is to be split and
+/// no split is granted, where the gate sends it away, after many tries in a row, and where all are to end: at a fault, and for
+/// want of memory.
+pub(crate) fn work<G: Gate>(
+    alloc: Global,
+    pool: &Pool<SharedBoard>,
+    task: &Task,
+    gate: &G,
+    halted: &AtomicBool,
+    worker: &mut Worker,
+)
+    requires task { IsTaskOf (first_in pool.now) task.now }
+    requires ready { IsReady pool.now worker.old }
+    ensures ready { IsReady pool.now worker.new }
+    ensures numbers { numbers worker.new ≡ numbers worker.old }
+{
+    let mut proposer = Proposer::new(alloc, task.pivot_limit, task.first_columns);
+    rounds(alloc, pool, task, gate, halted, worker, &mut proposer);
+}
+
+// Round after round.
+fn rounds<G: Gate>(
+    alloc: Global,
+    pool: &Pool<SharedBoard>,
+    task: &Task,
+    gate: &G,
+    halted: &AtomicBool,
+    worker: &mut Worker,
+    proposer: &mut Proposer,
+)
+    requires task { IsTaskOf (first_in pool.now) task.now }
+    requires ready { IsReady pool.now worker.old }
+    ensures ready { IsReady pool.now worker.new }
+    ensures numbers { numbers worker.new ≡ numbers worker.old }
+{
+    let mut left = TRIES;
+    for turn in 0..u64::MAX {
+        gate.arrive(worker.pass.own(), turn);
+        if halted.load(SeqCst) {
+            return;
+        }
+        match round(alloc, pool, task, gate, turn, worker, proposer) {
+            Step::Made => left = TRIES,
+            Step::Waits => left = left.saturating_sub(1),
+            Step::Ended => left = 0,
+            Step::Halts => {
+                halted.store(true, SeqCst);
+                left = 0;
+            }
+        }
+        if left == 0 {
+            return;
+        }
+    }
+}
+
+// One round: a leaf is asked for, and worked on.
+fn round<G: Gate>(
+    alloc: Global,
+    pool: &Pool<SharedBoard>,
+    task: &Task,
+    gate: &G,
+    turn: u64,
+    worker: &mut Worker,
+    proposer: &mut Proposer,
+) -> Step
+    requires task { IsTaskOf (first_in pool.now) task.now }
+    requires ready { IsReady pool.now worker.old }
+    ensures ready { IsReady pool.now worker.new }
+    ensures numbers { numbers worker.new ≡ numbers worker.old }
+{
+    match ask(alloc, pool, &mut worker.pass) {
+        Ok(Asked::Leased(leaf)) => {
+            if !gate.keep(worker.pass.own(), turn) {
+                return Step::Ended;
+            }
+            with_leaf(alloc, pool, task, worker, leaf, proposer)
+        }
+        Ok(Asked::Idle(count)) => without_leaf(count),
+        Err(fault) => without_turn(fault),
+    }
+}
+
+// No leaf is to be worked on, and so many are leased.
+fn without_leaf(leased: usize) -> Step {
+    if leased == 0 {
+        return Step::Ended;
+    }
+    for _ in 0..PAUSE {
+        yield_now();
+    }
+    Step::Waits
+}
+
+// No event was made.
+fn without_turn(fault: PoolFault) -> Step {
+    match fault {
+        PoolFault::Busy(_) => {
+            yield_now();
+            Step::Waits
+        }
+        PoolFault::NoMemory => Step::Halts,
+    }
+}
+
+// The worker has a leaf. A fault is kept.
+fn with_leaf(
+    alloc: Global,
+    pool: &Pool<SharedBoard>,
+    task: &Task,
+    worker: &mut Worker,
+    leaf: LeasedLeaf,
+    proposer: &mut Proposer,
+) -> Step
+    requires task { IsTaskOf (first_in pool.now) task.now }
+    requires ready { IsReady pool.now worker.old }
+    requires given { IsGiven (view_of worker.old.pass) leaf }
+    ensures ready { IsReady pool.now worker.new }
+    ensures numbers { numbers worker.new ≡ numbers worker.old }
+{
+    match at_leaf(alloc, pool, task, &mut worker.pass, leaf, proposer) {
+        Ok(step) => step,
+        Err(fault) => {
+            worker.fault = kept(alloc, fault);
+            Step::Halts
+        }
+    }
+}
+
+// A fault that is to be told at the end. Want of memory is none: who goes on alone may find it.
+fn kept(alloc: Global, fault: SearchFault) -> Option<Boxed<SearchFault>>
+    ensures { IfSome result (λ kept. kept ≡ fault) }
+{
+    if is_want_of_memory(&fault) {
+        return None;
+    }
+    Boxed::new(alloc, fault).ok()
+}
+
+fn is_want_of_memory(fault: &SearchFault) -> bool {
+    match fault {
+        SearchFault::NoMemory => true,
+        _ => false,
+    }
+}
