@@ -1,0 +1,126 @@
+// What comes of a row.
+ghost use Rattle.std.specs.Prelude.{◌≡◌};
+
+use crate::gates::NoneStays;
+use branch_search::SearchFault;
+use cplex_lp_reader::read_lp;
+use instance::Instance;
+use shared_search::{OpenGate, search_together};
+use std::alloc::{AllocError, Global};
+use std::thread::Threads;
+use tree_pool::Board;
+
+// The limits of splits and of steps.
+const SPLITS: usize = 1000;
+
+const STEPS: u32 = 1000;
+
+// Who searches, and how.
+#[derive(Clone, Copy)]
+struct Crew<'a> {
+    workers: u32,
+    gate: &'a str,
+    splits: usize,
+}
+
+/// What a crew finds of a problem: `WORKERS GATE SPLITS TEXT`, where the text is of a CPLEX LP file with `$` for line feeds.
+pub(crate) fn answer<R: Threads + Sync>(
+    rt: &R,
+    alloc: Global,
+    asked: &str,
+) -> Result<String, AllocError> {
+    let (workers, rest) = cut(asked);
+    let (gate, rest) = cut(rest);
+    let (splits, text) = cut(rest);
+    let crew = Crew {
+        workers: workers.parse::<u32>().unwrap_or(1),
+        gate,
+        splits: splits.parse::<usize>().unwrap_or(SPLITS),
+    };
+    let text = text.replace(alloc, "$", "\n")?;
+    match read_lp(alloc, text.as_bytes()).ok() {
+        None => "no problem".to_string(alloc),
+        Some(problem) => found(rt, alloc, &problem, crew),
+    }
+}
+
+// A word, and what comes behind the blank after it.
+fn cut(words: &str) -> (&str, &str) {
+    words.split_once(' ').unwrap_or((words, ""))
+}
+
+// What the crew finds.
+fn found<R: Threads + Sync>(
+    rt: &R,
+    alloc: Global,
+    problem: &Instance,
+    crew: Crew,
+) -> Result<String, AllocError> {
+    if crew.workers == 0 {
+        return "no workers".to_string(alloc);
+    }
+    let ended = searched(rt, alloc, problem, crew);
+    let words = match &ended {
+        Ok(board) => board_words(alloc, board),
+        Err(fault) => fault_word(fault).to_string(alloc),
+    };
+    std::mem::drop(ended);
+    words
+}
+
+fn searched<R: Threads + Sync>(
+    rt: &R,
+    alloc: Global,
+    problem: &Instance,
+    crew: Crew,
+) -> Result<Board, SearchFault>
+    requires { ¬ (crew.workers ≡ 0) }
+{
+    if crew.gate == "open" {
+        search_together(
+            rt,
+            alloc,
+            problem,
+            0,
+            crew.splits,
+            STEPS,
+            crew.workers,
+            &OpenGate,
+        )
+    } else {
+        search_together(
+            rt,
+            alloc,
+            problem,
+            0,
+            crew.splits,
+            STEPS,
+            crew.workers,
+            &NoneStays,
+        )
+    }
+}
+
+// What the board says.
+fn board_words(alloc: Global, board: &Board) -> Result<String, AllocError> {
+    if !board.is_finished() {
+        return "left".to_string(alloc);
+    }
+    match board.best_value() {
+        None => "infeasible".to_string(alloc),
+        Some(value) => {
+            let value = value.text(alloc)?;
+            format!(in alloc; "optimal {value}")
+        }
+    }
+}
+
+fn fault_word(fault: &SearchFault) -> &'static str {
+    match fault {
+        SearchFault::NoFit(_) => "overflow",
+        SearchFault::PivotLimit(_) => "steps",
+        SearchFault::SplitLimit(_) => "splits",
+        SearchFault::Unbounded(_) => "ray",
+        SearchFault::NoMemory => "no memory",
+    }
+}
