@@ -18,6 +18,6 @@ pub use any_problem::{solve, solve_by};
 pub use continuous::has_no_integer_column;
 pub use fault::{EndlessAt, SearchFault};
 pub use treatment::{Found, Fractional, Treatment};
-pub use whole::{search, search_by};
+pub use whole::{search, search_by, search_on};
 pub use whole_fault::{VerdictFault, Wanted};
 pub use work::{treat, treat_with};

@@ -64,7 +64,7 @@ pub fn search_by(
     ensures fault { IfErr result (IsFault problem.now [] split_limit pivot_limit) }
 {
     let copy = problem.copy(alloc)?;
-    let mut board = Board::start(
+    let board = Board::start(
         alloc,
         copy,
         DerivedRows::new(alloc),
@@ -72,6 +72,26 @@ pub fn search_by(
         pivot_limit,
     )?;
     proposer.take_up();
+    search_on(alloc, board, pivot_limit, proposer)
+}
+
+/// The same from a board that is under way, as others may have left it: leaf after leaf, until none is to be worked on.
+pub fn search_on(
+    alloc: Global,
+    mut board: Board,
+    pivot_limit: u32,
+    proposer: &mut Proposer,
+) -> Result<Certificate, SearchFault>
+    requires cuts { board.cuts ≡ [] }
+    requires pivots { board.pivot_limit ≡ pivot_limit }
+    requires going { IsGoing board }
+    ensures proves { IfOk result (λ c. Proves board.problem c) }
+    ensures accepted { IfOk result (λ c. outcome (trials board.problem c) ≡ Acceptance) }
+    ensures version { IfOk result (λ c. c.version ≡ Two) }
+    ensures splits { IfOk result IsBySplitsOfColumns }
+    ensures plain { NoneInteger board.problem.columns → IfOk result (λ c. IsPlainCertificate board.problem c) }
+    ensures fault { IfErr result (IsFault board.problem [] board.split_limit pivot_limit) }
+{
     run(alloc, &mut board, pivot_limit, proposer)?;
     ended(alloc, board)
 }
