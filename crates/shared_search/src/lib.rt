@@ -6,9 +6,11 @@ mod gate;
 mod leaves;
 mod rounds;
 mod task;
+mod to_the_end;
 mod turns;
 mod whole;
 mod worker;
 
 pub use gate::{Gate, OpenGate};
+pub use to_the_end::search_with_workers;
 pub use whole::search_together;

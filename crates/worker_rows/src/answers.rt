@@ -3,9 +3,10 @@ ghost use Rattle.std.specs.Prelude.{◌≡◌};
 
 use crate::gates::NoneStays;
 use branch_search::SearchFault;
+use certificate::{Certificate, Verdict};
 use cplex_lp_reader::read_lp;
 use instance::Instance;
-use shared_search::{OpenGate, search_together};
+use shared_search::{OpenGate, search_together, search_with_workers};
 use std::alloc::{AllocError, Global};
 use std::thread::Threads;
 use tree_pool::Board;
@@ -23,7 +24,8 @@ struct Crew<'a> {
     splits: usize,
 }
 
-/// What a crew finds of a problem: `WORKERS GATE SPLITS TEXT`, where the text is of a CPLEX LP file with `$` for line feeds.
+/// What a crew finds of a problem: `WORKERS GATE SPLITS TEXT`, where the text is of a CPLEX LP file with `$` for line feeds. At the
+/// gate `away` the workers are sent away and one goes on alone; at `board` they are sent away too, and what they leave is told.
 pub(crate) fn answer<R: Threads + Sync>(
     rt: &R,
     alloc: Global,
@@ -59,12 +61,15 @@ fn found<R: Threads + Sync>(
     if crew.workers == 0 {
         return "no workers".to_string(alloc);
     }
-    let ended = searched(rt, alloc, problem, crew);
-    let words = match &ended {
-        Ok(board) => board_words(alloc, board),
+    if crew.gate == "board" {
+        return left_word(rt, alloc, problem, crew).to_string(alloc);
+    }
+    let verdict = searched(rt, alloc, problem, crew);
+    let words = match &verdict {
+        Ok(certificate) => verdict_words(alloc, certificate),
         Err(fault) => fault_word(fault).to_string(alloc),
     };
-    std::mem::drop(ended);
+    std::mem::drop(verdict);
     words
 }
 
@@ -73,11 +78,11 @@ fn searched<R: Threads + Sync>(
     alloc: Global,
     problem: &Instance,
     crew: Crew,
-) -> Result<Board, SearchFault>
+) -> Result<Certificate, SearchFault>
     requires { ¬ (crew.workers ≡ 0) }
 {
     if crew.gate == "open" {
-        search_together(
+        search_with_workers(
             rt,
             alloc,
             problem,
@@ -88,7 +93,7 @@ fn searched<R: Threads + Sync>(
             &OpenGate,
         )
     } else {
-        search_together(
+        search_with_workers(
             rt,
             alloc,
             problem,
@@ -101,17 +106,53 @@ fn searched<R: Threads + Sync>(
     }
 }
 
-// What the board says.
-fn board_words(alloc: Global, board: &Board) -> Result<String, AllocError> {
-    if !board.is_finished() {
-        return "left".to_string(alloc);
-    }
-    match board.best_value() {
-        None => "infeasible".to_string(alloc),
+fn verdict_words(alloc: Global, certificate: &Certificate) -> Result<String, AllocError> {
+    let verdict = match certificate.verdict() {
+        Verdict::Optimal => "optimal",
+        Verdict::Infeasible => "infeasible",
+        Verdict::Unbounded => "unbounded",
+    };
+    match certificate.value() {
+        None => verdict.to_string(alloc),
         Some(value) => {
             let value = value.text(alloc)?;
-            format!(in alloc; "optimal {value}")
+            format!(in alloc; "{verdict} {value}")
         }
+    }
+}
+
+// What workers who are sent away leave behind, where no one goes on.
+fn left_word<R: Threads + Sync>(
+    rt: &R,
+    alloc: Global,
+    problem: &Instance,
+    crew: Crew,
+) -> &'static str
+    requires { ¬ (crew.workers ≡ 0) }
+{
+    let ended = search_together(
+        rt,
+        alloc,
+        problem,
+        0,
+        crew.splits,
+        STEPS,
+        crew.workers,
+        &NoneStays,
+    );
+    let word = match &ended {
+        Ok(board) => board_word(board),
+        Err(fault) => fault_word(fault),
+    };
+    std::mem::drop(ended);
+    word
+}
+
+fn board_word(board: &Board) -> &'static str {
+    if board.is_finished() {
+        "finished"
+    } else {
+        "left"
     }
 }
 

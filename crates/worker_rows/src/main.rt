@@ -1,4 +1,4 @@
-//! Answers rows of the input: problems that several workers search together, and what the board says that they end with.
+//! Answers rows of the input: problems that several workers search together, and what comes of them.
 #![tactic(auto)]
 
 mod answers;
