@@ -34,20 +34,20 @@ use Rattle.board_pool.specs.Grafts.{MayBePut}
 use Rattle.shared_search.specs.declared.task.Task.{Task}
 use Rattle.shared_search.specs.Holders.{first_of, IsTaskOf, IsSameHolder}
 use Rattle.shared_search.specs.Leaves.{IsOpenFor, IsHeld, IsGiven, IsToldLeaf, IsLeafFor, IsOffered}
-use Rattle.shared_search.proofs.Holding.{V}
+use Rattle.shared_search.proofs.Views.{BoardView}
 
 -- ---- a leaf that was asked for
 
 -- a lease that a pass was given is open for it, on an honest way, and the node that was told is that of the leaf
 abbrev pub GivenIsOpen : Type 0
-GivenIsOpen = (v w : V) (leaf : LeasedLeaf) → Called touched log_of IsOfSearch (λ seat b (asked : Asked) c. IsAsked b seat asked c) v (answers.Leased leaf) w
+GivenIsOpen = (v w : BoardView) (leaf : LeasedLeaf) → Called touched log_of IsOfSearch (λ seat b (asked : Asked) c. IsAsked b seat asked c) v (answers.Leased leaf) w
     → (sides : List SideOf) × IsLeasedBelow v.key.first.value w.spans w.seen leaf.lease sides × IsHonestWay v.key.first.value.problem v.key.first.value.cuts v.key.first.value.split_limit sides × IfSome leaf.node (λ node. sides_of node.splits ≡ sides)
 
-pub told_leaf : GivenIsOpen → (v w : V) (asked : Asked) → Called touched log_of IsOfSearch (λ seat b (a : Asked) c. IsAsked b seat a c) v asked w → IsToldLeaf w asked
+pub told_leaf : GivenIsOpen → (v w : BoardView) (asked : Asked) → Called touched log_of IsOfSearch (λ seat b (a : Asked) c. IsAsked b seat a c) v asked w → IsToldLeaf w asked
 told_leaf given v w (answers.Idle count) c = tt
 told_leaf given v w (answers.Leased leaf) c =
     let g = given v w leaf c in
-    let same : first_of w ≡ first_of v = ap (λ (x : V). first_of x) c.sees in
+    let same : first_of w ≡ first_of v = ap (λ (x : BoardView). first_of x) c.sees in
     record {
       sides = g.0;
       held = record {
@@ -57,7 +57,7 @@ told_leaf given v w (answers.Leased leaf) c =
       node = g.3;
     }
 
-pub given_held : (v : V) (leaf : LeasedLeaf) (node : Node) → IsGiven v leaf → leaf.node ≡ Some node → IsHeld v leaf.lease (sides_of node.splits)
+pub given_held : (v : BoardView) (leaf : LeasedLeaf) (node : Node) → IsGiven v leaf → leaf.node ≡ Some node → IsHeld v leaf.lease (sides_of node.splits)
 given_held v leaf node g is =
     let same : sides_of node.splits ≡ g.sides = subst (λ (o : Option Node). IfSome o (λ n. sides_of n.splits ≡ g.sides)) is g.node in
     subst (λ (sides : List SideOf). IsHeld v leaf.lease sides) (sym same) g.held
@@ -73,7 +73,7 @@ all_told before since e None is = tt
 all_told before since e (Some v) is = told_at before since e v is
 
 -- the value that a lease tells was told
-told_by_lease : (v : V) (lease : Lease) (sides : List SideOf) → IsOpenFor v lease sides → IfSome lease.best (λ u. IsTold u v.seen)
+told_by_lease : (v : BoardView) (lease : Lease) (sides : List SideOf) → IsOpenFor v lease sides → IfSome lease.best (λ u. IsTold u v.seen)
 told_by_lease v lease sides l =
     let o = l.is_open in
     let P : List Entry → Type 0 = λ log. IfSome lease.best (λ u. IsTold u log) in
@@ -100,7 +100,7 @@ closed_not_stuck (NotFitting e) h = absurd h
 closed_not_stuck (AtLimit bases) h = absurd h
 
 -- a leaf that is closed against the value that the lease told
-pub closed_leaf : (v : V) (task : Task) (lease : Lease) (sides : List SideOf) (leaf : Leaf) → IsTaskOf (first_of v) task → IsHeld v lease sides → KeepsLeaf task.problem task.cuts task.pivot_limit lease.best sides leaf → IsThere (closed_node leaf)
+pub closed_leaf : (v : BoardView) (task : Task) (lease : Lease) (sides : List SideOf) (leaf : Leaf) → IsTaskOf (first_of v) task → IsHeld v lease sides → KeepsLeaf task.problem task.cuts task.pivot_limit lease.best sides leaf → IsThere (closed_node leaf)
     → IsLeafFor v lease leaf
 closed_leaf v task lease sides leaf of held keeps closed = record {
   sides = sides;
@@ -113,7 +113,7 @@ closed_leaf v task lease sides leaf of held keeps closed = record {
 }
 
 -- a leaf that is given back, treated
-pub treated_leaf : (v : V) (lease : Lease) (sides : List SideOf) (hint : Unit {0}) → IsHeld v lease sides → IsTreated (first_of v).problem (first_of v).cuts sides None → IsLeafFor v lease (Treated hint)
+pub treated_leaf : (v : BoardView) (lease : Lease) (sides : List SideOf) (hint : Unit {0}) → IsHeld v lease sides → IsTreated (first_of v).problem (first_of v).cuts sides None → IsLeafFor v lease (Treated hint)
 treated_leaf v lease sides hint held treated = record {
   sides = sides;
   is_open = held.is_open;
@@ -128,7 +128,7 @@ treated_leaf v lease sides hint held treated = record {
 abbrev pub BoundedStays : Type 0
 BoundedStays = (p : Problem) (ds : List Derived) (sides : List SideOf) (w : Weights) (goal best : Option Rational) → IfSome goal (IsNoBetter p best) → NodePasses p goal ds sides (Bound w) → NodePasses p best ds sides (Bound w)
 
-bounded_by : BoundedStays → (u v : V) (lease : Lease) (sides : List SideOf) (f : Found) (best : Option Rational) → first_of v ≡ first_of u → IsOpenFor v lease sides → IfSome best (λ value. IsTold value v.seen)
+bounded_by : BoundedStays → (u v : BoardView) (lease : Lease) (sides : List SideOf) (f : Found) (best : Option Rational) → first_of v ≡ first_of u → IsOpenFor v lease sides → IfSome best (λ value. IsTold value v.seen)
     → KeepsLeaf (first_of u).problem (first_of u).cuts (first_of u).pivot_limit best sides (Bounded f.weights) → IsLeafFor v lease (Bounded f.weights)
 bounded_by stays u v lease sides f best same is_open told keeps = record {
   sides = sides;
@@ -141,7 +141,7 @@ bounded_by stays u v lease sides f best same is_open told keeps = record {
 }
 
 -- after the point that was found is offered, the leaf is closed against the best value
-pub found_leaf : BoundedStays → (v w : V) (lease : Lease) (sides : List SideOf) (f : Found) (best : Option Rational) → IsHeld v lease sides → IsFound (first_of v).problem (first_of v).cuts (first_of v).pivot_limit sides lease.best f
+pub found_leaf : BoundedStays → (v w : BoardView) (lease : Lease) (sides : List SideOf) (f : Found) (best : Option Rational) → IsHeld v lease sides → IsFound (first_of v).problem (first_of v).cuts (first_of v).pivot_limit sides lease.best f
     → IsOffered v f.point best w → IsSameHolder v w → IsLeafFor w lease (Bounded f.weights)
 found_leaf stays v w lease sides f best held found offered same =
     let p = (first_of v).problem in
@@ -158,7 +158,7 @@ SplitMayBePut = (first : Board) (spans : List (ℕ × ℕ)) (log : List Entry) (
 abbrev pub TreatedIsWorthwhile : Type 0
 TreatedIsWorthwhile = (p : Problem) (ds : List Derived) (sides : List SideOf) (best : Option Rational) → IsTreated p ds sides best → IsWorthwhile p ds best sides
 
-pub split_put : SplitMayBePut → TreatedIsWorthwhile → (v : V) (lease : Lease) (sides : List SideOf) (f : Fractional) (t : Tree) → IsHeld v lease sides → IsToSplit (first_of v).problem (first_of v).cuts sides lease.best f → 1 ≤ lease.grant
+pub split_put : SplitMayBePut → TreatedIsWorthwhile → (v : BoardView) (lease : Lease) (sides : List SideOf) (f : Fractional) (t : Tree) → IsHeld v lease sides → IsToSplit (first_of v).problem (first_of v).cuts sides lease.best f → 1 ≤ lease.grant
     → t ≡ Divided f.split (AtLeaf (Todo tt)) (AtLeaf (Todo tt)) → MayBePut (first_of v) v.spans v.seen lease t
 split_put may worthwhile v lease sides f t held h grant is =
     let first = first_of v in

@@ -1,7 +1,7 @@
 pub mod Boards
 pub mod Crews
 pub mod Faults
-pub mod Holding
+pub mod Views
 pub mod LeavesPut
 pub mod Offers
 pub mod Sites

@@ -20,12 +20,12 @@ use Rattle.board_pool.specs.Searches.{log_of, IsOfSearch}
 use Rattle.board_pool.specs.OpenLeases.{IsLeasedBelow}
 use Rattle.shared_search.specs.Holders.{first_of, after_tries}
 use Rattle.shared_search.specs.Leaves.{IsOffered}
-use Rattle.shared_search.proofs.Holding.{V}
+use Rattle.shared_search.proofs.Views.{BoardView}
 use Rattle.shared_search.proofs.LeavesPut.{all_told}
 
 -- an offer of the pass leaves a lease open
 abbrev pub OfferLeavesOpen : Type 0
-OfferLeavesOpen = (v w : V) (x : List Rational) (best : Option Rational) (lease : Lease) (sides : List SideOf) → Called touched log_of IsOfSearch (λ seat b (told : Option Rational) c. IsOffer b seat x told c) v best w
+OfferLeavesOpen = (v w : BoardView) (x : List Rational) (best : Option Rational) (lease : Lease) (sides : List SideOf) → Called touched log_of IsOfSearch (λ seat b (told : Option Rational) c. IsOffer b seat x told c) v best w
     → IsLeasedBelow v.key.first.value v.spans v.seen lease sides → IsLeasedBelow v.key.first.value w.spans w.seen lease sides
 
 -- the better one of two points is no worse than either
@@ -38,13 +38,13 @@ no_worse : (p : Problem) (best : Option (List Rational)) (x : List Rational) →
 no_worse p None x = le_refl _
 no_worse p (Some y) x = no_worse_by p x y (is_less (sign_of p.direction *ℚ objective_value p x) (sign_of p.direction *ℚ objective_value p y)) refl
 
-pub offer_tells : OfferLeavesOpen → (v w : V) (tries : List ℕ) (x : List Rational) (best : Option Rational) → Called touched log_of IsOfSearch (λ seat b (told : Option Rational) c. IsOffer b seat x told c) (after_tries v tries) best w → IsOffered v x best w
+pub offer_tells : OfferLeavesOpen → (v w : BoardView) (tries : List ℕ) (x : List Rational) (best : Option Rational) → Called touched log_of IsOfSearch (λ seat b (told : Option Rational) c. IsOffer b seat x told c) (after_tries v tries) best w → IsOffered v x best w
 offer_tells leaves v w tries x best c =
     let first = first_of v in
     let e = c.event in
     let problem : c.before.problem ≡ first.problem = sym (ap (λ (b : Board). b.problem) e.new) ∙ c.replay.problem in
-    let log : w.seen ≡ c.before.log ++ record { event = Offering v.own x; reply = Best best } ∷ [] = ap (λ (y : V). y.seen) c.sees ∙ ap log_of e.new in
-    let same : first_of w ≡ first = ap (λ (y : V). first_of y) c.sees in
+    let log : w.seen ≡ c.before.log ++ record { event = Offering v.own x; reply = Best best } ∷ [] = ap (λ (y : BoardView). y.seen) c.sees ∙ ap log_of e.new in
+    let same : first_of w ≡ first = ap (λ (y : BoardView). first_of y) c.sees in
     record {
       is_told = subst (λ (l : List Entry). IfSome best (λ u. IsTold u l)) (sym log) (all_told c.before.log [] (record { event = Offering v.own x; reply = Best best }) best refl);
       no_worse = subst (λ (p : Problem). IsNoBetter p best (objective_value p x)) problem (subst (λ (o : Option Rational). IsNoBetter c.before.problem o (objective_value c.before.problem x)) (sym e.is_best) (no_worse c.before.problem c.before.best x));

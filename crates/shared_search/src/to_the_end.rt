@@ -20,7 +20,7 @@ use tree_pool::Board;
 
 /// The verdict of a problem by a search over its integer columns, with its certificate, as `search` of branch_search finds it: so
 /// many workers search at the same time, who pass the gate, and then one goes on from the board with which they end, and works on
-/// each leaf that they left behind. Whoever ends when, the certificate and the faults are as those of one worker.
+/// each leaf that they left behind. Which certificate, or which fault, it is may depend on who came first.
 pub fn search_with_workers<R: Threads + Sync, G: Gate + Sync>(
     rt: &R,
     alloc: Global,
