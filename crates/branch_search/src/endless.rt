@@ -19,9 +19,9 @@ use instance::{Instance, Point, meets};
 use search_node::Site;
 use std::alloc::Global;
 
-/// The verdict of a problem that a ray improves: at once where the ray's own point is feasible, and else by a search for any
-/// feasible point.
-pub(crate) fn beyond(
+/// The verdict of a problem that a ray improves, with its certificate: at once where the ray's own point is feasible, and else by a
+/// search for any feasible point. The ray is one that a search of the problem has found, within these limits.
+pub fn beyond(
     alloc: Global,
     problem: &Instance,
     ray: EndlessAt,

@@ -16,7 +16,9 @@ mod work;
 
 pub use any_problem::{solve, solve_by};
 pub use continuous::has_no_integer_column;
+pub use endless::beyond;
 pub use fault::{EndlessAt, SearchFault};
+pub use told::ray_or_fault;
 pub use treatment::{Found, Fractional, Treatment};
 pub use whole::{search, search_by, search_on};
 pub use whole_fault::{VerdictFault, Wanted};

@@ -5,8 +5,8 @@ ghost use Rattle.branch_search.specs.Told.{ray_or_fault};
 use crate::whole_fault::{VerdictFault, Wanted};
 use crate::{EndlessAt, SearchFault};
 
-/// The ray that a search has found, with its node, or why it found no verdict.
-pub(crate) fn ray_or_fault(wanted: Wanted, fault: SearchFault) -> Result<EndlessAt, VerdictFault>
+/// The ray that a search for what is wanted has found, with its node, or why it found no verdict.
+pub fn ray_or_fault(wanted: Wanted, fault: SearchFault) -> Result<EndlessAt, VerdictFault>
     ensures { result ≡ ray_or_fault wanted fault }
 {
     match fault {
