@@ -1,6 +1,7 @@
 //! Several workers search one problem together, on one board that they share.
 #![tactic(auto)]
 
+mod any_problem;
 mod crew;
 mod gate;
 mod leaves;
@@ -11,6 +12,7 @@ mod turns;
 mod whole;
 mod worker;
 
+pub use any_problem::solve_with_workers;
 pub use gate::{Gate, OpenGate};
 pub use to_the_end::search_with_workers;
 pub use whole::search_together;
