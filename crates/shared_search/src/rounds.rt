@@ -21,7 +21,7 @@ use std::thread::yield_now;
 use turn_pool::{Pool, PoolFault};
 
 // So often a worker that has found no leaf lets others go before, until it asks again.
-const PAUSE: u32 = 16;
+const PAUSE: u32 = 1_000;
 
 /// Works on leaf after leaf. A worker ends where no leaf is to be worked on and none is leased, where its leaf is to be split and
 /// no split is granted, where the gate sends it away, after many tries in a row, and where all are to end: at a fault, and for
