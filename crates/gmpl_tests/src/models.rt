@@ -286,7 +286,7 @@ P1 => param p{1..2} := 1; table t {i in 1..2} OUT 'CSV' 'f': i, p[i] ~ p;
 !WrongKind 2 1 => var x; for {i in 1..2} table t {j in 1..2} OUT 'CSV' 'f': x;
 V0 => var x; solve; table t {i in 1..2} OUT 'CSV' 'f': i, x, x.lb ~ low;
 V0 => var x; solve; table t {i in 1..x} OUT 'CSV' 'f' & x: i;
-!Unsupported 3 1 => var x; solve; table t {i in 1..2} OUT 'CSV' 'f': x.dual ~ d;
+!Unsupported 3 1 => var x; solve; table t {i in 1..2} OUT 'CSV' 'f': x.status ~ d;
 ";
 
 // Kinds and dimensions.
