@@ -130,6 +130,10 @@ split_limit_in rows = limit_by 0 1000000 10000 (first_of (codes "nodlim") rows)
 abbrev pub pivot_limit_in : List Row → Option ℕ
 pivot_limit_in rows = limit_by 0 1000000 100000 (first_of (codes "pivlim") rows)
 
+-- how many workers search: the value of `--workers`, or 1
+abbrev pub workers_in : List Row → Option ℕ
+workers_in rows = limit_by 1 64 1 (first_of (codes "workers") rows)
+
 -- what the options ask for: each part must be there
 abbrev pub settings_in : List Row → Option Settings
 settings_in rows = do
@@ -139,6 +143,7 @@ settings_in rows = do
   direction ← direction_in rows
   split_limit ← split_limit_in rows
   pivot_limit ← pivot_limit_in rows
+  workers ← workers_in rows
   task ← task_in rows
   Some (record {
     language = source.0;
@@ -149,6 +154,7 @@ settings_in rows = do
     relaxed = stands (codes "nomip") rows;
     split_limit = split_limit;
     pivot_limit = pivot_limit;
+    workers = workers;
     task = task;
   })
 

@@ -46,6 +46,7 @@ rules = file_rule
     ∷ option_rule (codes "checkcert")
     ∷ option_rule (codes "nodlim")
     ∷ option_rule (codes "pivlim")
+    ∷ option_rule (codes "workers")
     ∷ flag_rule (codes "iis")
     ∷ flag_rule (codes "rowsplit")
     ∷ option_rule (codes "ranges-exact")

@@ -46,6 +46,7 @@ fn command<'a>(alloc: Global) -> Result<Command<'a>, AllocError>
         .arg(option(alloc, "checkcert"))?
         .arg(option(alloc, "nodlim"))?
         .arg(option(alloc, "pivlim"))?
+        .arg(option(alloc, "workers"))?
         .arg(flag(alloc, "iis"))?
         .arg(flag(alloc, "rowsplit"))?
         .arg(option(alloc, "ranges-exact"))

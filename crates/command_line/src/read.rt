@@ -4,7 +4,7 @@ ghost use Rattle.std.specs.List.{list_all};
 ghost use Rattle.std.specs.Str.Parse.{digits_value};
 ghost use Rattle.std.specs.Prelude.{◌≡◌, true, IfOk, IfErr, Some, None, map, string_bytes, option_map, codes, ℕ, List};
 ghost use Rattle.command_line.specs.Options.{given_in};
-ghost use Rattle.command_line.specs.Meaning.{settings_of, settings_in, source_in, source_by, data_in, data_by, display_in, display_by, values_of, direction_in, split_limit_in, pivot_limit_in, limit_by, limit_of, is_numeral, limit_within, task_in, task_by, alone, checking, outputs_in, stands};
+ghost use Rattle.command_line.specs.Meaning.{settings_of, settings_in, source_in, source_by, data_in, data_by, display_in, display_by, values_of, direction_in, split_limit_in, pivot_limit_in, workers_in, limit_by, limit_of, is_numeral, limit_within, task_in, task_by, alone, checking, outputs_in, stands};
 ghost use Rattle.clap.specs.Words.{all_of, first_of};
 ghost use Rattle.command_line.specs.declared.settings.WordsFault.TheVariants.{Usage};
 
@@ -40,6 +40,7 @@ fn settings_in(alloc: Global, matches: &ArgMatches<'_>) -> Result<Settings, Word
     let relaxed = stands(matches, "nomip");
     let split_limit = split_limit_in(matches).ok_or(WordsFault::Usage)?;
     let pivot_limit = pivot_limit_in(matches).ok_or(WordsFault::Usage)?;
+    let workers = workers_in(matches).ok_or(WordsFault::Usage)?;
     let task = task_in(alloc, matches)?;
     Ok(Settings {
         language,
@@ -50,6 +51,7 @@ fn settings_in(alloc: Global, matches: &ArgMatches<'_>) -> Result<Settings, Word
         relaxed,
         split_limit,
         pivot_limit,
+        workers,
         task,
     })
 }
@@ -224,6 +226,15 @@ fn pivot_limit_in(matches: &ArgMatches<'_>) -> Option<u32>
     match value_in(matches, "pivlim") {
         Some(word) => limit_of(NO_LIMIT, 1_000_000, word),
         None => Some(100_000),
+    }
+}
+
+fn workers_in(matches: &ArgMatches<'_>) -> Option<u32>
+    ensures { result ≡ workers_in (given_in matches.now) }
+{
+    match value_in(matches, "workers") {
+        Some(word) => limit_of(1, 64, word),
+        None => Some(1),
     }
 }
 

@@ -26,6 +26,8 @@ pub struct Settings {
     pub split_limit: u32,
     /// The most steps of the simplex method at a node, up to 1,000,000; 0 is no limit.
     pub pivot_limit: u32,
+    /// How many workers search, from 1 to 64.
+    pub workers: u32,
     /// What is to be done with the model.
     pub task: Task,
 }

@@ -4,7 +4,7 @@ use instance::{Direction, Name};
 use std::alloc::{AllocError, Global};
 
 /// What words ask for, which stand between bars: the language, the model's file, its data files, the file that it prints to, the
-/// direction, what is relaxed, limits that are not the usual ones, the task and its files.
+/// direction, what is relaxed, limits that are not the usual ones, the workers where they are several, the task and its files.
 pub(crate) fn settings_text(alloc: Global, words: &str) -> Result<String, AllocError> {
     let words = words_of(alloc, words)?;
     match read_words(alloc, &words) {
@@ -74,7 +74,8 @@ fn push_problem(text: &mut String, settings: &Settings) -> Result<(), AllocError
         text.push_str(", relaxed")?;
     }
     push_limit(text, settings.split_limit, 10_000, "splits")?;
-    push_limit(text, settings.pivot_limit, 100_000, "steps")
+    push_limit(text, settings.pivot_limit, 100_000, "steps")?;
+    push_workers(text, settings.workers)
 }
 
 fn direction_words(direction: Option<Direction>) -> &'static str {
@@ -91,6 +92,15 @@ fn push_limit(text: &mut String, limit: u32, usual: u32, what: &str) -> Result<(
         Ok(())
     } else {
         write!(text, ", at most {limit} {what}")
+    }
+}
+
+// How many workers search, where they are several.
+fn push_workers(text: &mut String, workers: u32) -> Result<(), AllocError> {
+    if workers == 1 {
+        Ok(())
+    } else {
+        write!(text, ", {workers} workers")
     }
 }
 
