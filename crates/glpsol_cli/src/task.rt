@@ -20,9 +20,11 @@ use instance::Instance;
 use outside::{Sink, Store};
 use sqlite_items::Boxed;
 use std::alloc::Global;
+use std::thread::Threads;
 
 /// The run from its problem on, once what is printed before is written.
-pub fn from_problem<S: Store, O: Sink>(
+pub fn from_problem<T: Threads + Sync, S: Store, O: Sink>(
+    rt: &T,
     alloc: Global,
     inputs: &Inputs,
     problem: &Instance,
@@ -36,7 +38,7 @@ pub fn from_problem<S: Store, O: Sink>(
     ensures written { LeftWritten inputs.now.settings (texts_in inputs.now) (record { taken = O.taken out.old; told = S.told files.old })
         (record { taken = O.taken out.new; told = S.told files.new }) result }
 {
-    match finding(alloc, problem, inputs) {
+    match finding(rt, alloc, problem, inputs) {
         Ok(finding) => from_finding(alloc, inputs, problem, later, finding, files, out),
         Err(unfound) => tell(alloc, out, unfound_answer(unfound)),
     }

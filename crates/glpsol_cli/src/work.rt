@@ -32,7 +32,7 @@ use verdicts::certificates_are_right;
 
 /// Does what the words ask for.
 pub fn run<T: Threads + Sync, S: Store, O: Sink>(
-    _rt: &T,
+    rt: &T,
     alloc: Global,
     words: Vec<String>,
     files: &mut S,
@@ -88,11 +88,12 @@ pub fn run<T: Threads + Sync, S: Store, O: Sink>(
         (Rose (S.faults files.old) (S.faults files.new)) (Rose (O.faults out.old) (O.faults out.new)) → IsVerdictOrNoMemory result }
 {
     certificates_are_right();
-    carried_out(alloc, &words, files, out)
+    carried_out(rt, alloc, &words, files, out)
 }
 
 // The words are carried out.
-fn carried_out<S: Store, O: Sink>(
+fn carried_out<T: Threads + Sync, S: Store, O: Sink>(
+    rt: &T,
     alloc: Global,
     words: &[String],
     files: &mut S,
@@ -110,11 +111,12 @@ fn carried_out<S: Store, O: Sink>(
         Ok(inputs) => inputs,
         Err(stop) => return tell(alloc, out, stop_answer(stop)),
     };
-    from_inputs(alloc, inputs, files, out)
+    from_inputs(rt, alloc, inputs, files, out)
 }
 
 // The texts are executed.
-fn from_inputs<S: Store, O: Sink>(
+fn from_inputs<T: Threads + Sync, S: Store, O: Sink>(
+    rt: &T,
     alloc: Global,
     inputs: Inputs,
     files: &mut S,
@@ -130,7 +132,7 @@ fn from_inputs<S: Store, O: Sink>(
         (Rose count (S.faults files.new)) (Rose (O.faults out.old) (O.faults out.new)) result }
 {
     match execute(alloc, inputs.settings.get(), &inputs.texts) {
-        Ok(executed) => from_execution(alloc, inputs, executed, files, out),
+        Ok(executed) => from_execution(rt, alloc, inputs, executed, files, out),
         Err(_) => tell(
             alloc,
             out,
@@ -142,7 +144,8 @@ fn from_inputs<S: Store, O: Sink>(
 }
 
 // The files of tables are read, and the execution goes on behind them.
-fn from_execution<S: Store, O: Sink>(
+fn from_execution<T: Threads + Sync, S: Store, O: Sink>(
+    rt: &T,
     alloc: Global,
     inputs: Inputs,
     executed: Executed,
@@ -161,13 +164,19 @@ fn from_execution<S: Store, O: Sink>(
         → Tells words told start.outside (record { taken = O.taken out.new; told = S.told files.new }) (Rose start.files (S.faults files.new)) (Rose start.out (O.faults out.new)) result }
 {
     match with_tables(alloc, Run { inputs, executed }, files, out) {
-        Ok(run) => from_run(alloc, run, files, out),
+        Ok(run) => from_run(rt, alloc, run, files, out),
         Err(fault) => tell_unwritten(alloc, out, Reached::Executed, fault),
     }
 }
 
 // What is not written yet of what was executed is written.
-fn from_run<S: Store, O: Sink>(alloc: Global, run: Run, files: &mut S, out: &mut O) -> Answer
+fn from_run<T: Threads + Sync, S: Store, O: Sink>(
+    rt: &T,
+    alloc: Global,
+    run: Run,
+    files: &mut S,
+    out: &mut O,
+) -> Answer
     requires over { is_waiting run.executed.halt ≡ false }
     requires run { IsSomeRun (record { outside = record { taken = O.taken out.old; told = S.told files.old }; files = S.faults files.old; out = O.faults out.old }) run.inputs.settings (texts_in run.inputs) run.executed }
     ensures cause { (words : List (List ℕ)) (told : ToldNames) (start : Moment)
@@ -187,13 +196,14 @@ fn from_run<S: Store, O: Sink>(alloc: Global, run: Run, files: &mut S, out: &mut
         halt,
     } = executed;
     match write_both(files, out, made, shown) {
-        Ok(()) => from_halt(alloc, inputs, halt, files, out),
+        Ok(()) => from_halt(rt, alloc, inputs, halt, files, out),
         Err(fault) => tell_unwritten(alloc, out, Reached::Executed, fault),
     }
 }
 
 // The execution is over, or the file of a table is not read.
-fn from_halt<S: Store, O: Sink>(
+fn from_halt<T: Threads + Sync, S: Store, O: Sink>(
+    rt: &T,
     alloc: Global,
     inputs: Inputs,
     halt: Halt,
@@ -212,14 +222,15 @@ fn from_halt<S: Store, O: Sink>(
         → Tells words told start.outside (record { taken = O.taken out.new; told = S.told files.new }) (Rose start.files (S.faults files.new)) (Rose start.out (O.faults out.new)) result }
 {
     match halt {
-        Halt::End(end) => from_end(alloc, &inputs, end, files, out),
+        Halt::End(end) => from_end(rt, alloc, &inputs, end, files, out),
         Halt::Table(_) => unreachable!(),
         Halt::Unread(unread) => tell(alloc, out, unread_answer(Reached::Executed, unread)),
     }
 }
 
 // The execution ended at a problem, or at a fault.
-fn from_end<S: Store, O: Sink>(
+fn from_end<T: Threads + Sync, S: Store, O: Sink>(
+    rt: &T,
     alloc: Global,
     inputs: &Inputs,
     end: ExecutionEnd,
@@ -234,14 +245,15 @@ fn from_end<S: Store, O: Sink>(
 {
     match end {
         ExecutionEnd::Problem(problem, later) => {
-            at_problem(alloc, inputs, problem, later, files, out)
+            at_problem(rt, alloc, inputs, problem, later, files, out)
         }
         ExecutionEnd::Fault(fault) => tell(alloc, out, Answer::BadText(fault)),
     }
 }
 
 // The problem is handed over, and lent further in.
-fn at_problem<S: Store, O: Sink>(
+fn at_problem<T: Threads + Sync, S: Store, O: Sink>(
+    rt: &T,
     alloc: Global,
     inputs: &Inputs,
     problem: Instance,
@@ -255,5 +267,5 @@ fn at_problem<S: Store, O: Sink>(
     ensures written { LeftWritten inputs.now.settings (texts_in inputs.now) (record { taken = O.taken out.old; told = S.told files.old })
         (record { taken = O.taken out.new; told = S.told files.new }) result }
 {
-    from_problem(alloc, inputs, &problem, later, files, out)
+    from_problem(rt, alloc, inputs, &problem, later, files, out)
 }

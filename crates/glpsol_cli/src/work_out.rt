@@ -25,11 +25,18 @@ use command_line::{Outputs, Settings, Task};
 use infeasible_subset::{Subset, SubsetFault, subset};
 use instance::Instance;
 use row_splits::solve;
+use shared_search::OpenGate;
 use sqlite_items::Boxed;
 use std::alloc::{AllocError, Global};
+use std::thread::Threads;
 
 /// What is found of the problem, as the task asks.
-pub fn finding(alloc: Global, problem: &Instance, inputs: &Inputs) -> Result<Finding, Unfound>
+pub fn finding<T: Threads + Sync>(
+    rt: &T,
+    alloc: Global,
+    problem: &Instance,
+    inputs: &Inputs,
+) -> Result<Finding, Unfound>
     requires asked { IsAsked inputs.now.settings (texts_in inputs.now) problem.now }
     requires enough { length (names_read inputs.now.settings) ≤ length (texts_in inputs.now) }
     ensures finding { IfOk result (IsFinding problem.now inputs.now.settings (texts_in inputs.now)) }
@@ -37,7 +44,7 @@ pub fn finding(alloc: Global, problem: &Instance, inputs: &Inputs) -> Result<Fin
 {
     let settings = inputs.settings.get();
     match &settings.task {
-        Task::Solve(outputs) => solution(alloc, problem, settings, outputs),
+        Task::Solve(outputs) => solution(rt, alloc, problem, settings, outputs),
         Task::Translate => Ok(Finding::Size),
         Task::CheckCertificate { .. } => {
             let count = settings.data_files.as_slice().len();
@@ -50,7 +57,8 @@ pub fn finding(alloc: Global, problem: &Instance, inputs: &Inputs) -> Result<Fin
 }
 
 // The certificate of a problem, and where no point is feasible a subset, if one is wanted.
-fn solution(
+fn solution<T: Threads + Sync>(
+    rt: &T,
     alloc: Global,
     problem: &Instance,
     settings: &Settings,
@@ -61,13 +69,13 @@ fn solution(
     ensures fault { IfErr result (IsUnsolved problem.now settings.now) }
 {
     if !wants_linear(outputs) {
-        return match solved(alloc, problem, settings) {
+        return match solved(rt, alloc, problem, settings) {
             Ok(certificate) => Ok(Finding::Verdict(certificate)),
             Err(fault) => Err(Unfound::Solve(fault)),
         };
     }
     if has_no_integer_column(problem) {
-        linear_solution(alloc, problem, settings, outputs.subset)
+        linear_solution(rt, alloc, problem, settings, outputs.subset)
     } else {
         Err(Unfound::NotLinear)
     }
@@ -81,7 +89,8 @@ fn wants_linear(outputs: &Outputs) -> bool
 }
 
 // The same of a problem without integer columns.
-fn linear_solution(
+fn linear_solution<T: Threads + Sync>(
+    rt: &T,
     alloc: Global,
     problem: &Instance,
     settings: &Settings,
@@ -92,7 +101,7 @@ fn linear_solution(
     ensures finding { IfOk result (IsSolution problem.now settings.now.task) }
     ensures fault { IfErr result (IsUnsolved problem.now settings.now) }
 {
-    match solved(alloc, problem, settings) {
+    match solved(rt, alloc, problem, settings) {
         Ok(certificate) => {
             if is_subset_wanted {
                 with_subset(alloc, problem, certificate, settings)
@@ -198,7 +207,8 @@ fn with_its_certificate(
 }
 
 // The certificate of a problem.
-fn solved(
+fn solved<T: Threads + Sync>(
+    rt: &T,
     alloc: Global,
     problem: &Instance,
     settings: &Settings,
@@ -209,7 +219,16 @@ fn solved(
 {
     let by_rows = splits_rows(&settings.task);
     let splits = settings.split_limit as usize;
-    match solve(alloc, problem, by_rows, splits, settings.pivot_limit) {
+    match solve(
+        rt,
+        alloc,
+        problem,
+        by_rows,
+        splits,
+        settings.pivot_limit,
+        settings.workers,
+        &OpenGate,
+    ) {
         Ok(certificate) => Ok(Boxed::new(alloc, certificate)?),
         Err(fault) => Err(fault),
     }

@@ -9,19 +9,24 @@ ghost use Rattle.row_columns.specs.RowForms.{AreRowForms};
 ghost use Rattle.row_columns.specs.Extended.{IsExtended};
 ghost use Rattle.row_splits.specs.Searched.{IsFaultOf};
 
-use branch_search::{VerdictFault, solve};
+use branch_search::VerdictFault;
 use cert_check::{Checked, check};
 use certificate::Certificate;
 use instance::Instance;
 use row_columns::{Extension, restore, with_row_columns};
+use shared_search::{Gate, solve_with_workers};
 use std::alloc::Global;
+use std::thread::Threads;
 
 /// The verdict of a problem, found of the problem with row columns, where that can be restored.
-pub(crate) fn solved_by_rows(
+pub(crate) fn solved_by_rows<R: Threads + Sync, G: Gate + Sync>(
+    rt: &R,
     alloc: Global,
     problem: &Instance,
     split_limit: usize,
     pivot_limit: u32,
+    workers: u32,
+    gate: &G,
 ) -> Result<Certificate, VerdictFault>
     ensures proves { IfOk result (λ c. Proves problem.now c) }
     ensures accepted { IfOk result (λ c. outcome (trials problem.now c) ≡ Acceptance) }
@@ -30,16 +35,28 @@ pub(crate) fn solved_by_rows(
     ensures unlimited { pivot_limit ≡ 0 → IfErr result IsNotByPivots }
 {
     let extension = with_row_columns(alloc, problem)?;
-    by_extension(alloc, problem, &extension, split_limit, pivot_limit)
+    by_extension(
+        rt,
+        alloc,
+        problem,
+        &extension,
+        split_limit,
+        pivot_limit,
+        workers,
+        gate,
+    )
 }
 
 // The same, with row columns.
-fn by_extension(
+fn by_extension<R: Threads + Sync, G: Gate + Sync>(
+    rt: &R,
     alloc: Global,
     problem: &Instance,
     extension: &Extension,
     split_limit: usize,
     pivot_limit: u32,
+    workers: u32,
+    gate: &G,
 ) -> Result<Certificate, VerdictFault>
     requires forms { AreRowForms problem.now problem.now.rows extension.now.forms }
     requires extended { IsExtended problem.now extension.now.forms extension.now.problem }
@@ -50,26 +67,42 @@ fn by_extension(
     ensures unlimited { pivot_limit ≡ 0 → IfErr result IsNotByPivots }
 {
     let row_columns = extension.forms.as_slice().len();
-    match solve(
+    match solve_with_workers(
+        rt,
         alloc,
         &extension.problem,
         row_columns,
         split_limit,
         pivot_limit,
+        workers,
+        gate,
     ) {
-        Ok(found) => from_found(alloc, problem, extension, &found, split_limit, pivot_limit),
+        Ok(found) => from_found(
+            rt,
+            alloc,
+            problem,
+            extension,
+            &found,
+            split_limit,
+            pivot_limit,
+            workers,
+            gate,
+        ),
         Err(fault) => Err(fault),
     }
 }
 
 // What is found of the problem with row columns, restored; or else the problem itself is searched.
-fn from_found(
+fn from_found<R: Threads + Sync, G: Gate + Sync>(
+    rt: &R,
     alloc: Global,
     problem: &Instance,
     extension: &Extension,
     found: &Certificate,
     split_limit: usize,
     pivot_limit: u32,
+    workers: u32,
+    gate: &G,
 ) -> Result<Certificate, VerdictFault>
     requires forms { AreRowForms problem.now problem.now.rows extension.now.forms }
     requires extended { IsExtended problem.now extension.now.forms extension.now.problem }
@@ -86,7 +119,25 @@ fn from_found(
     let restored = restore(alloc, problem, &extension.forms, found)?;
     match check(alloc, problem, &restored) {
         Ok(Checked::Accepted) => Ok(restored),
-        Ok(Checked::Refused(_)) => solve(alloc, problem, 0, split_limit, pivot_limit),
-        Err(_) => solve(alloc, problem, 0, split_limit, pivot_limit),
+        Ok(Checked::Refused(_)) => solve_with_workers(
+            rt,
+            alloc,
+            problem,
+            0,
+            split_limit,
+            pivot_limit,
+            workers,
+            gate,
+        ),
+        Err(_) => solve_with_workers(
+            rt,
+            alloc,
+            problem,
+            0,
+            split_limit,
+            pivot_limit,
+            workers,
+            gate,
+        ),
     }
 }

@@ -11,18 +11,24 @@ use crate::by_rows::solved_by_rows;
 use branch_search::{VerdictFault, has_no_integer_column};
 use certificate::Certificate;
 use instance::Instance;
+use shared_search::{Gate, solve_with_workers};
 use std::alloc::Global;
+use std::thread::Threads;
 
-/// The verdict of a problem as `solve` of branch_search finds it, with its certificate of version 2, which proves it and which the
-/// checker accepts. Where `row_splits` is asked for, it is found of the problem with a column for the whole form of each row that
-/// has one, so that a split may be one of such a form; a node splits on the first such form that isn't whole, before it splits on a
-/// column. Where what is found so can't be restored, since an operation of its test does not fit, the problem itself is searched.
-pub fn solve(
+/// The verdict of a problem as `solve_with_workers` of shared_search finds it, by so many workers, who pass the gate, with its
+/// certificate of version 2, which proves it and which the checker accepts. Where `row_splits` is asked for, it is found of the
+/// problem with a column for the whole form of each row that has one, so that a split may be one of such a form; a node splits on
+/// the first such form that isn't whole, before it splits on a column. Where what is found so can't be restored, since an operation
+/// of its test does not fit, the problem itself is searched.
+pub fn solve<R: Threads + Sync, G: Gate + Sync>(
+    rt: &R,
     alloc: Global,
     problem: &Instance,
     row_splits: bool,
     split_limit: usize,
     pivot_limit: u32,
+    workers: u32,
+    gate: &G,
 ) -> Result<Certificate, VerdictFault>
     ensures proves { IfOk result (λ c. Proves problem.now c) }
     ensures accepted { IfOk result (λ c. outcome (trials problem.now c) ≡ Acceptance) }
@@ -32,10 +38,19 @@ pub fn solve(
     ensures unlimited { pivot_limit ≡ 0 → IfErr result IsNotByPivots }
 {
     if !row_splits {
-        return branch_search::solve(alloc, problem, 0, split_limit, pivot_limit);
+        return solve_with_workers(
+            rt,
+            alloc,
+            problem,
+            0,
+            split_limit,
+            pivot_limit,
+            workers,
+            gate,
+        );
     }
     if has_no_integer_column(problem) {
         return branch_search::solve(alloc, problem, 0, split_limit, pivot_limit);
     }
-    solved_by_rows(alloc, problem, split_limit, pivot_limit)
+    solved_by_rows(rt, alloc, problem, split_limit, pivot_limit, workers, gate)
 }

@@ -9,27 +9,39 @@ use crate::texts::bytes_of;
 use cplex_lp_reader::read_lp;
 use instance::Instance;
 use std::alloc::{AllocError, Global};
+use std::thread::Threads;
 
 /// What is found for what a row asks. A kind is a word, and behind it what its rows share.
-pub(crate) fn answer(alloc: Global, kind: &str, asked: &str) -> Result<String, AllocError> {
+pub(crate) fn answer<R: Threads + Sync>(
+    rt: &R,
+    alloc: Global,
+    kind: &str,
+    asked: &str,
+) -> Result<String, AllocError> {
     let (word, shared) = kind.split_once(' ').unwrap_or((kind, ""));
     match word {
         "certificate" => read_back(alloc, shared, asked),
         "deep" => deep(alloc, shared, asked),
         "candidate" => judged(alloc, shared, asked),
         "linear" => solved(alloc, asked),
-        "check" => of_model(alloc, word, shared, asked),
-        "board" => of_model(alloc, word, shared, asked),
-        _ => of_model(alloc, word, asked, shared),
+        "check" => of_model(rt, alloc, word, shared, asked),
+        "board" => of_model(rt, alloc, word, shared, asked),
+        _ => of_model(rt, alloc, word, asked, shared),
     }
 }
 
 // What is found for the problem of a CPLEX LP text.
-fn of_model(alloc: Global, word: &str, model: &str, rest: &str) -> Result<String, AllocError> {
+fn of_model<R: Threads + Sync>(
+    rt: &R,
+    alloc: Global,
+    word: &str,
+    model: &str,
+    rest: &str,
+) -> Result<String, AllocError> {
     let text = bytes_of(alloc, model)?;
     let problem = read_lp(alloc, &text);
     let found = match &problem {
-        Ok(problem) => of_problem(alloc, word, problem, rest),
+        Ok(problem) => of_problem(rt, alloc, word, problem, rest),
         Err(_) => "no problem".to_string(alloc),
     };
     // a call that lets a large value go is cheaper to prove than the end of a block
@@ -37,7 +49,8 @@ fn of_model(alloc: Global, word: &str, model: &str, rest: &str) -> Result<String
     found
 }
 
-fn of_problem(
+fn of_problem<R: Threads + Sync>(
+    rt: &R,
     alloc: Global,
     word: &str,
     problem: &Instance,
@@ -46,10 +59,10 @@ fn of_problem(
     match word {
         "check" => checked(alloc, problem, rest),
         "search" => found_by_search(alloc, problem, rest),
-        "solve" => found_by_solve(alloc, problem, false, rest),
-        "solve_by_rows" => found_by_solve(alloc, problem, true, rest),
-        "written" => written_by_solve(alloc, problem, false, rest),
-        "written_by_rows" => written_by_solve(alloc, problem, true, rest),
+        "solve" => found_by_solve(rt, alloc, problem, false, rest),
+        "solve_by_rows" => found_by_solve(rt, alloc, problem, true, rest),
+        "written" => written_by_solve(rt, alloc, problem, false, rest),
+        "written_by_rows" => written_by_solve(rt, alloc, problem, true, rest),
         "optimum" => shown_optimum(alloc, problem),
         "subset" => found_subset(alloc, problem, rest),
         "ranges" => found_ranges(alloc, problem, rest),

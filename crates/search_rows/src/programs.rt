@@ -7,7 +7,9 @@ use instance::Instance;
 use row_splits::solve;
 use search_node::SplitsTaken;
 use search_tree::{Path, is_optimal};
+use shared_search::OpenGate;
 use std::alloc::{AllocError, Global};
+use std::thread::Threads;
 
 // The limit of splits and that of steps.
 fn limits_of(words: &str) -> (usize, u32) {
@@ -43,14 +45,15 @@ fn search_fault(fault: &SearchFault) -> &'static str {
 }
 
 /// The verdict of any problem within limits, by splits of columns alone or of rows too, or why there is none and what was wanted.
-pub(crate) fn found_by_solve(
+pub(crate) fn found_by_solve<R: Threads + Sync>(
+    rt: &R,
     alloc: Global,
     problem: &Instance,
     row_splits: bool,
     limits: &str,
 ) -> Result<String, AllocError> {
     let (splits, steps) = limits_of(limits);
-    let verdict = solve(alloc, problem, row_splits, splits, steps);
+    let verdict = solve(rt, alloc, problem, row_splits, splits, steps, 1, &OpenGate);
     let words = match &verdict {
         Ok(certificate) => verdict_words(alloc, certificate),
         Err(fault) => fault_words(alloc, fault),
@@ -60,14 +63,15 @@ pub(crate) fn found_by_solve(
 }
 
 /// The certificate that is written for any problem, or why there is none and what was wanted.
-pub(crate) fn written_by_solve(
+pub(crate) fn written_by_solve<R: Threads + Sync>(
+    rt: &R,
     alloc: Global,
     problem: &Instance,
     row_splits: bool,
     limits: &str,
 ) -> Result<String, AllocError> {
     let (splits, steps) = limits_of(limits);
-    let verdict = solve(alloc, problem, row_splits, splits, steps);
+    let verdict = solve(rt, alloc, problem, row_splits, splits, steps, 1, &OpenGate);
     let words = match &verdict {
         Ok(certificate) => certificate_words(alloc, certificate),
         Err(fault) => fault_words(alloc, fault),

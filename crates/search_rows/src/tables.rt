@@ -2,6 +2,7 @@
 use crate::kinds::answer;
 use std::alloc::Global;
 use std::io;
+use std::thread::Threads;
 
 // A table so far; before the first heading it has no name.
 #[derive(Clone, Copy)]
@@ -37,7 +38,11 @@ impl<'a> Table<'a> {
 
 /// Tells of each table, behind a line for each of its rows that differs. `# NAME` begins a table, `= KIND` says what its rows ask for,
 /// `#:` begins a comment, and each other line that isn't empty is a row, `WANTED <- ASKED`. A `\` at a row's end is no part of it.
-pub(crate) fn tell_tables<R: Print>(rt: &R, alloc: Global, text: &str) -> io::Result<()> {
+pub(crate) fn tell_tables<R: Print + Threads + Sync>(
+    rt: &R,
+    alloc: Global,
+    text: &str,
+) -> io::Result<()> {
     let mut table = Table::new("before the first table");
     for line in text.lines() {
         take_line(rt, alloc, &mut table, line)?;
@@ -45,7 +50,7 @@ pub(crate) fn tell_tables<R: Print>(rt: &R, alloc: Global, text: &str) -> io::Re
     table.tell(rt)
 }
 
-fn take_line<'a, R: Print>(
+fn take_line<'a, R: Print + Threads + Sync>(
     rt: &R,
     alloc: Global,
     table: &mut Table<'a>,
@@ -67,7 +72,12 @@ fn take_line<'a, R: Print>(
     }
 }
 
-fn take_row<R: Print>(rt: &R, alloc: Global, table: &mut Table, line: &str) -> io::Result<()> {
+fn take_row<R: Print + Threads + Sync>(
+    rt: &R,
+    alloc: Global,
+    table: &mut Table,
+    line: &str,
+) -> io::Result<()> {
     if line.is_empty() {
         return Ok(());
     }
@@ -76,7 +86,7 @@ fn take_row<R: Print>(rt: &R, alloc: Global, table: &mut Table, line: &str) -> i
     let Some((wanted, asked)) = row.split_once(" <- ") else {
         return tell_row(rt, table, row, "no arrow");
     };
-    let found = answer(alloc, table.kind, asked)?;
+    let found = answer(rt, alloc, table.kind, asked)?;
     if is_as_wanted(&found, wanted) {
         Ok(())
     } else {

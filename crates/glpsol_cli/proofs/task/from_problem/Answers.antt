@@ -12,7 +12,7 @@ returns-in-Err-clause-written g c =
     unfound_written c.args.inputs.now.settings (texts_in c.args.inputs.now) c.args.problem.now c.args.later c.requires c.in-Err.unfound c.unfound_answer.result c.tell.result c.unfound_answer.ensures c.tell.ensures.same (g.O.Sink.taken c.args.out.now) (g.O.Sink.taken c.tell.new.out) (g.S.Store.told c.args.files.now) c.tell.ensures.prefix
 
 pub finding-requires-clause-enough : goal.finding-requires-clause-enough
-finding-requires-clause-enough g c = subject_enough c.args.inputs.now.settings (texts_in c.args.inputs.now) c.args.problem.now c.args.later c.requires
+finding-requires-clause-enough g c κs lives = subject_enough c.args.inputs.now.settings (texts_in c.args.inputs.now) c.args.problem.now c.args.later c.requires
 
 pub finding-requires-clause-asked : goal.finding-requires-clause-asked
-finding-requires-clause-asked g c = subject_asked c.args.inputs.now.settings (texts_in c.args.inputs.now) c.args.problem.now c.args.later c.requires
+finding-requires-clause-asked g c κs lives = subject_asked c.args.inputs.now.settings (texts_in c.args.inputs.now) c.args.problem.now c.args.later c.requires

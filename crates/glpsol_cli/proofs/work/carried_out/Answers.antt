@@ -12,12 +12,15 @@ returns-in-Err-clause-written g c =
     c.in-Err.stop c.in-Err.ensures.stop c.stop_answer.result c.tell.result c.stop_answer.ensures c.tell.ensures.same (g.O.Sink.taken c.args.out.now) (g.O.Sink.taken c.tell.new.out) c.tell.ensures.prefix
 
 pub from_inputs-requires : goal.from_inputs-requires
-from_inputs-requires g c = record {
-  words = map string_bytes c.args.words.now;
-  told = g.S.Store.told c.args.files.now;
-  same = c.read_inputs.ensures.told;
-  are = c.in-Ok.ensures.inputs;
-}
+from_inputs-requires g c = (
+  c.type_bounds.sync-T,
+  record {
+    words = map string_bytes c.args.words.now;
+    told = g.S.Store.told c.args.files.now;
+    same = c.read_inputs.ensures.told;
+    are = c.in-Ok.ensures.inputs;
+  },
+)
 
 pub returns-clause-cause : goal.returns-clause-cause
 returns-clause-cause g c =

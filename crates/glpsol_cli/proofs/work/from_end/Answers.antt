@@ -5,8 +5,10 @@ use Rattle.glpsol_cli.proofs.Carried.{refused_cause, refused_written, subject_of
 use Rattle.glpsol_cli.proofs.work.from_end.Goals as goal
 
 pub at_problem-requires : goal.at_problem-requires
-at_problem-requires g c =
-    subject_of c.args.inputs.now.settings (texts_in c.args.inputs.now) c.in-Problem.problem c.in-Problem.later (subst (IsEndIn c.args.inputs.now.settings (texts_in c.args.inputs.now)) c.in-Problem.is c.requires)
+at_problem-requires g c = (
+  c.type_bounds.sync-T,
+  subject_of c.args.inputs.now.settings (texts_in c.args.inputs.now) c.in-Problem.problem c.in-Problem.later (subst (IsEndIn c.args.inputs.now.settings (texts_in c.args.inputs.now)) c.in-Problem.is c.requires),
+)
 
 pub returns-in-Fault-clause-cause : goal.returns-in-Fault-clause-cause
 returns-in-Fault-clause-cause g c =

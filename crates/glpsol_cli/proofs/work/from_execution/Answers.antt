@@ -11,7 +11,7 @@ with_tables-requires g c =
     halts_so c.requires.words c.requires.told c.requires.start now c.args.inputs.settings (texts_in c.args.inputs) c.args.executed c.requires.run
 
 pub from_run-requires-clause-run : goal.from_run-requires-clause-run
-from_run-requires-clause-run g c = record {
+from_run-requires-clause-run g c κs lives = record {
   words = c.requires.words;
   told = c.requires.told;
   start = c.requires.start;

@@ -6,7 +6,7 @@ use Rattle.glpsol_cli.proofs.work.from_halt.Goals as goal
 use Rattle.glpsol_cli.proofs.Stories.{end_tells, table_unread_tells}
 
 pub from_end-requires : goal.from_end-requires
-from_end-requires g c = subst (IsEndOf c.args.inputs.settings (texts_in c.args.inputs)) c.in-End.is c.requires
+from_end-requires g c = (c.type_bounds.sync-T, subst (IsEndOf c.args.inputs.settings (texts_in c.args.inputs)) c.in-End.is c.requires)
 
 pub returns-in-End-clause-cause : goal.returns-in-End-clause-cause
 returns-in-End-clause-cause g c =

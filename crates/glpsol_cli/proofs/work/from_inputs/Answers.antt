@@ -19,13 +19,15 @@ execute-requires g c =
 
 pub from_execution-requires : goal.from_execution-requires
 from_execution-requires g c =
-    let now : Moment = record { outside = record { taken = g.O.Sink.taken c.args.out.now; told = g.S.Store.told c.args.files.now }; files = g.S.Store.faults c.args.files.now; out = g.O.Sink.faults c.args.out.now } in
-    record {
-      words = c.requires.words;
-      told = c.requires.told;
-      start = now;
-      run = run_first c.requires.words c.requires.told c.args.inputs c.requires.are now c.requires.same now.files (omega arith) c.in-Ok.executed (subst (λ xs. IsExecution c.args.inputs.settings (map (λ text. text.items) xs) c.in-Ok.executed) c.deref.ensures.value (rw c.get.ensures at c.in-Ok.ensures));
-    }
+    let now : Moment = record { outside = record { taken = g.O.Sink.taken c.args.out.now; told = g.S.Store.told c.args.files.now }; files = g.S.Store.faults c.args.files.now; out = g.O.Sink.faults c.args.out.now } in (
+      c.type_bounds.sync-T,
+      record {
+        words = c.requires.words;
+        told = c.requires.told;
+        start = now;
+        run = run_first c.requires.words c.requires.told c.args.inputs c.requires.are now c.requires.same now.files (omega arith) c.in-Ok.executed (subst (λ xs. IsExecution c.args.inputs.settings (map (λ text. text.items) xs) c.in-Ok.executed) c.deref.ensures.value (rw c.get.ensures at c.in-Ok.ensures));
+      },
+    )
 
 pub returns-in-Ok-clause-cause : goal.returns-in-Ok-clause-cause
 returns-in-Ok-clause-cause g c =

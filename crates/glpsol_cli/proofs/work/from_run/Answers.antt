@@ -8,9 +8,11 @@ use Rattle.glpsol_cli.proofs.Stories.{unwritten_tells}
 pub from_halt-requires : goal.from_halt-requires
 from_halt-requires g c =
     let now : Moment = record { outside = record { taken = g.O.Sink.taken c.args.out.now; told = g.S.Store.told c.args.files.now }; files = g.S.Store.faults c.args.files.now; out = g.O.Sink.faults c.args.out.now } in
-    let middle : Moment = record { outside = record { taken = g.O.Sink.taken c.write_both.new.out; told = g.S.Store.told c.write_both.new.files }; files = g.S.Store.faults c.write_both.new.files; out = g.O.Sink.faults c.write_both.new.out } in
-    end_of_whole c.requires.run.words c.requires.run.told c.requires.run.start middle c.args.run.inputs.settings (texts_in c.args.run.inputs) c.args.run.executed.halt c.requires.over
-    (whole c.requires.run.words c.requires.run.told c.requires.run.start now c.args.run.inputs.settings (texts_in c.args.run.inputs) c.args.run.executed c.requires.run.run middle c.in-Ok.ensures.ends c.write_both.ensures.files_later c.write_both.ensures.out_later)
+    let middle : Moment = record { outside = record { taken = g.O.Sink.taken c.write_both.new.out; told = g.S.Store.told c.write_both.new.files }; files = g.S.Store.faults c.write_both.new.files; out = g.O.Sink.faults c.write_both.new.out } in (
+      c.type_bounds.sync-T,
+      end_of_whole c.requires.run.words c.requires.run.told c.requires.run.start middle c.args.run.inputs.settings (texts_in c.args.run.inputs) c.args.run.executed.halt c.requires.over
+          (whole c.requires.run.words c.requires.run.told c.requires.run.start now c.args.run.inputs.settings (texts_in c.args.run.inputs) c.args.run.executed c.requires.run.run middle c.in-Ok.ensures.ends c.write_both.ensures.files_later c.write_both.ensures.out_later),
+    )
 
 pub returns-in-Ok-clause-cause : goal.returns-in-Ok-clause-cause
 returns-in-Ok-clause-cause g c =
