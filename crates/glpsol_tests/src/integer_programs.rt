@@ -29,11 +29,41 @@ fn integer_programs(rt: HostRuntime) -> Result<(), Fail> {
     check(&rt, rt.alloc(), &Subject::Answers, INTEGER)
 }
 
+// Programs of these by two workers and by four: where several points are best, which of them is found is a matter of turns.
+const BY_WORKERS: &str = "\
+0 OPTIMAL$objective obj 21$column a 0$column b 1$column c 1$column d 1$row r.1 14$ <- --lp f --workers 2 <- max$ 8 a + 11 b + 6 c + 4 d$st$ 5 a + 7 b + 4 c + 3 d <= 14$binary$ a b c d$end$
+0 OPTIMAL$objective obj 21$column a 0$column b 1$column c 1$column d 1$row r.1 14$ <- --lp f --nodlim 1000 --workers 4 <- max$ 8 a + 11 b + 6 c + 4 d$st$ 5 a + 7 b + 4 c + 3 d <= 14$binary$ a b c d$end$
+0 OPTIMAL$objective obj 21$column a 0$column b 1$column c 1$column d 1$row r.1 14$ <- --lp f --pivlim 0 --workers 4 <- max$ 8 a + 11 b + 6 c + 4 d$st$ 5 a + 7 b + 4 c + 3 d <= 14$binary$ a b c d$end$
+0 OPTIMAL$objective obj 22$column a 1$column b 1$column c 1/2$column d 0$row r.1 14$ <- --lp f --nomip --workers 4 <- max$ 8 a + 11 b + 6 c + 4 d$st$ 5 a + 7 b + 4 c + 3 d <= 14$binary$ a b c d$end$
+4 UNDECIDED nodes$ <- --lp f --nodlim 3 --workers 2 <- min$ x$st$ 2 x - 2 y = 1$general$ x y$end$
+4 UNDECIDED nodes$ <- --lp f --nodlim 3 --workers 4 <- min$ x$st$ 2 x - 2 y = 1$general$ x y$end$
+4 UNDECIDED nodes$ <- --lp f --nodlim 0 --workers 2 <- min$ x$st$ 2 x - 2 y = 1$general$ x y$end$
+0 INFEASIBLE$ <- --lp f --workers 2 <- min$ x$st$ 1 <= 3 x <= 2$general$ x$end$
+0 INFEASIBLE$ <- --lp f --nodlim 1 --workers 4 <- min$ x$st$ 1 <= 3 x <= 2$general$ x$end$
+0 INFEASIBLE$ <- --lp f --workers 4 <- min$ - y$st$ 1 <= 3 x <= 2$general$ x$end$
+0 UNBOUNDED$column x <- --lp f --workers 2 <- max$ x + y$st$ 2 x - 2 y = 2$general$ x y$end$
+0 OPTIMAL$objective cost -5$column x 1$column y 1$row c1 5$ <- --freemps f --workers 2 <- ROWS$ N cost$ L c1$COLUMNS$ x cost -3 c1 3$ y cost -2 c1 2$RHS$ R c1 6$BOUNDS$ BV b x$ BV b y$ENDATA$
+0 OPTIMAL$objective z 11$column x[1] 1$column x[2] 0$column x[3] 1$row z 11$row r 7$ <- --math f --workers 4 <- set I := 1..3; var x{I} binary; maximize z: sum{i in I} (8 - i*i*(if i = 2 then 2 else 1) + (if i = 3 then 5 else 0))*x[i]; s.t. r: sum{i in I} (2*i - (if i = 3 then 0 else 1))*x[i] <= 8; end;
+1 usage: <- --lp f --workers 65 <- min$ x$st$ x >= 1$end$
+";
+
+#[test]
+fn programs_by_several_workers(rt: HostRuntime) -> Result<(), Fail> {
+    check(&rt, rt.alloc(), &Subject::Answers, BY_WORKERS)
+}
+
+// And what they write with `--cert` is accepted too.
+#[test]
+fn certificates_of_several_workers_are_accepted(rt: HostRuntime) -> Result<(), Fail> {
+    check(&rt, rt.alloc(), &Subject::RoundTrips, BY_WORKERS)
+}
+
 // Equations that splits of columns alone do not decide within these limits, and a relaxation. (`--rowsplit` does not stand with
 // `--checkcert`.)
 const BY_ROWS: &str = "\
 0 INFEASIBLE$ <- --lp f --rowsplit --nodlim 1 <- min$ x$st$ 2 x - 2 y = 1$general$ x y$end$
 0 INFEASIBLE$ <- --lp f --rowsplit --nodlim 1 <- min$ a$st$ 2 a + 2 b + 2 c + 2 d + 2 e + 2 f + 2 g + 2 h + 2 i + 2 j + 2 k + 2 l + 2 m + 2 n + 2 o + 2 p + 2 q + 2 r + 2 s + 2 t = 21$general$ a b c d e f g h i j k l m n o p q r s t$end$
+0 INFEASIBLE$ <- --lp f --rowsplit --nodlim 1 --workers 2 <- min$ x$st$ 2 x - 2 y = 1$general$ x y$end$
 4 UNDECIDED nodes$ <- --lp f --rowsplit --nodlim 0 <- min$ x$st$ 2 x - 2 y = 1$general$ x y$end$
 0 OPTIMAL$objective obj 1/2$column x 1/2$column y 0$row r.1 1$ <- --lp f --nomip --rowsplit --nodlim 0 <- min$ x$st$ 2 x - 2 y = 1$general$ x y$end$
 ";
