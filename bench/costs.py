@@ -97,15 +97,18 @@ def seconds(name, words):
 
 def sizes(name, words):
     """Prints the megabytes of code of a crate."""
-    found = collections.Counter()
+    found, parts = collections.Counter(), collections.defaultdict(collections.Counter)
     for owner, last, _, size in parts_of(written(name)):
         if last.startswith("Lts"):
             found[owner] += size / 1e6
+            # of a cycle, the function
+            parts[owner][last[4:]] += size / 1e6
     print(f"{name}: {sum(found.values()):.1f} MB of code in {len(found)} functions")
     for owner, size in found.most_common():
         if size < words["shown"]:
             break
-        print(f"  {size:6.2f}  {owner}")
+        of_it = "; ".join(f"{part} {more:.1f}" for part, more in parts[owner].most_common() if part and more >= words["shown"])
+        print(f"  {size:6.2f}  {owner}{'  of it: ' + of_it if of_it else ''}")
     return False
 
 
