@@ -5,6 +5,7 @@ mod Merge
 mod Signs
 mod Ascending
 mod Negatives
+mod ColumnTotals
 mod Turning
 mod Meeting
 mod Places

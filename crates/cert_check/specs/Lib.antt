@@ -5,3 +5,4 @@ pub mod Lookup
 pub mod Parts
 pub mod Outcome
 pub mod Made
+pub mod Totals

@@ -10,11 +10,13 @@ use crate::sums::with_coefficient;
 use certificate::Item;
 use fraction::{Frac, NoFit};
 use instance::{EntriesByColumn, Entry, Instance};
+use std::alloc::Global;
 use std::marker::Model;
 
-// A problem, with its entries by column where there is memory for them.
+// A problem, with its entries by column where they are wanted and there is memory for them.
 #[derive(Drop)]
 pub(crate) struct ByColumn<'a> {
+    alloc: Option<Global>,
     problem: &'a Instance,
     entries: Option<EntriesByColumn>,
 }
@@ -33,13 +35,30 @@ impl<'a> Model for ByColumn<'a> {
 
 impl<'a> ByColumn<'a> {
     // The problem's entries are gone over once.
-    pub(crate) fn new(problem: &'a Instance) -> Self
+    pub(crate) fn new(problem: &'a Instance, alloc: Option<Global>) -> Self
         ensures { result ≡ problem.now }
     {
         ByColumn {
+            alloc,
             problem,
             entries: problem.by_column().ok(),
         }
+    }
+
+    // The problem by row alone, for one test whose sums mostly fit.
+    pub(crate) fn by_row(problem: &'a Instance, alloc: Global) -> Self
+        ensures { result ≡ problem.now }
+    {
+        ByColumn {
+            alloc: Some(alloc),
+            problem,
+            entries: None,
+        }
+    }
+
+    // Where memory for totals is taken from, if it may be.
+    pub(crate) fn alloc(&self) -> Option<Global> {
+        self.alloc
     }
 
     // The problem.

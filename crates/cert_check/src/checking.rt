@@ -143,7 +143,7 @@ fn check_tree(
     let version = certificate.version();
     let derived = certificate.derived().as_slice();
     let mut way = Way::root(alloc, certificate.tree());
-    let problem = ByColumn::new(problem);
+    let problem = ByColumn::new(problem, Some(alloc));
     match check_derived(&problem, version, &way, derived)? {
         Checked::Accepted => check_nodes(version, &problem, goal, derived, &mut way),
         Checked::Refused(part) => Ok(Checked::Refused(part)),

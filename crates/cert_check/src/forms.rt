@@ -1,17 +1,19 @@
 // Whether weights make a form.
-ghost use Rattle.std.specs.Prelude.{◌<◌, length, ◌≡◌, ◌++◌, IsTrue};
+ghost use Rattle.std.specs.Prelude.{ℕ, ◌<◌, List, length, ◌≡◌, ◌++◌, IsTrue, Ok};
 ghost use Rattle.rational.specs.Rational.{zero_ℚ};
 ghost use Rattle.verdicts.specs.WeightedSums.{coefficient_of};
-ghost use Rattle.cert_check.specs.Sums.{with_products, weight_products, are_forms};
+ghost use Rattle.cert_check.specs.Sums.{Product, with_products, weight_products, are_forms};
+ghost use Rattle.cert_check.specs.Totals.{AreTotals};
 ghost use Rattle.cert_check.specs.Parts.{side_weights, side_products, ascending, signed_by};
 
 use crate::lookup::entry_of;
 use crate::named::Named;
 use crate::setting::Setting;
 use crate::sums::{column_sum, with_coefficient, with_negative_coefficient};
+use crate::totals::totals_of;
 use certificate::{FormSplit, Side, Weights};
 use fraction::{Frac, NoFit};
-use instance::{Entry, signed};
+use instance::{Entry, Instance, signed};
 use milp::Direction;
 
 // The coefficient of a column in a form.
@@ -38,8 +40,45 @@ fn wanted_at(form: &[Entry], sign: Option<Direction>, column: u32) -> Frac
     }
 }
 
-// F is the form, with the sign of a direction where there is one: column by column, up to the first that differs.
+// F is the form, with the sign of a direction where there is one: by the totals of all columns, where they are there.
 pub(crate) fn is_form(
+    setting: &Setting,
+    weights: &Named,
+    wanted: &[Entry],
+    sign: Option<Direction>,
+) -> Result<bool, NoFit>
+    requires { IsTrue (ascending 0 wanted.now) }
+    ensures { result ≡ are_forms (weight_products setting.now weights.now) (λ j. signed_by sign (coefficient_of wanted.now j)) 0 setting.now.problem.columns }
+{
+    match totals_of(setting, weights) {
+        Some(totals) => Ok(are_wanted(setting.problem(), &totals, wanted, sign)),
+        None => is_form_by_column(setting, weights, wanted, sign),
+    }
+}
+
+// Totals of columns are the form, with the sign of a direction where there is one.
+fn are_wanted(
+    problem: &Instance,
+    totals: &[Frac],
+    wanted: &[Entry],
+    sign: Option<Direction>,
+) -> bool
+    requires order { IsTrue (ascending 0 wanted.now) }
+    requires count { length totals.now ≡ length problem.now.columns }
+    ensures { (f : ℕ → List Product) → AreTotals (length problem.now.columns) f totals.now → Ok result ≡ are_forms f (λ j. signed_by sign (coefficient_of wanted.now j)) 0 problem.now.columns }
+{
+    problem.keeps_its_limits();
+    let columns = problem.columns();
+    for (j, _) in columns.iter().enumerate() {
+        if totals[j] != wanted_at(wanted, sign, j as u32) {
+            return false;
+        }
+    }
+    true
+}
+
+// The same, column by column, up to the first that differs.
+fn is_form_by_column(
     setting: &Setting,
     weights: &Named,
     wanted: &[Entry],

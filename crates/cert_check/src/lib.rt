@@ -16,6 +16,7 @@ mod part;
 mod points;
 mod setting;
 mod sums;
+mod totals;
 mod turns;
 mod way;
 

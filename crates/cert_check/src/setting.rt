@@ -12,6 +12,7 @@ use crate::way::Way;
 use certificate::{Derived, Turn, Version};
 use fraction::{Frac, NoFit};
 use instance::Instance;
+use std::alloc::Global;
 use std::marker::Model;
 
 // The version, the problem, the derived rows that weights may name, and the way to a node of a tree.
@@ -63,6 +64,11 @@ impl<'s, 't> Setting<'s, 't> {
         ensures { result.now ≡ self.now.problem }
     {
         self.problem.problem()
+    }
+
+    // Where memory for totals is taken from, if it may be.
+    pub(crate) fn alloc(&self) -> Option<Global> {
+        self.problem.alloc()
     }
 
     // The problem with its entries by column.
