@@ -158,7 +158,7 @@ module _ (objects : List Name) where
   abbrev pub input_columns : List InputColumn → Pass (List ResolvedInputColumn)
   input_columns xs = all (map input_column xs)
 
-  abbrev pub output_column : OutputColumn → Pass ResolvedOutputColumn
+  unfoldable pub output_column : OutputColumn → Pass ResolvedOutputColumn
   output_column column = do
     x ← expr objects column.value
     name ← beside (written_field column.value column.field)

@@ -4,13 +4,13 @@ ghost use Rattle.gmpl_names.specs.Expressions.{Follows, Gives};
 ghost use Rattle.gmpl_names.specs.Statements as spec;
 ghost use Rattle.gmpl_names.specs.Statements.{JudgesBoth};
 
-use crate::parts::{optional_indexing, optional_side};
+use crate::parts::{boxed_expr, optional_indexing, optional_side, unboxed};
 use crate::table_names::declare_table;
 use crate::tables::table_output;
-use crate::{Names, NamesError, resolve_expr, resolve_exprs, resolve_indexing, room_for};
+use crate::{Names, NamesError, resolve_exprs, resolve_indexing, room_for};
 use gmpl_resolved as resolved;
 use gmpl_syntax::{Action, Expr, Indexing, SyntaxFaultKind, TableOutput};
-use sqlite_items::Items;
+use sqlite_items::{Boxed, Items};
 use std::alloc::Global;
 
 #[tactic(auto, unfolding(crate::specs::Statements::check))]
@@ -25,9 +25,9 @@ fn check(
 {
     let before = scope.len();
     let domain = optional_indexing(alloc, objects, scope, domain)?;
-    let condition = resolve_expr(alloc, objects, scope, condition)?;
+    let condition = boxed_expr(alloc, objects, scope, condition)?;
     scope.truncate(before);
-    Ok(resolved::Action::Check(domain, condition))
+    Ok(resolved::Action::Check(unboxed(domain), condition.into_inner()))
 }
 
 #[tactic(auto, unfolding(crate::specs::Statements::display))]
@@ -44,7 +44,7 @@ fn display(
     let domain = optional_indexing(alloc, objects, scope, domain)?;
     let items = resolve_exprs(alloc, objects, scope, items)?;
     scope.truncate(before);
-    Ok(resolved::Action::Display(domain, items))
+    Ok(resolved::Action::Display(unboxed(domain), items))
 }
 
 // The format with its arguments, where they stand in parentheses too.
@@ -58,14 +58,14 @@ fn listed(arguments: &[Expr]) -> &[Expr]
 }
 
 fn printed(
-    domain: Option<resolved::Indexing>,
+    domain: Option<Boxed<resolved::Indexing>>,
     arguments: Items<resolved::Expr>,
-    file: Option<resolved::Expr>,
+    file: Option<Boxed<resolved::Expr>>,
 ) -> Result<resolved::Action, NamesError>
     ensures { Gives (spec.printed domain arguments file) result }
 {
     match file {
-        None => Ok(resolved::Action::Printf(domain, arguments)),
+        None => Ok(resolved::Action::Printf(unboxed(domain), arguments)),
         Some(_) => Err(NamesError::Fault(SyntaxFaultKind::Unsupported)),
     }
 }
@@ -85,9 +85,8 @@ fn printf(
     let domain = optional_indexing(alloc, objects, scope, domain)?;
     let arguments = resolve_exprs(alloc, objects, scope, listed(arguments))?;
     let file = optional_side(alloc, objects, scope, file)?;
-    let made = printed(domain, arguments, file)?;
     scope.truncate(before);
-    Ok(made)
+    printed(domain, arguments, file)
 }
 
 fn indexings(

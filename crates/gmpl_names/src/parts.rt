@@ -1,4 +1,5 @@
 // The names of the parts of statements, resolved.
+ghost use Rattle.std.specs.Prelude.{◌≡◌};
 ghost use Rattle.gmpl_names.specs.Expressions.{Follows};
 ghost use Rattle.gmpl_names.specs.Expressions as names;
 ghost use Rattle.gmpl_names.specs.Statements as spec;
@@ -9,21 +10,34 @@ use gmpl_syntax::{Attribute, Constraint, Declaration, Expr, Head, Indexing, Obje
 use sqlite_items::{Boxed, Items};
 use std::alloc::Global;
 
+// A resolved part is held in a `Boxed` while others are resolved, since a function that owns a tree by value is dear to prove.
+
+pub(crate) fn boxed_indexing(
+    alloc: Global,
+    objects: &Names,
+    scope: &mut Names,
+    whole: &Indexing,
+) -> Result<Boxed<resolved::Indexing>, NamesError>
+    ensures { Follows (names.indexing objects.now whole.now scope.old) result scope.new }
+{
+    let made = resolve_indexing(alloc, objects, scope, whole)?;
+    Ok(Boxed::new(alloc, made)?)
+}
+
 pub(crate) fn optional_indexing(
     alloc: Global,
     objects: &Names,
     scope: &mut Names,
     whole: &Option<Indexing>,
-) -> Result<Option<resolved::Indexing>, NamesError>
+) -> Result<Option<Boxed<resolved::Indexing>>, NamesError>
     ensures { Follows (spec.optional_indexing objects.now whole.now scope.old) result scope.new }
 {
     match whole {
         None => Ok(None),
-        Some(whole) => Ok(Some(resolve_indexing(alloc, objects, scope, whole)?)),
+        Some(whole) => Ok(Some(boxed_indexing(alloc, objects, scope, whole)?)),
     }
 }
 
-// A resolved part is held in a `Boxed` while others are resolved, since a function that owns a tree by value is dear to prove.
 pub(crate) fn boxed_expr(
     alloc: Global,
     objects: &Names,
@@ -41,12 +55,22 @@ pub(crate) fn optional_side(
     objects: &Names,
     scope: &mut Names,
     whole: &Option<Expr>,
-) -> Result<Option<resolved::Expr>, NamesError>
+) -> Result<Option<Boxed<resolved::Expr>>, NamesError>
     ensures { Follows (spec.optional_side objects.now whole.now scope.old) result scope.new }
 {
     match whole {
         None => Ok(None),
-        Some(whole) => Ok(Some(resolve_expr(alloc, objects, scope, whole)?)),
+        Some(whole) => Ok(Some(boxed_expr(alloc, objects, scope, whole)?)),
+    }
+}
+
+/// The part itself, where there is one.
+pub(crate) fn unboxed<T: Drop>(part: Option<Boxed<T>>) -> Option<T>
+    ensures { result ≡ part }
+{
+    match part {
+        None => None,
+        Some(part) => Some(part.into_inner()),
     }
 }
 
@@ -60,7 +84,11 @@ fn head(
 {
     let name = whole.name.copied(alloc)?;
     let domain = optional_indexing(alloc, objects, scope, &whole.domain)?;
-    Ok(Boxed::new(alloc, resolved::Head { name, domain })?)
+    let made = resolved::Head {
+        name,
+        domain: unboxed(domain),
+    };
+    Ok(Boxed::new(alloc, made)?)
 }
 
 fn attribute(
@@ -138,7 +166,7 @@ pub(crate) fn constraint(
         left: left.into_inner(),
         relation: whole.relation,
         right: right.into_inner(),
-        last,
+        last: unboxed(last),
     };
     Ok(Boxed::new(alloc, made)?)
 }
@@ -152,11 +180,11 @@ pub(crate) fn objective(
     ensures { Follows (spec.objective objects.now whole.now scope.old) result scope.new }
 {
     let head = head(alloc, objects, scope, &whole.head)?;
-    let form = resolve_expr(alloc, objects, scope, &whole.form)?;
+    let form = boxed_expr(alloc, objects, scope, &whole.form)?;
     let made = resolved::Objective {
         direction: whole.direction,
         head: head.into_inner(),
-        form,
+        form: form.into_inner(),
     };
     Ok(Boxed::new(alloc, made)?)
 }

@@ -3,8 +3,8 @@ ghost use Rattle.std.specs.Prelude.{◌≡◌, IfOk};
 ghost use Rattle.gmpl_names.specs.Expressions.{Follows, Gives};
 ghost use Rattle.gmpl_names.specs.Statements as spec;
 
-use crate::parts::boxed_expr;
-use crate::{Names, NamesError, resolve_indexing, room_for};
+use crate::parts::{boxed_expr, boxed_indexing};
+use crate::{Names, NamesError, room_for};
 use gmpl_resolved as resolved;
 use gmpl_syntax::{
     Expr, Indexing, InputColumn, OutputColumn, SyntaxFaultKind, TableInput, TableOutput,
@@ -144,6 +144,7 @@ fn written_field(alloc: Global, value: &Expr, field: &Option<Text>) -> Result<Te
     }
 }
 
+#[tactic(auto, unfolding(crate::specs::Statements::output_column))]
 fn output_column(
     alloc: Global,
     objects: &Names,
@@ -187,12 +188,12 @@ fn records(
     ensures { Follows (spec.records objects.now file whole.now scope.old) result scope.new }
 {
     let before = scope.len();
-    let domain = resolve_indexing(alloc, objects, scope, &whole.domain)?;
+    let domain = boxed_indexing(alloc, objects, scope, &whole.domain)?;
     let columns = output_columns(alloc, objects, scope, whole.columns.as_slice())?;
     scope.truncate(before);
     Ok(resolved::Action::TableOutput(resolved::TableOutput {
         file: file.into_inner(),
-        domain,
+        domain: domain.into_inner(),
         columns,
     }))
 }
@@ -208,7 +209,7 @@ fn domain_alone(
     ensures { Follows (spec.domain_alone objects.now whole.now scope.old) result scope.new }
 {
     let before = scope.len();
-    resolve_indexing(alloc, objects, scope, whole)?;
+    boxed_indexing(alloc, objects, scope, whole)?;
     scope.truncate(before);
     Ok(())
 }
