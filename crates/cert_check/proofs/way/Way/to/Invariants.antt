@@ -1,5 +1,4 @@
 use Rattle.std.proofs.Common.{◌≡◌, ◌≤◌, ◌-◌}
-use Rattle.cert_check.specs.Walk.{Place}
 use Rattle.cert_check.proofs.way.Way.to.Given as goal
 
 abbrev pub invariant-loop-at : goal.invariant-loop-at
