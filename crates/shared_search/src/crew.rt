@@ -6,11 +6,11 @@ ghost use Rattle.shared_search.specs.Crews.{IsReady, numbers};
 
 use crate::gate::Gate;
 use crate::rounds::work;
+use crate::signals::Signals;
 use crate::task::Task;
 use crate::worker::Worker;
 use board_pool::SharedBoard;
 use std::alloc::Global;
-use std::sync::atomic::AtomicBool;
 use std::thread::{Threads, join_mut};
 use turn_pool::Pool;
 
@@ -22,7 +22,7 @@ pub(crate) fn work_all<R: Threads + Sync, G: Gate + Sync>(
     pool: &Pool<SharedBoard>,
     task: &Task,
     gate: &G,
-    halted: &AtomicBool,
+    signals: &Signals,
     workers: &mut [Worker],
 )
     requires task { IsTaskOf (first_in pool.now) task.now }
@@ -34,7 +34,7 @@ pub(crate) fn work_all<R: Threads + Sync, G: Gate + Sync>(
         return;
     }
     if workers.len() == 1 {
-        work(alloc, pool, task, gate, halted, &mut workers[0]);
+        work(alloc, pool, task, gate, signals, &mut workers[0]);
         return;
     }
     let (front, back) = workers.split_at_mut(workers.len() / 2);
@@ -43,10 +43,10 @@ pub(crate) fn work_all<R: Threads + Sync, G: Gate + Sync>(
         &mut ||
             requires { IsSync R.row × IsSync G.row × IsTaskOf (first_in pool.now) task.now × All (IsReady pool.now) front.now }
             ensures { All (IsReady pool.entry.now) front.exit.now × (map numbers front.exit.now ≡ map numbers front.entry.now) }
-        { work_all(rt, alloc, pool, task, gate, halted, front) },
+        { work_all(rt, alloc, pool, task, gate, signals, front) },
         &mut ||
             requires { IsSync R.row × IsSync G.row × IsTaskOf (first_in pool.now) task.now × All (IsReady pool.now) back.now }
             ensures { All (IsReady pool.entry.now) back.exit.now × (map numbers back.exit.now ≡ map numbers back.entry.now) }
-        { work_all(rt, alloc, pool, task, gate, halted, back) },
+        { work_all(rt, alloc, pool, task, gate, signals, back) },
     );
 }

@@ -119,11 +119,11 @@ fn settle(
     match treatment {
         Treatment::Refuted(weights) => {
             put_leaf(alloc, pool, pass, lease, Leaf::Refuted(weights))?;
-            Ok(Step::Made)
+            Ok(Step::Closed)
         }
         Treatment::Bounded(weights) => {
             put_leaf(alloc, pool, pass, lease, Leaf::Bounded(weights))?;
-            Ok(Step::Made)
+            Ok(Step::Closed)
         }
         Treatment::Feasible(found) => Ok(offered(alloc, pool, pass, lease, found)?),
         Treatment::ToSplit(fractional) => Ok(divided(alloc, pool, pass, lease, fractional)?),
@@ -164,7 +164,7 @@ fn offered(
     } = found;
     let _best = offer(alloc, pool, pass, point)?;
     put_leaf(alloc, pool, pass, lease, Leaf::Bounded(weights))?;
-    Ok(Step::Made)
+    Ok(Step::Closed)
 }
 
 // The leaf is split, where a split is granted; else it is given back as one that was treated, and the worker ends.
@@ -187,7 +187,7 @@ fn divided(
         return Ok(Step::Ended);
     }
     split(alloc, pool, pass, lease, fractional)?;
-    Ok(Step::Made)
+    Ok(Step::Split)
 }
 
 // The leaf is split.

@@ -6,6 +6,7 @@ mod crew;
 mod gate;
 mod leaves;
 mod rounds;
+mod signals;
 mod task;
 mod to_the_end;
 mod turns;

@@ -7,6 +7,7 @@ ghost use Rattle.shared_search.specs.Crews.{IsReady, numbers};
 
 use crate::gate::Gate;
 use crate::leaves::at_leaf;
+use crate::signals::Signals;
 use crate::task::Task;
 use crate::turns::{TRIES, ask};
 use crate::worker::{Step, Worker};
@@ -15,23 +16,21 @@ use branch_search::SearchFault;
 use candidate::Proposer;
 use sqlite_items::Boxed;
 use std::alloc::Global;
-use std::sync::atomic::AtomicBool;
-use std::sync::atomic::Ordering::SeqCst;
 use std::thread::yield_now;
 use turn_pool::{Pool, PoolFault};
 
-// So often a worker that has found no leaf lets others go before, until it asks again.
-const PAUSE: u32 = 1_000;
+// So often a worker that has found no leaf lets others go before, until it asks again without news.
+const PAUSE: u32 = 100_000;
 
-/// Works on leaf after leaf. A worker ends where no leaf is to be worked on and none is leased, where its leaf is to be split and
-/// no split is granted, where the gate sends it away, after many tries in a row, and where all are to end: at a fault, and for
+/// Works on leaf after leaf. A worker ends where no leaf is to be worked on and no one works on another, where its leaf is to be split
+/// and no split is granted, where the gate sends it away, after many tries in a row, and where all are to end: at a fault, and for
 /// want of memory.
 pub(crate) fn work<G: Gate>(
     alloc: Global,
     pool: &Pool<SharedBoard>,
     task: &Task,
     gate: &G,
-    halted: &AtomicBool,
+    signals: &Signals,
     worker: &mut Worker,
 )
     requires task { IsTaskOf (first_in pool.now) task.now }
@@ -40,7 +39,7 @@ pub(crate) fn work<G: Gate>(
     ensures numbers { numbers worker.new ≡ numbers worker.old }
 {
     let mut proposer = Proposer::new(alloc, task.pivot_limit, task.first_columns);
-    rounds(alloc, pool, task, gate, halted, worker, &mut proposer);
+    rounds(alloc, pool, task, gate, signals, worker, &mut proposer);
 }
 
 // Round after round.
@@ -49,7 +48,7 @@ fn rounds<G: Gate>(
     pool: &Pool<SharedBoard>,
     task: &Task,
     gate: &G,
-    halted: &AtomicBool,
+    signals: &Signals,
     worker: &mut Worker,
     proposer: &mut Proposer,
 )
@@ -61,15 +60,22 @@ fn rounds<G: Gate>(
     let mut left = TRIES;
     for turn in 0..u64::MAX {
         gate.arrive(worker.pass.own(), turn);
-        if halted.load(SeqCst) {
+        if signals.is_halted() {
             return;
         }
-        match round(alloc, pool, task, gate, turn, worker, proposer) {
-            Step::Made => left = TRIES,
+        match round(alloc, pool, task, gate, signals, turn, worker, proposer) {
+            Step::Closed => left = TRIES,
+            Step::Split => {
+                signals.tell_news();
+                left = TRIES;
+            }
             Step::Waits => left = left.saturating_sub(1),
-            Step::Ended => left = 0,
+            Step::Ended => {
+                signals.tell_news();
+                left = 0;
+            }
             Step::Halts => {
-                halted.store(true, SeqCst);
+                signals.halt();
                 left = 0;
             }
         }
@@ -85,6 +91,7 @@ fn round<G: Gate>(
     pool: &Pool<SharedBoard>,
     task: &Task,
     gate: &G,
+    signals: &Signals,
     turn: u64,
     worker: &mut Worker,
     proposer: &mut Proposer,
@@ -94,24 +101,30 @@ fn round<G: Gate>(
     ensures ready { IsReady pool.now worker.new }
     ensures numbers { numbers worker.new ≡ numbers worker.old }
 {
+    let heard = signals.news();
     match ask(alloc, pool, &mut worker.pass) {
         Ok(Asked::Leased(leaf)) => {
             if !gate.keep(worker.pass.own(), turn) {
+                signals.leave_behind();
                 return Step::Ended;
             }
             with_leaf(alloc, pool, task, worker, leaf, proposer)
         }
-        Ok(Asked::Idle(count)) => without_leaf(count),
+        Ok(Asked::Idle(leased)) => without_leaf(signals, heard, leased),
         Err(fault) => without_turn(fault),
     }
 }
 
-// No leaf is to be worked on, and so many are leased.
-fn without_leaf(leased: usize) -> Step {
-    if leased == 0 {
+// No leaf is to be worked on, and so many are leased. The worker waits for news after those that it had heard, or ends where no
+// one works on these leaves.
+fn without_leaf(signals: &Signals, heard: u64, leased: usize) -> Step {
+    if leased as u64 <= signals.left_behind() {
         return Step::Ended;
     }
     for _ in 0..PAUSE {
+        if signals.news() != heard || signals.is_halted() {
+            return Step::Waits;
+        }
         yield_now();
     }
     Step::Waits

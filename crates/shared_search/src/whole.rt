@@ -11,6 +11,7 @@ ghost use Rattle.shared_search.specs.Left.{IsLeft};
 
 use crate::crew::work_all;
 use crate::gate::Gate;
+use crate::signals::Signals;
 use crate::task::Task;
 use crate::worker::Worker;
 use board_pool::SharedBoard;
@@ -18,7 +19,6 @@ use branch_search::SearchFault;
 use certificate::DerivedRows;
 use instance::Instance;
 use std::alloc::{AllocError, Global};
-use std::sync::atomic::AtomicBool;
 use std::thread::Threads;
 use tree_pool::Board;
 use turn_pool::Pool;
@@ -163,8 +163,8 @@ fn run<R: Threads + Sync, G: Gate + Sync>(
     ensures ready { All (IsReady pool.now) crew.new.items }
     ensures numbers { map numbers crew.new.items ≡ map numbers crew.old.items }
 {
-    let halted = AtomicBool::new(false);
-    work_all(rt, alloc, pool, task, gate, &halted, crew.as_mut_slice());
+    let signals = Signals::new();
+    work_all(rt, alloc, pool, task, gate, &signals, crew.as_mut_slice());
 }
 
 // A worker for each number that the first one has not used, and the first one.
