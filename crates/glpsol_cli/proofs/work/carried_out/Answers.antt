@@ -1,10 +1,15 @@
 use Rattle.std.proofs.Common.{map, string_bytes}
 use Rattle.outside.specs.Causes.{Rose}
 use Rattle.glpsol_cli.specs.Pieces.{Outside}
-use Rattle.glpsol_cli.proofs.Carried.{stopped_written}
+use Rattle.glpsol_cli.proofs.Carried.{stopped_cause, stopped_written}
 use Rattle.glpsol_cli.proofs.Ended.{written_from_start}
 use Rattle.glpsol_cli.proofs.work.carried_out.Goals as goal
 use Rattle.glpsol_cli.proofs.Stories.{stopped_tells, tells_from_start}
+
+pub returns-in-Err-clause-cause : goal.returns-in-Err-clause-cause
+returns-in-Err-clause-cause g c =
+    stopped_cause (map string_bytes c.args.words.now) (g.S.Store.told c.args.files.now) (g.S.Store.told c.read_inputs.new.files) c.read_inputs.ensures.told (Rose (g.S.Store.faults c.args.files.now) (g.S.Store.faults c.read_inputs.new.files)) (Rose (g.O.Sink.faults c.args.out.now) (g.O.Sink.faults c.tell.new.out))
+    c.in-Err.stop c.in-Err.ensures.stop c.stop_answer.result c.tell.result c.stop_answer.ensures c.tell.ensures.same
 
 pub returns-in-Err-clause-written : goal.returns-in-Err-clause-written
 returns-in-Err-clause-written g c =
