@@ -1,5 +1,5 @@
 -- Which words are a command, and what it asks for.
-use Rattle.std.specs.Prelude.{ℕ, Bool, true, false, nat_le, ◌&&◌, ◌||◌, List, [], ◌∷◌, Some, None, unwrap_or, codes, if◌then◌else◌}
+use Rattle.std.specs.Prelude.{ℕ, Bool, true, false, not, nat_le, ◌&&◌, ◌||◌, List, [], ◌∷◌, Some, None, is_none, is_some, option_and_then, option_map, unwrap_or, codes, if◌then◌else◌}
 use Rattle.std.specs.declared.option.Option.{Option}
 use Rattle.std.specs.Option.{option_map_or}
 use Rattle.std.specs.Str.{bytes_eq}
@@ -7,11 +7,12 @@ use Rattle.std.specs.Char.{is_ascii_digit}
 use Rattle.std.specs.List.{list_all}
 use Rattle.std.specs.Str.Parse.{digits_value}
 use Rattle.clap.specs.Words.{Row, Text, all_of, first_of}
+use Rattle.made_problem.specs.Made.{size_of}
 use Rattle.milp.specs.declared.Direction.{Direction}
 use Rattle.milp.specs.declared.Direction.TheVariants.{Min, Max}
 use Rattle.command_line.specs.Options.{given, is_taken}
 use Rattle.command_line.specs.declared.settings.Language.{Language}
-use Rattle.command_line.specs.declared.settings.Language.TheVariants.{MathProg, FreeMps, CplexLp}
+use Rattle.command_line.specs.declared.settings.Language.TheVariants.{MathProg, FreeMps, CplexLp, Made}
 use Rattle.command_line.specs.declared.settings.Outputs.{Outputs}
 use Rattle.command_line.specs.declared.settings.Settings.{Settings}
 use Rattle.command_line.specs.declared.settings.Task.{Task}
@@ -26,18 +27,19 @@ None >>= f = None
 abbrev pub stands : Text → List Row → Bool
 stands flag rows = option_map_or (bytes_eq (codes "true")) (first_of flag rows) false
 
--- by the flags of the three languages, FILE, and the value of `--model`
-abbrev pub source_by : Bool → Bool → Bool → Option Text → Option Text → Option (Language × Text)
-source_by true false false (Some file) None = Some (MathProg, file)
-source_by false true false (Some file) None = Some (FreeMps, file)
-source_by false false true (Some file) None = Some (CplexLp, file)
-source_by false false false None (Some file) = Some (MathProg, file)
-source_by _ _ _ _ _ = None
+-- by the flags of the three languages, FILE, the value of `--model`, and the size of a made problem
+abbrev pub source_by : Bool → Bool → Bool → Option Text → Option Text → Option ℕ → Option (Language × Option Text)
+source_by true false false (Some file) None None = Some (MathProg, Some file)
+source_by false true false (Some file) None None = Some (FreeMps, Some file)
+source_by false false true (Some file) None None = Some (CplexLp, Some file)
+source_by false false false None (Some file) None = Some (MathProg, Some file)
+source_by false false false None None (Some size) = Some (Made size, None)
+source_by _ _ _ _ _ _ = None
 
--- the model's language and file: one language's flag with FILE, or `--model` alone
-abbrev pub source_in : List Row → Option (Language × Text)
-source_in rows =
-    source_by (stands (codes "math") rows) (stands (codes "freemps") rows) (stands (codes "lp") rows) (first_of (codes "FILE") rows) (first_of (codes "model") rows)
+-- the model's language and file: one language's flag with FILE, or `--model` alone; or `--demo` alone, of which there is no file
+abbrev pub source_in : Option ℕ → List Row → Option (Language × Option Text)
+source_in size rows =
+    source_by (stands (codes "math") rows) (stands (codes "freemps") rows) (stands (codes "lp") rows) (first_of (codes "FILE") rows) (first_of (codes "model") rows) size
 
 -- the values of an option that may stand any number of times, in order
 abbrev pub values_of : Text → List Row → List Text
@@ -71,7 +73,8 @@ direction_by false false = Some None
 abbrev pub direction_in : List Row → Option (Option Direction)
 direction_in rows = direction_by (stands (codes "min") rows) (stands (codes "max") rows)
 
--- the files to be written, that of the ranges among them, whether a subset is to be found, and whether the search may split on rows
+-- the files to be written, that of the ranges among them, whether a subset is to be found, whether the search may split on rows, and
+-- whether the report is a summary
 abbrev pub outputs_in : List Row → Outputs
 outputs_in rows = record {
   report = first_of (codes "output") rows;
@@ -80,6 +83,7 @@ outputs_in rows = record {
   subset = stands (codes "iis") rows;
   row_splits = stands (codes "rowsplit") rows;
   ranges = first_of (codes "ranges-exact") rows;
+  summary = is_some (first_of (codes "demo") rows);
 }
 
 -- the task, where no report, no solution, no ranges, no subset and no search is asked for
@@ -134,10 +138,31 @@ pivot_limit_in rows = limit_by 0 1000000 100000 (first_of (codes "pivlim") rows)
 abbrev pub workers_in : List Row → Option ℕ
 workers_in rows = limit_by 1 64 1 (first_of (codes "workers") rows)
 
--- what the options ask for: each part must be there
+abbrev pub size_by : Option Text → Option (Option ℕ)
+size_by None = Some None
+size_by (Some word) = option_map Some (option_and_then size_of (limit_of 1 2000 word))
+
+-- how many columns a made problem has: the value of `--demo`, where it is given
+abbrev pub size_in : List Row → Option (Option ℕ)
+size_in rows = size_by (first_of (codes "demo") rows)
+
+-- the solution is asked for alone: no file is to be written, no subset to be found, and no row to be split
+abbrev pub is_plain_task : Task → Bool
+is_plain_task (Solve outputs) = is_none outputs.report && (is_none outputs.solution && (is_none outputs.certificate && (is_none outputs.ranges && not (outputs.subset || outputs.row_splits))))
+is_plain_task Translate = false
+is_plain_task (CheckCertificate name migrated) = false
+
+abbrev pub allowed : Language → Settings → Option Settings
+allowed MathProg s = Some s
+allowed FreeMps s = Some s
+allowed CplexLp s = Some s
+allowed (Made size) s = if is_none s.direction && (not s.relaxed && is_plain_task s.task) then Some s else None
+
+-- what the options ask for: each part must be there; of a made problem nothing but its solution is asked for
 abbrev pub settings_in : List Row → Option Settings
 settings_in rows = do
-  source ← source_in rows
+  size ← size_in rows
+  source ← source_in size rows
   files ← data_in source.0 rows
   display ← display_in source.0 rows
   direction ← direction_in rows
@@ -145,7 +170,7 @@ settings_in rows = do
   pivot_limit ← pivot_limit_in rows
   workers ← workers_in rows
   task ← task_in rows
-  Some (record {
+  allowed source.0 (record {
     language = source.0;
     model = source.1;
     data_files = files;

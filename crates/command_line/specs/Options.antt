@@ -47,6 +47,7 @@ rules = file_rule
     ∷ option_rule (codes "nodlim")
     ∷ option_rule (codes "pivlim")
     ∷ option_rule (codes "workers")
+    ∷ option_rule (codes "demo")
     ∷ flag_rule (codes "iis")
     ∷ flag_rule (codes "rowsplit")
     ∷ option_rule (codes "ranges-exact")

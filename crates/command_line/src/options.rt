@@ -47,6 +47,7 @@ fn command<'a>(alloc: Global) -> Result<Command<'a>, AllocError>
         .arg(option(alloc, "nodlim"))?
         .arg(option(alloc, "pivlim"))?
         .arg(option(alloc, "workers"))?
+        .arg(option(alloc, "demo"))?
         .arg(flag(alloc, "iis"))?
         .arg(flag(alloc, "rowsplit"))?
         .arg(option(alloc, "ranges-exact"))

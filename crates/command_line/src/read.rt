@@ -2,16 +2,18 @@
 ghost use Rattle.std.specs.Char.{is_ascii_digit};
 ghost use Rattle.std.specs.List.{list_all};
 ghost use Rattle.std.specs.Str.Parse.{digits_value};
-ghost use Rattle.std.specs.Prelude.{◌≡◌, true, IfOk, IfErr, Some, None, map, string_bytes, option_map, codes, ℕ, List};
+ghost use Rattle.std.specs.Prelude.{◌≡◌, true, ◌&&◌, not, is_none, IfOk, IfErr, Some, None, map, string_bytes, option_and_then, option_map, codes, ℕ, List};
 ghost use Rattle.command_line.specs.Options.{given_in};
-ghost use Rattle.command_line.specs.Meaning.{settings_of, settings_in, source_in, source_by, data_in, data_by, display_in, display_by, values_of, direction_in, split_limit_in, pivot_limit_in, workers_in, limit_by, limit_of, is_numeral, limit_within, task_in, task_by, alone, checking, outputs_in, stands};
+ghost use Rattle.command_line.specs.Meaning.{settings_of, settings_in, allowed, is_plain_task, size_in, size_by, source_in, source_by, data_in, data_by, display_in, display_by, values_of, direction_in, split_limit_in, pivot_limit_in, workers_in, limit_by, limit_of, is_numeral, limit_within, task_in, task_by, alone, checking, outputs_in, stands};
 ghost use Rattle.clap.specs.Words.{all_of, first_of};
+ghost use Rattle.made_problem.specs.Made.{size_of};
 ghost use Rattle.command_line.specs.declared.settings.WordsFault.TheVariants.{Usage};
 
 use crate::options::matches_on;
 use crate::{DataFiles, Language, Outputs, Settings, Task, WordsFault};
 use clap::ArgMatches;
 use instance::{Direction, Name};
+use made_problem::Size;
 use std::alloc::{AllocError, Global};
 
 /// What the words after the program's name ask for. Which words are a command is `settings_of`'s to say: `clap`'s
@@ -33,7 +35,8 @@ fn settings_in(alloc: Global, matches: &ArgMatches<'_>) -> Result<Settings, Word
     ensures some { IfOk result (λ settings. settings_in (given_in matches.now) ≡ Some settings) }
     ensures none { IfErr result (λ fault. fault ≡ Usage → settings_in (given_in matches.now) ≡ None) }
 {
-    let (language, model) = source_in(alloc, matches)?;
+    let size = size_in(matches)?;
+    let (language, model) = source_in(alloc, size, matches)?;
     let data_files = data_in(alloc, language, matches)?;
     let display = display_in(alloc, language, matches)?;
     let direction = direction_in(matches).ok_or(WordsFault::Usage)?;
@@ -42,7 +45,7 @@ fn settings_in(alloc: Global, matches: &ArgMatches<'_>) -> Result<Settings, Word
     let pivot_limit = pivot_limit_in(matches).ok_or(WordsFault::Usage)?;
     let workers = workers_in(matches).ok_or(WordsFault::Usage)?;
     let task = task_in(alloc, matches)?;
-    Ok(Settings {
+    let settings = Settings {
         language,
         model,
         data_files,
@@ -53,20 +56,82 @@ fn settings_in(alloc: Global, matches: &ArgMatches<'_>) -> Result<Settings, Word
         pivot_limit,
         workers,
         task,
-    })
+    };
+    let settings = allowed(settings).ok_or(WordsFault::Usage)?;
+    Ok(settings)
+}
+
+// Of a made problem nothing but its solution is asked for.
+fn allowed(settings: Settings) -> Option<Settings>
+    ensures { result ≡ allowed settings.language settings }
+{
+    match settings.language {
+        Language::MathProg | Language::FreeMps | Language::CplexLp => Some(settings),
+        Language::Made(_) => {
+            if is_plain(&settings) {
+                Some(settings)
+            } else {
+                None
+            }
+        }
+    }
+}
+
+fn is_plain(settings: &Settings) -> bool
+    ensures { result ≡ (is_none settings.now.direction && (not settings.now.relaxed && is_plain_task settings.now.task)) }
+{
+    settings.direction.is_none() && !settings.relaxed && is_plain_task(&settings.task)
+}
+
+// The solution is asked for alone: no file is to be written, no subset to be found, and no row to be split.
+fn is_plain_task(task: &Task) -> bool
+    ensures { result ≡ is_plain_task task.now }
+{
+    match task {
+        Task::Solve(outputs) => {
+            outputs.report.is_none()
+                && outputs.solution.is_none()
+                && outputs.certificate.is_none()
+                && outputs.ranges.is_none()
+                && !(outputs.subset || outputs.row_splits)
+        }
+        Task::Translate => false,
+        Task::CheckCertificate { .. } => false,
+    }
+}
+
+// How many columns a made problem has, where one is asked for.
+fn size_in(matches: &ArgMatches<'_>) -> Result<Option<Size>, WordsFault>
+    ensures some { IfOk result (λ size. size_in (given_in matches.now) ≡ Some size) }
+    ensures none { IfErr result (λ fault. fault ≡ Usage → size_in (given_in matches.now) ≡ None) }
+{
+    match value_in(matches, "demo") {
+        Some(word) => Ok(Some(size_of(word).ok_or(WordsFault::Usage)?)),
+        None => Ok(None),
+    }
+}
+
+fn size_of(word: &str) -> Option<Size>
+    ensures { result ≡ option_and_then size_of (limit_of 1 2000 word.now) }
+{
+    Size::new(limit_of(1, 2_000, word)?)
 }
 
 // The model's language and its file.
-fn source_in(alloc: Global, matches: &ArgMatches<'_>) -> Result<(Language, Name), WordsFault>
-    ensures some { IfOk result (λ source. source_in (given_in matches.now) ≡ Some source) }
-    ensures none { IfErr result (λ fault. fault ≡ Usage → source_in (given_in matches.now) ≡ None) }
+fn source_in(
+    alloc: Global,
+    size: Option<Size>,
+    matches: &ArgMatches<'_>,
+) -> Result<(Language, Option<Name>), WordsFault>
+    ensures some { IfOk result (λ source. source_in size (given_in matches.now) ≡ Some source) }
+    ensures none { IfErr result (λ fault. fault ≡ Usage → source_in size (given_in matches.now) ≡ None) }
 {
     let file = name_in(alloc, matches, "FILE")?;
     let model = name_in(alloc, matches, "model")?;
     let math = stands(matches, "math");
     let free_mps = stands(matches, "freemps");
     let cplex_lp = stands(matches, "lp");
-    let source = source_by(math, free_mps, cplex_lp, file, model).ok_or(WordsFault::Usage)?;
+    let source = source_by(math, free_mps, cplex_lp, file, model, size).ok_or(WordsFault::Usage)?;
     Ok(source)
 }
 
@@ -76,14 +141,16 @@ fn source_by(
     cplex_lp: bool,
     file: Option<Name>,
     model: Option<Name>,
-) -> Option<(Language, Name)>
-    ensures { result ≡ source_by math free_mps cplex_lp file model }
+    size: Option<Size>,
+) -> Option<(Language, Option<Name>)>
+    ensures { result ≡ source_by math free_mps cplex_lp file model size }
 {
-    match (math, free_mps, cplex_lp, file, model) {
-        (true, false, false, Some(file), None) => Some((Language::MathProg, file)),
-        (false, true, false, Some(file), None) => Some((Language::FreeMps, file)),
-        (false, false, true, Some(file), None) => Some((Language::CplexLp, file)),
-        (false, false, false, None, Some(model)) => Some((Language::MathProg, model)),
+    match (math, free_mps, cplex_lp, file, model, size) {
+        (true, false, false, Some(file), None, None) => Some((Language::MathProg, Some(file))),
+        (false, true, false, Some(file), None, None) => Some((Language::FreeMps, Some(file))),
+        (false, false, true, Some(file), None, None) => Some((Language::CplexLp, Some(file))),
+        (false, false, false, None, Some(model), None) => Some((Language::MathProg, Some(model))),
+        (false, false, false, None, None, Some(size)) => Some((Language::Made(size), None)),
         _ => None,
     }
 }
@@ -107,7 +174,7 @@ fn data_by(language: Language, files: DataFiles) -> Option<DataFiles>
 {
     match language {
         Language::MathProg => Some(files),
-        Language::FreeMps | Language::CplexLp => {
+        Language::FreeMps | Language::CplexLp | Language::Made(_) => {
             if files.as_slice().is_empty() {
                 Some(files)
             } else {
@@ -296,6 +363,7 @@ fn outputs_in(alloc: Global, matches: &ArgMatches<'_>) -> Result<Outputs, AllocE
         subset: stands(matches, "iis"),
         row_splits: stands(matches, "rowsplit"),
         ranges: name_in(alloc, matches, "ranges-exact")?,
+        summary: value_in(matches, "demo").is_some(),
     })
 }
 

@@ -4,6 +4,7 @@ ghost use Rattle.command_line.specs.declared.settings.WordsFault.TheVariants.{No
 
 use crate::DataFiles;
 use instance::{Direction, Name};
+use made_problem::Size;
 use std::alloc::AllocError;
 use thiserror::Error;
 
@@ -12,8 +13,8 @@ use thiserror::Error;
 pub struct Settings {
     /// The language of the model's text.
     pub language: Language,
-    /// The model's file.
-    pub model: Name,
+    /// The model's file; a made problem has none.
+    pub model: Option<Name>,
     /// The data files of a MathProg model; none of the other languages has any.
     pub data_files: DataFiles,
     /// The file to which the texts of `display` and `printf` go, of a MathProg model alone; without one they are printed.
@@ -32,7 +33,7 @@ pub struct Settings {
     pub task: Task,
 }
 
-/// A language in which a model is written.
+/// A language in which a model is written, or that it is made.
 #[derive(Clone, Copy, Debug, PartialEq, Eq)]
 pub enum Language {
     /// GNU MathProg.
@@ -41,6 +42,8 @@ pub enum Language {
     FreeMps,
     /// CPLEX LP.
     CplexLp,
+    /// There is no text: the problem is made, of so many columns.
+    Made(Size),
 }
 
 /// What is to be done with a model.
@@ -74,6 +77,8 @@ pub struct Outputs {
     pub row_splits: bool,
     /// The file of the exact ranges of costs and bounds, at a best point.
     pub ranges: Option<Name>,
+    /// The report is a summary, without names and points.
+    pub summary: bool,
 }
 
 /// Why words gave no settings.

@@ -22,7 +22,7 @@ use Rattle.exact_ranges.specs.declared.fault.RangeFault.{RangeFault}
 use Rattle.solution_writer.specs.Report.{IsShownPoint}
 use Rattle.command_line.specs.declared.settings.Settings.{Settings}
 use Rattle.command_line.specs.declared.settings.Task.{Task}
-use Rattle.glpsol_cli.specs.Asked.{ToldNames, names_read, ranges_file, wants_ranges}
+use Rattle.glpsol_cli.specs.Asked.{ToldNames, sources_of, ranges_file, wants_ranges}
 use Rattle.glpsol_cli.specs.Pieces.{Piece, Outside, SameNames, WrittenUpTo, Whole}
 use Rattle.glpsol_cli.specs.Meaning.{Behind, Declared, End, IsAsked, Meaning, behind_at, behind_of, behind_with, found_pieces, meaning_in, meaning_of, saved_in}
 use Rattle.glpsol_cli.specs.Cause.{AreRanges, Cause, EndsBehind, HasRanges, HasSubset, LacksRanges, IsAccepted, IsProved, IsTranslated, OfCertificate, reached_of}
@@ -160,7 +160,7 @@ module _ (s : Settings) (texts : List (List ℕ)) where
     kept = h.is_end.1;
   }
 
-  pub subject_enough : (p : Problem) (later : Option Later) (h : IsSubject s texts p later) → length (names_read s) ≤ length texts
+  pub subject_enough : (p : Problem) (later : Option Later) (h : IsSubject s texts p later) → length (sources_of s) ≤ length texts
   subject_enough p later h = enough_read s texts h.text h.data_texts h.tables h.parts
 
 -- ---- from a problem on

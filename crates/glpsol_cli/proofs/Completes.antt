@@ -1,6 +1,6 @@
 -- Where nothing stands in the way: what the words ask for is what is answered.
-use Rattle.std.proofs.Common.{◌≡◌, ◌∙◌, ◌<◌, ◌≤◌, ◌⊎◌, ℕ, suc, List, [], ◌∷◌, ◌++◌, length, take, drop, Option, Some, None, refl, sym, ap, subst, inl, inr, arith}
-use Rattle.std.proofs.lemmas.List.{append-nil, append_assoc, length-append, length_push, take-append-le}
+use Rattle.std.proofs.Common.{◌≡◌, ◌∙◌, ◌<◌, ◌≤◌, ◌⊎◌, ℕ, suc, List, [], ◌∷◌, ◌++◌, length, map, take, drop, Option, Some, None, refl, sym, ap, subst, inl, inr, arith}
+use Rattle.std.proofs.lemmas.List.{append-nil, append_assoc, length-append, length-map, length_push, take-append-le}
 use Rattle.std.proofs.Math.Seq.{drop-append_seam}
 use Rattle.std.specs.Prelude.{Result, Ok, Err, slice_get}
 use Rattle.std.specs.Option.{option_map}
@@ -26,12 +26,12 @@ use Rattle.command_line.specs.Meaning.{settings_of}
 use Rattle.command_line.specs.declared.settings.Settings.{Settings}
 use Rattle.command_line.specs.declared.settings.Task.{Task}
 use Rattle.command_line.specs.declared.settings.Task.TheVariants.{Solve, Translate, CheckCertificate}
-use Rattle.glpsol_cli.specs.Asked.{ToldNames, AreTexts, IsInTurn, IsTextOf, Solves, IsSolve, names_checked, names_read}
+use Rattle.glpsol_cli.specs.Asked.{ToldNames, AreTexts, IsInTurn, IsTextOf, IsTextFrom, Solves, IsSolve, names_checked, sources_of}
 use Rattle.glpsol_cli.specs.Pieces.{told_behind}
 use Rattle.glpsol_cli.specs.Meaning.{Declared, Faulty, Wanting, Meaning, end_in, ends_in, files_behind, meaning_in, meaning_of, IsAsked, IsRefused}
 use Rattle.glpsol_cli.specs.Texts.{AreTables, IsTableInTurn, OfFile, OfTexts}
 use Rattle.glpsol_cli.specs.Cause.{Cause, EndsBehind, EndsWithoutRanges, HasRanges, HasSubset, LacksRanges, IsNotLinear, OfCertificate, IsAccepted, IsNoCertificate, IsRefusedAt, IsCheckOverflow, IsUndecided, IsTranslated, IsProved, IsOverflow, RoseAt}
-use Rattle.glpsol_cli.specs.Complete.{AreTablesTold, AreTold, IsComplete, IsTableTold, IsToldShort, IsVerdictOrNoMemory, IsRecheck, IsAcceptedOrFault}
+use Rattle.glpsol_cli.specs.Complete.{AreTablesTold, AreTold, IsToldFrom, IsComplete, IsTableTold, IsToldShort, IsVerdictOrNoMemory, IsRecheck, IsAcceptedOrFault}
 use Rattle.glpsol_cli.specs.declared.answer.Answer.{Answer}
 use Rattle.glpsol_cli.specs.declared.answer.Answer.TheVariants.{Optimal, Ranged, Infeasible, Irreducible, Unbounded, Translated, Accepted, Usage, Missing, OpenFault, ReadFault, WriteFault, TooLong, BadText, FaultBehindSolve, Unranged, BadCertificate, NotLinear, Overflow, Undecided, Refused, NoMemory}
 use Rattle.glpsol_cli.specs.declared.answer.Limit.{Limit}
@@ -47,13 +47,17 @@ use Rattle.glpsol_cli.proofs.Reports.{declared_same}
 -- ---- told files
 
 -- the texts of told files are those that are told
-texts_same : (told : ToldNames) (names texts others : List (List ℕ)) → AreTold told names texts → AreTexts told names others → others ≡ texts
+text_same : (told : ToldNames) (source : Option (List ℕ)) (text other : List ℕ) → IsToldFrom told source text → IsTextFrom told source other → other ≡ text
+text_same told None text other has read = read ∙ sym has
+text_same told (Some name) text other has read = sym (read.is text has.0)
+
+texts_same : (told : ToldNames) (sources : List (Option (List ℕ))) (texts others : List (List ℕ)) → AreTold told sources texts → AreTexts told sources others → others ≡ texts
 texts_same told [] [] [] has read = refl
 texts_same told [] [] (text ∷ others) has read = absurd read
 texts_same told [] (text ∷ texts) others has read = absurd has
-texts_same told (name ∷ names) [] others has read = absurd has
-texts_same told (name ∷ names) (text ∷ texts) [] has read = absurd read
-texts_same told (name ∷ names) (text ∷ texts) (other ∷ others) has read = two text other texts others (sym (read.0.is text has.0)) (texts_same told names texts others has.2 read.1)
+texts_same told (source ∷ sources) [] others has read = absurd has
+texts_same told (source ∷ sources) (text ∷ texts) [] has read = absurd read
+texts_same told (source ∷ sources) (text ∷ texts) (other ∷ others) has read = two text other texts others (text_same told source text other has.0 read.0) (texts_same told sources texts others has.1 read.1)
   where
     two : (a b : List ℕ) (xs ys : List (List ℕ)) → b ≡ a → ys ≡ xs → b ∷ ys ≡ a ∷ xs
     two a b xs ys e f = cc
@@ -64,11 +68,11 @@ record ToldShort (told : ToldNames) (name : List ℕ) : Type 0 where
   has : Has (told name) text
   within : length text ≤ 67108864
 
-told_short : (told : ToldNames) (before : List (List ℕ)) (name : List ℕ) (after texts : List (List ℕ)) → AreTold told (before ++ name ∷ after) texts → ToldShort told name
+told_short : (told : ToldNames) (before : List (Option (List ℕ))) (name : List ℕ) (after : List (Option (List ℕ))) (texts : List (List ℕ)) → AreTold told (before ++ Some name ∷ after) texts → ToldShort told name
 told_short told [] name after [] has = absurd has
-told_short told [] name after (text ∷ texts) has = record { text = text; has = has.0; within = has.1 }
+told_short told [] name after (text ∷ texts) has = record { text = text; has = has.0.0; within = has.0.1 }
 told_short told (other ∷ before) name after [] has = absurd has
-told_short told (other ∷ before) name after (text ∷ texts) has = told_short told before name after texts has.2
+told_short told (other ∷ before) name after (text ∷ texts) has = told_short told before name after texts has.1
 
 -- ---- words of these settings, with told files
 
@@ -146,12 +150,12 @@ follow told s texts (text ∷ tables) (other ∷ others) has over read = by (fol
       | inr more ↦ inr (subst (NextTold told s) (append_assoc texts (text ∷ []) others ∙ ap (λ t. texts ++ t ∷ others) (sym same)) more)
     ]
 
-module _ (words : List (List ℕ)) (told : ToldNames) (settings : Settings) (texts tables : List (List ℕ)) (asks : settings_of words ≡ Some settings) (has : AreTold told (names_read settings) texts) (tables_told : AreTablesTold told settings texts tables) (over : IsOver settings (texts ++ tables)) where
+module _ (words : List (List ℕ)) (told : ToldNames) (settings : Settings) (texts tables : List (List ℕ)) (asks : settings_of words ≡ Some settings) (has : AreTold told (sources_of settings) texts) (tables_told : AreTablesTold told settings texts tables) (over : IsOver settings (texts ++ tables)) where
   settings_same : (P : Settings → List (List ℕ) → Type 0) (of : OfTexts words told P) → of.settings ≡ settings
   settings_same P of = some_same of.settings settings (sym of.asks ∙ asks)
 
   first_same : (P : Settings → List (List ℕ) → Type 0) (of : OfTexts words told P) → of.texts ≡ texts
-  first_same P of = texts_same told (names_read settings) texts of.texts has (subst (λ (s : Settings). AreTexts told (names_read s) of.texts) (settings_same P of) of.read)
+  first_same P of = texts_same told (sources_of settings) texts of.texts has (subst (λ (s : Settings). AreTexts told (sources_of s) of.texts) (settings_same P of) of.read)
 
   followed : (P : Settings → List (List ℕ) → Type 0) (of : OfTexts words told P) → (of.tables ≡ tables) ⊎ NextTold told settings (texts ++ of.tables)
   followed P of = follow told settings texts tables of.tables tables_told over (subst (λ ts. AreTables told settings ts of.tables) (first_same P of) (subst (λ (s : Settings). AreTables told s of.texts of.tables) (settings_same P of) of.tables_read))
@@ -177,7 +181,7 @@ module _ (words : List (List ℕ)) (told : ToldNames) (settings : Settings) (tex
   in_turn : (name : List ℕ) → IsInTurn words told name → ToldShort told name
   in_turn name turn =
       let same : turn.settings ≡ settings = some_same turn.settings settings (sym turn.asks ∙ asks) in
-      told_short told turn.before name turn.after texts (subst (λ names. AreTold told names texts) (subst (λ (s : Settings). names_read s ≡ turn.before ++ name ∷ turn.after) same turn.is) has)
+      told_short told turn.before name turn.after texts (subst (λ sources. AreTold told sources texts) (subst (λ (s : Settings). sources_of s ≡ turn.before ++ Some name ∷ turn.after) same turn.is) has)
 
   file_told : (name : List ℕ) (r : Reached) (P : Option (Option (List ℕ)) → Type 0) → OfFile words told name r P → FileTold P
   file_told name Nothing P h = let short = in_turn name h.0 in record { text = short.text; said = record { now = told name; first = h.1; second = (short.has, short.within) } }
@@ -327,11 +331,11 @@ ok_same c d e = cc
 ok_err : (c : Certificate) (f : CertFault) → ◌≡◌ {A = Result Certificate CertFault} (Ok c) (Err f) → ⊥
 ok_err c f e = cc
 
-told_many : (told : ToldNames) (names texts : List (List ℕ)) → AreTold told names texts → length texts ≡ length names
+told_many : (told : ToldNames) (sources : List (Option (List ℕ))) (texts : List (List ℕ)) → AreTold told sources texts → length texts ≡ length sources
 told_many told [] [] h = refl
 told_many told [] (text ∷ texts) h = absurd h
-told_many told (name ∷ names) [] h = absurd h
-told_many told (name ∷ names) (text ∷ texts) h = ap suc (told_many told names texts h.2)
+told_many told (source ∷ sources) [] h = absurd h
+told_many told (source ∷ sources) (text ∷ texts) h = ap suc (told_many told sources texts h.1)
 
 -- the meaning of texts by their parts
 meaning_by : (s : Settings) (text : List ℕ) (others tables : List (List ℕ)) → length others ≡ files_behind s → meaning_of s ((text ∷ others) ++ tables) ≡ Some (meaning_in s text (take (length s.data_files) others) tables)
@@ -374,7 +378,9 @@ undecided_solves (Splits wanted board) s texts h = h.solves
 module _ (c : Certificate) (again : List (List ℕ)) (told : ToldNames) (files_rose out_rose : Type 0) (k : IsRecheck c again told) (read_back : read_of (certificate_text c) ≡ Ok c) where
   as_many : length k.texts ≡ suc (length k.settings.data_files)
   as_many =
-      let all : length (k.texts ++ certificate_text c ∷ []) ≡ suc (length (k.settings.data_files ++ k.name ∷ [])) = told_many told (k.settings.model ∷ (k.settings.data_files ++ k.name ∷ [])) (k.texts ++ certificate_text c ∷ []) k.has in
+      let all : length (k.texts ++ certificate_text c ∷ []) ≡ suc (length (k.settings.data_files ++ k.name ∷ [])) =
+          told_many told (k.settings.model ∷ map Some (k.settings.data_files ++ k.name ∷ [])) (k.texts ++ certificate_text c ∷ []) k.has
+          ∙ ap suc (length-map Some (k.settings.data_files ++ k.name ∷ [])) in
       let texts = length_push k.texts (certificate_text c) in
       let names = length_push k.settings.data_files k.name in
       omega (arith, all, texts, names)

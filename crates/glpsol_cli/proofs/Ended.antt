@@ -5,7 +5,7 @@ use Rattle.std.specs.Prelude.{Err}
 use Rattle.outside.specs.Causes.{Rose}
 use Rattle.outside.specs.Told.{AppendsPrefix}
 use Rattle.command_line.specs.declared.settings.Settings.{Settings}
-use Rattle.glpsol_cli.specs.Asked.{ToldNames, AreTexts, names_read}
+use Rattle.glpsol_cli.specs.Asked.{ToldNames, AreTexts, sources_of}
 use Rattle.glpsol_cli.specs.Pieces.{Piece, Outside, AllWritten, IsWrittenInPart, SameNames, told_behind}
 use Rattle.glpsol_cli.specs.Meaning.{HasDone, HasFound, Meaning, files_behind, files_by, made_in, meaning_in}
 use Rattle.glpsol_cli.specs.Texts.{IsTableInTurn, OfPieces, OfTexts}
@@ -28,7 +28,7 @@ use Rattle.glpsol_cli.specs.declared.publish.PublishFault.TheVariants.{Write, Cu
 use Rattle.glpsol_cli.specs.declared.stop.Unread.{Unread as UnreadFile}
 use Rattle.glpsol_cli.proofs.Answers.{cause_of_texts, cause_within, of_texts, pieces_of_texts, table_cause, table_written}
 use Rattle.glpsol_cli.proofs.Carried.{left_in, unwritten_line}
-use Rattle.glpsol_cli.proofs.FilesRead.{as_many}
+use Rattle.glpsol_cli.proofs.FilesRead.{as_many, many_sources}
 use Rattle.glpsol_cli.proofs.Follow.{rose_within}
 use Rattle.glpsol_cli.proofs.Parts.{means_of, of_read, read_first, says_as, unread_of_less}
 use Rattle.glpsol_cli.proofs.Writing.{failed_within, line_after, line_from, nothing}
@@ -121,11 +121,12 @@ module _ (words : List (List ℕ)) (told : ToldNames) (inputs : Inputs) (are : A
   abbrev start : Moment
   start = record { outside = now.outside; files = count; out = now.out }
 
-  long_enough : (texts others : List (List ℕ)) (text : List ℕ) → texts ≡ text ∷ others → AreTexts told (names_read inputs.settings) texts → length others ≡ files_behind inputs.settings
+  long_enough : (texts others : List (List ℕ)) (text : List ℕ) → texts ≡ text ∷ others → AreTexts told (sources_of inputs.settings) texts → length others ≡ files_behind inputs.settings
   long_enough texts others text is read =
-      let many : length texts ≡ length (names_read inputs.settings) = as_many told (names_read inputs.settings) texts read in
+      let many : length texts ≡ length (sources_of inputs.settings) = as_many told (sources_of inputs.settings) texts read in
       let long : length texts ≡ length (text ∷ others) = ap length is in
-      omega (arith, many, long)
+      let sources = many_sources inputs.settings in
+      omega (arith, many, long, sources)
 
   none_left : (n : ℕ) (xs : List (List ℕ)) → length xs ≡ n → drop n xs ≡ []
   none_left n xs e = subst (λ k. drop k xs ≡ []) e (drop_whole xs)

@@ -8,7 +8,8 @@ use Rattle.outside.specs.Told.{Has}
 use Rattle.outside.specs.declared.store.LoadFault.{LoadFault}
 use Rattle.outside.specs.declared.store.LoadFault.TheVariants.{Missing, Open, Read, TooLong, NoMemory as LoadNoMemory}
 use Rattle.command_line.specs.declared.settings.Settings.{Settings}
-use Rattle.glpsol_cli.specs.Asked.{ToldNames, IsTextOf, names_checked, names_read}
+use Rattle.glpsol_cli.proofs.FilesRead.{many_sources}
+use Rattle.glpsol_cli.specs.Asked.{ToldNames, IsTextOf, names_checked, sources_of}
 use Rattle.glpsol_cli.specs.Pieces.{Piece, Outside, AllWritten, IsWritten, SameNames, Says, told_behind, told_made, told_written}
 use Rattle.glpsol_cli.specs.Meaning.{files_behind, meaning_in, meaning_of}
 use Rattle.glpsol_cli.specs.Texts.{AreTables, IsTableText, OfTexts}
@@ -93,8 +94,8 @@ module _ (s : Settings) (texts : List (List ℕ)) (text : List ℕ) (data_texts 
       }
 
   -- there are as many texts as names that are read, or more
-  pub enough_read : length (names_read s) ≤ length texts
-  enough_read = let within = h.enough in subst (λ ts. length (names_read s) ≤ length ts) (sym h.are) (omega (arith, within))
+  pub enough_read : length (sources_of s) ≤ length texts
+  enough_read = let within = h.enough in let many = many_sources s in subst (λ ts. length (sources_of s) ≤ length ts) (sym h.are) (omega (arith, within, many))
 
 -- ---- texts that were read
 

@@ -15,12 +15,13 @@ use Rattle.cert_check.specs.Parts.{point_answer, value_answer, ray_rows_answer, 
 use Rattle.cert_check.specs.Outcome.{Outcome, Acceptance, Refusal, Fault, judged, outcome, trials, verdict_trials, value_trials, ray_trials, tree_trials, form_goal}
 use Rattle.gmpl_generate.specs.Solved.{RowsFit}
 use Rattle.solution_writer.specs.Subset.{subset_report}
-use Rattle.solution_writer.specs.Report.{IsShownPoint, HasParts, IsReportable, solved_report, verdict_report, optimal_at, unbounded_at, optimal_report, unbounded_report, translated_report}
+use Rattle.solution_writer.specs.Report.{IsShownPoint, HasParts, IsReportable, solved_report, verdict_report, summary_by, optimal_summary, optimal_at, unbounded_at, optimal_report, unbounded_report, translated_report}
 use Rattle.std.specs.Option.{option_map}
 use Rattle.command_line.specs.declared.settings.Settings.{Settings}
 use Rattle.command_line.specs.declared.settings.Task.{Task}
+use Rattle.glpsol_cli.specs.Asked.{wants_summary}
 use Rattle.glpsol_cli.specs.Pieces.{Piece}
-use Rattle.glpsol_cli.specs.Meaning.{Declared, IsAsked, accepted_pieces, found_pieces, printed, solved_pieces, whole_report}
+use Rattle.glpsol_cli.specs.Meaning.{Declared, IsAsked, accepted_pieces, found_pieces, printed, report_by, solved_pieces, whole_report}
 use Rattle.glpsol_cli.specs.Stages.{IsFinding, IsShown, reached_by}
 use Rattle.glpsol_cli.specs.declared.found.Finding.{Finding}
 use Rattle.glpsol_cli.specs.declared.found.Finding.TheVariants.{Size, Acceptance as AcceptanceFound, Verdict as VerdictFound, Subset as SubsetFound}
@@ -140,8 +141,18 @@ module _ (p : Problem) where
   report_there c Infeasible h = (codes "INFEASIBLE\n", refl)
   report_there c Unbounded h = unbounded_there c.point c.ray h.0 h.1
 
-pub has_report : (p : Problem) (c : Certificate) → IsReportable p c → (report : List ℕ) × (solved_report p c ≡ Some report)
-has_report p c h = report_there p c c.verdict h
+  summary_there : (c : Certificate) (v : Verdict) → HasParts p c v → (report : List ℕ) × (summary_by p c v ≡ Some report)
+  summary_there c Optimal h = value_there c.value h.0
+    where
+      value_there : (value : Option Rational) → IsSome value → (report : List ℕ) × (optimal_summary p value ≡ Some report)
+      value_there None h = absurd h
+      value_there (Some value) h = (_, refl)
+  summary_there c Infeasible h = (_, refl)
+  summary_there c Unbounded h = (_, refl)
+
+pub has_report : (summary : Bool) (p : Problem) (c : Certificate) → IsReportable p c → (report : List ℕ) × (report_by summary p c ≡ Some report)
+has_report true p c h = summary_there p c c.verdict h
+has_report false p c h = report_there p c c.verdict h
 
 -- ---- what is found has pieces
 
@@ -158,6 +169,6 @@ pub shown_pieces : (task : Task) (p : Problem) (f : Finding) → IsShown task p 
 shown_pieces task p Size h = (printed (translated_report p), refl)
 shown_pieces task p (AcceptanceFound c) h = (accepted_pieces task p c, refl)
 shown_pieces task p (VerdictFound c) h =
-    let report = has_report p c h.0 in
-    (solved_pieces task p c report.0, ap (λ lacks. option_map (solved_pieces task p c) (whole_report lacks p c)) h.1 ∙ ap (option_map (solved_pieces task p c)) report.1)
+    let report = has_report (wants_summary task) p c h.0 in
+    (solved_pieces task p c report.0, ap (λ lacks. option_map (solved_pieces task p c) (whole_report lacks task p c)) h.1 ∙ ap (option_map (solved_pieces task p c)) report.1)
 shown_pieces task p (SubsetFound c w) h = (solved_pieces task p c (subset_report p w.witnesses), refl)

@@ -21,7 +21,7 @@ use Rattle.glpsol_cli.specs.declared.answer.Reached.TheVariants.{Verdict}
 no_report : (task : Task) (p : Problem) (c : Certificate) → wants_subset task ≡ true → c.verdict ≡ kind.Infeasible → (found : List Piece) → found_pieces task p (Verdict c) ≡ Some found → ⊥
 no_report task p c wants is found are =
     let lacks : lacks_subset (wants_subset task) c.verdict ≡ true = ap (lacks_subset (wants_subset task)) is ∙ wants in
-    none_some found (sym (ap (λ b. option_map (solved_pieces task p c) (whole_report b p c)) lacks) ∙ are)
+    none_some found (sym (ap (λ b. option_map (solved_pieces task p c) (whole_report b task p c)) lacks) ∙ are)
   where
     none_some : (ps : List Piece) → None ≡ Some ps → ⊥
     none_some ps e = cc

@@ -23,7 +23,8 @@ use Rattle.command_line.specs.declared.settings.Outputs.{Outputs}
 use Rattle.command_line.specs.declared.settings.Settings.{Settings}
 use Rattle.command_line.specs.declared.settings.Task.{Task}
 use Rattle.command_line.specs.declared.settings.Task.TheVariants.{Solve, CheckCertificate}
-use Rattle.glpsol_cli.specs.Asked.{Checks, Solves, IsSolve, names_checked, names_read, splits_rows, wants_subset}
+use Rattle.glpsol_cli.proofs.FilesRead.{many_sources}
+use Rattle.glpsol_cli.specs.Asked.{Checks, Solves, IsSolve, names_checked, sources_of, splits_rows, wants_subset}
 use Rattle.glpsol_cli.specs.Meaning.{Declared, Faulty, Wanting, IsAsked, asked_of, directed, end_of_ending, ends_in, file_piece, file_pieces, files_by, lacks_subset, made_in, relaxed, shown_by}
 use Rattle.glpsol_cli.specs.Cause.{IsProved, OfCertificate, IsNoCertificate, IsRefusedAt, IsCheckOverflow}
 use Rattle.glpsol_cli.specs.Stages.{IsFinding, IsRangeable, IsRefuted, IsSolution, IsUnfound, IsUnsolved, IsExecution, IsExecutionOf, IsHalt, IsOfReading, IsOfReadingEnd, IsCheckStop, OfNext}
@@ -179,11 +180,12 @@ pub checks_by : {name : List ℕ} {migrated : Option (List ℕ)} (task : Task) �
 checks_by task e = ap names_checked e
 
 -- there is a text behind those of the data files
-pub one_behind : (s : Settings) (name : List ℕ) (count : ℕ) → Checks s name → length (names_read s) ≤ count → suc (length s.data_files) < count
+pub one_behind : (s : Settings) (name : List ℕ) (count : ℕ) → Checks s name → length (sources_of s) ≤ count → suc (length s.data_files) < count
 one_behind s name count is h =
     let both = length-append s.data_files (names_checked s.task) in
     let one : length (names_checked s.task) ≡ 1 = ap length is in
-    omega (arith, h, both, one)
+    let many = many_sources s in
+    omega (arith, h, both, one, many)
 
 text_at : {X : Type 0} (f : X → List ℕ) (xs : List X) (m : ℕ) (x : X) → m < length xs → x ≡ get_or xs m x → slice_get (map f xs) m ≡ Some (f x)
 text_at f [] m x within e = absurd (omega (arith, within))

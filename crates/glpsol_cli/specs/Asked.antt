@@ -1,5 +1,5 @@
 -- What a command asks for, by its words alone, and the files that it reads.
-use Rattle.std.specs.Prelude.{◌≡◌, ◌≤◌, ◌||◌, ℕ, Bool, true, false, List, [], ◌∷◌, ◌++◌, length, is_some, Some, None}
+use Rattle.std.specs.Prelude.{◌≡◌, ◌≤◌, ◌||◌, ℕ, Bool, true, false, List, [], ◌∷◌, ◌++◌, length, map, is_some, Some, None}
 use Rattle.std.specs.declared.option.Option.{Option}
 use Rattle.outside.specs.Told.{Lacks, Has}
 use Rattle.command_line.specs.Meaning.{settings_of}
@@ -65,6 +65,12 @@ splits_rows (Solve outputs) = outputs.row_splits
 splits_rows Translate = false
 splits_rows (CheckCertificate name migrated) = false
 
+-- the report is a summary, without names and points
+abbrev pub wants_summary : Task → Bool
+wants_summary (Solve outputs) = outputs.summary
+wants_summary Translate = false
+wants_summary (CheckCertificate name migrated) = false
+
 -- ---- the files that are read
 
 -- the certificate that is to be checked is read last
@@ -77,26 +83,31 @@ names_checked (CheckCertificate name migrated) = name ∷ []
 abbrev pub Checks : Settings → List ℕ → Type 0
 Checks s name = names_checked s.task ≡ name ∷ []
 
--- the names of the files that are read, in order: the model, the data files, and the certificate that is to be checked
-abbrev pub names_read : Settings → List (List ℕ)
-names_read s = s.model ∷ (s.data_files ++ names_checked s.task)
+-- Where the texts come from, in order: the model, the data files, and the certificate that is to be checked. Each comes from the file
+-- of a name; a made problem has no file, and an empty text in the place of a model's.
+abbrev pub sources_of : Settings → List (Option (List ℕ))
+sources_of s = s.model ∷ map Some (s.data_files ++ names_checked s.task)
 
 -- a file isn't told missing, and its text, where it is told, isn't too long
 pub record IsThere (told : Option (Option (List ℕ))) : Type 0 where
   pub there : Lacks told → ⊥
   pub within : (text : List ℕ) → Has told text → length text ≤ 67108864
 
-abbrev pub AreThere : ToldNames → List (List ℕ) → Type 0
+abbrev pub IsSourceThere : ToldNames → Option (List ℕ) → Type 0
+IsSourceThere told None = Unit {0}
+IsSourceThere told (Some name) = IsThere (told name)
+
+abbrev pub AreThere : ToldNames → List (Option (List ℕ)) → Type 0
 AreThere told [] = Unit {0}
-AreThere told (name ∷ names) = IsThere (told name) × AreThere told names
+AreThere told (source ∷ sources) = IsSourceThere told source × AreThere told sources
 
 -- the file of this name is read in its turn: all before it are there
 pub record IsInTurn (words : List (List ℕ)) (told : ToldNames) (name : List ℕ) : Type 0 where
   pub settings : Settings
   pub asks : settings_of words ≡ Some settings
-  pub before : List (List ℕ)
-  pub after : List (List ℕ)
-  pub is : names_read settings ≡ before ++ name ∷ after
+  pub before : List (Option (List ℕ))
+  pub after : List (Option (List ℕ))
+  pub is : sources_of settings ≡ before ++ Some name ∷ after
   pub there : AreThere told before
 
 -- a file is there, and this is its text, which isn't too long; where the store tells nothing of it, some such text
@@ -105,9 +116,13 @@ pub record IsTextOf (told : Option (Option (List ℕ))) (text : List ℕ) : Type
   pub short : length text ≤ 67108864
   pub is : (bytes : List ℕ) → Has told bytes → bytes ≡ text
 
--- the texts of the files of these names
-abbrev pub AreTexts : ToldNames → List (List ℕ) → List (List ℕ) → Type 0
+-- the text that comes from there
+abbrev pub IsTextFrom : ToldNames → Option (List ℕ) → List ℕ → Type 0
+IsTextFrom told None text = text ≡ []
+IsTextFrom told (Some name) text = IsTextOf (told name) text
+
+abbrev pub AreTexts : ToldNames → List (Option (List ℕ)) → List (List ℕ) → Type 0
 AreTexts told [] [] = Unit {0}
 AreTexts told [] (text ∷ texts) = ⊥
-AreTexts told (name ∷ names) [] = ⊥
-AreTexts told (name ∷ names) (text ∷ texts) = IsTextOf (told name) text × AreTexts told names texts
+AreTexts told (source ∷ sources) [] = ⊥
+AreTexts told (source ∷ sources) (text ∷ texts) = IsTextFrom told source text × AreTexts told sources texts

@@ -1,5 +1,5 @@
 -- When a run gives a verdict, and when a certificate that it wrote is accepted: where no cause of another answer is there.
-use Rattle.std.specs.Prelude.{◌≡◌, ◌≤◌, ℕ, true, List, [], ◌∷◌, ◌++◌, length, Some, None}
+use Rattle.std.specs.Prelude.{◌≡◌, ◌≤◌, ℕ, true, List, [], ◌∷◌, ◌++◌, length, map, Some, None}
 use Rattle.std.specs.declared.option.Option.{Option}
 use Rattle.rational.specs.Rational.{Rational}
 use Rattle.milp.specs.Problem.{Problem}
@@ -17,7 +17,7 @@ use Rattle.outside.specs.Told.{Has}
 use Rattle.command_line.specs.Meaning.{settings_of}
 use Rattle.command_line.specs.declared.settings.Settings.{Settings}
 use Rattle.command_line.specs.declared.settings.Task.TheVariants.{CheckCertificate}
-use Rattle.glpsol_cli.specs.Asked.{ToldNames, Solves, names_read, wants_linear}
+use Rattle.glpsol_cli.specs.Asked.{ToldNames, Solves, sources_of, wants_linear}
 use Rattle.glpsol_cli.specs.Meaning.{Meaning, IsAsked, meaning_of}
 use Rattle.glpsol_cli.specs.Texts.{IsTableInTurn}
 use Rattle.glpsol_cli.specs.Cause.{IsOverflow, IsUndecided, IsProved, LacksRanges}
@@ -26,16 +26,20 @@ use Rattle.glpsol_cli.specs.declared.answer.Answer.TheVariants.{Optimal, Ranged,
 use Rattle.glpsol_cli.specs.declared.answer.Limit.{Limit}
 use Rattle.glpsol_cli.specs.declared.answer.OverflowSite.{OverflowSite}
 
--- the files of these names are told with these texts, and none is too long
-abbrev pub AreTold : ToldNames → List (List ℕ) → List (List ℕ) → Type 0
-AreTold told [] [] = Unit {0}
-AreTold told [] (text ∷ texts) = ⊥
-AreTold told (name ∷ names) [] = ⊥
-AreTold told (name ∷ names) (text ∷ texts) = Has (told name) text × (length text ≤ 67108864) × AreTold told names texts
-
 -- it is told with this text, which isn't too long
 abbrev pub IsToldShort : List ℕ → Option (Option (List ℕ)) → Type 0
 IsToldShort text told = Has told text × (length text ≤ 67108864)
+
+abbrev pub IsToldFrom : ToldNames → Option (List ℕ) → List ℕ → Type 0
+IsToldFrom told None text = text ≡ []
+IsToldFrom told (Some name) text = IsToldShort text (told name)
+
+-- the files of these sources are told with these texts, and none is too long
+abbrev pub AreTold : ToldNames → List (Option (List ℕ)) → List (List ℕ) → Type 0
+AreTold told [] [] = Unit {0}
+AreTold told [] (text ∷ texts) = ⊥
+AreTold told (source ∷ sources) [] = ⊥
+AreTold told (source ∷ sources) (text ∷ texts) = IsToldFrom told source text × AreTold told sources texts
 
 -- the table's file that is to be read next is told with this text then, which isn't too long
 pub record IsTableTold (told : ToldNames) (s : Settings) (texts : List (List ℕ)) (text : List ℕ) : Type 0 where
@@ -80,7 +84,7 @@ pub record IsComplete (words : List (List ℕ)) (told : ToldNames) (files_rose o
   pub asks : settings_of words ≡ Some settings
   pub solves : Solves settings
   pub tables : List (List ℕ)
-  pub has : AreTold told (names_read settings) texts
+  pub has : AreTold told (sources_of settings) texts
   pub tables_told : AreTablesTold told settings texts tables
   pub asked : IsAsked settings (texts ++ tables) problem
   pub linear : wants_linear settings.task ≡ true → NoneInteger problem.columns
@@ -111,5 +115,5 @@ pub record IsRecheck (c : Certificate) (again : List (List ℕ)) (told : ToldNam
   pub name : List ℕ
   pub migrated : Option (List ℕ)
   pub asks : settings_of again ≡ Some (record settings { task = CheckCertificate name migrated })
-  pub has : AreTold told (settings.model ∷ (settings.data_files ++ name ∷ [])) (texts ++ certificate_text c ∷ [])
+  pub has : AreTold told (settings.model ∷ map Some (settings.data_files ++ name ∷ [])) (texts ++ certificate_text c ∷ [])
   pub tables_told : AreTablesTold told (record settings { task = CheckCertificate name migrated }) (texts ++ certificate_text c ∷ []) tables

@@ -20,17 +20,18 @@ use Rattle.gmpl_reader.specs.declared.fault.MathProgFault.TheVariants as math_pr
 use Rattle.model_text.specs.declared.fault.FileFault.{FileFault}
 use Rattle.mps_reader.specs.FreeMps.{declared as declared_by_free_mps}
 use Rattle.cplex_lp_reader.specs.CplexLp.{declared as declared_by_cplex_lp}
+use Rattle.made_problem.specs.Made.{made_problem}
 use Rattle.command_line.specs.declared.settings.Language.{Language}
-use Rattle.command_line.specs.declared.settings.Language.TheVariants.{MathProg, FreeMps, CplexLp}
+use Rattle.command_line.specs.declared.settings.Language.TheVariants.{MathProg, FreeMps, CplexLp, Made as IsMade}
 use Rattle.command_line.specs.declared.settings.Outputs.{Outputs}
 use Rattle.command_line.specs.declared.settings.Settings.{Settings}
 use Rattle.command_line.specs.declared.settings.Task.{Task}
-use Rattle.solution_writer.specs.Report.{solved_report, translated_report, accepted_report}
+use Rattle.solution_writer.specs.Report.{solved_report, summary_report, translated_report, accepted_report}
 use Rattle.solution_writer.specs.Subset.{subset_report}
 use Rattle.solution_writer.specs.Solution.{raw_solution}
 use Rattle.exact_ranges.specs.Ranges.{AllRanges}
 use Rattle.exact_ranges.specs.Text.{ranges_text}
-use Rattle.glpsol_cli.specs.Asked.{migrated_file, names_checked, outputs_of, ranges_file, wants_subset}
+use Rattle.glpsol_cli.specs.Asked.{migrated_file, names_checked, outputs_of, ranges_file, wants_subset, wants_summary}
 use Rattle.glpsol_cli.specs.Pieces.{Piece}
 use Rattle.glpsol_cli.specs.declared.answer.Reached.{Reached}
 use Rattle.glpsol_cli.specs.declared.answer.Reached.TheVariants.{Nothing, Executed, Size, Acceptance, Verdict as VerdictReached, Subset as SubsetReached, Ranges as RangesReached}
@@ -97,6 +98,7 @@ abbrev pub ends_in : Settings → Language → List ℕ → List (List ℕ) → 
 ends_in s MathProg text data_texts tables = end_of_ending s (ending_of_math_prog text data_texts tables)
 ends_in s FreeMps text data_texts tables = end_of s (declared_by_free_mps text)
 ends_in s CplexLp text data_texts tables = end_of s (declared_by_cplex_lp text)
+ends_in s (IsMade size) text data_texts tables = Declared (asked_of s (made_problem size))
 
 -- what a text prints and which files it makes while it is executed; the texts of MathProg alone do so, where the text and its data are
 -- good
@@ -104,12 +106,14 @@ abbrev pub made_in : Language → List ℕ → List (List ℕ) → List (List �
 made_in MathProg text data_texts tables = making_of_math_prog text data_texts tables
 made_in FreeMps text data_texts tables = None
 made_in CplexLp text data_texts tables = None
+made_in (IsMade size) text data_texts tables = None
 
 -- what the statements behind `solve` print and make at a point with dual values, and their first fault, where there are any
 abbrev pub afterwards_in : Language → List ℕ → List (List ℕ) → List (List ℕ) → List Rational → Duals → Option (Made × Option ModelFault)
 afterwards_in MathProg text data_texts tables x duals = afterwards_of_math_prog text data_texts tables x duals
 afterwards_in FreeMps text data_texts tables x duals = None
 afterwards_in CplexLp text data_texts tables x duals = None
+afterwards_in (IsMade size) text data_texts tables x duals = None
 
 -- where printed texts go: the file that `--display` names, or the output
 abbrev pub display_target : Option (List ℕ) → Target
@@ -217,9 +221,14 @@ lacks_subset wanted kind.Optimal = false
 lacks_subset wanted kind.Infeasible = wanted
 lacks_subset wanted kind.Unbounded = false
 
-abbrev pub whole_report : Bool → Problem → Certificate → Option (List ℕ)
-whole_report true p c = None
-whole_report false p c = solved_report p c
+-- the report of a solved problem, or its summary
+abbrev pub report_by : Bool → Problem → Certificate → Option (List ℕ)
+report_by true p c = summary_report p c
+report_by false p c = solved_report p c
+
+abbrev pub whole_report : Bool → Task → Problem → Certificate → Option (List ℕ)
+whole_report true task p c = None
+whole_report false task p c = report_by (wants_summary task) p c
 
 -- what is written of a problem once this was reached; none where a certificate lacks a part that its report shows, or a subset is
 -- lacking that is wanted
@@ -228,8 +237,8 @@ found_pieces task p Nothing = Some []
 found_pieces task p Executed = Some []
 found_pieces task p Size = Some (printed (translated_report p))
 found_pieces task p (Acceptance c) = Some (accepted_pieces task p c)
-found_pieces task p (VerdictReached c) = option_map (solved_pieces task p c) (whole_report (lacks_subset (wants_subset task) c.verdict) p c)
-found_pieces task p (RangesReached c r) = option_map (solved_pieces task p c) (whole_report (lacks_subset (wants_subset task) c.verdict) p c)
+found_pieces task p (VerdictReached c) = option_map (solved_pieces task p c) (whole_report (lacks_subset (wants_subset task) c.verdict) task p c)
+found_pieces task p (RangesReached c r) = option_map (solved_pieces task p c) (whole_report (lacks_subset (wants_subset task) c.verdict) task p c)
 found_pieces task p (SubsetReached c w) = Some (solved_pieces task p c (subset_report p w.witnesses))
 
 -- the statements behind `solve` are executed at a best point alone

@@ -39,7 +39,7 @@ use Rattle.command_line.specs.declared.settings.WordsFault.{WordsFault}
 use Rattle.command_line.specs.declared.settings.WordsFault.TheVariants.{Usage as WordsUsage, NoMemory as WordsNoMemory}
 use Rattle.solution_writer.specs.Report.{IsReportable}
 use Rattle.outside.specs.Causes.{Rose}
-use Rattle.glpsol_cli.specs.Asked.{ToldNames, AreTexts, AreThere, IsInTurn, Solves, Translates, names_read, ranges_file, splits_rows, wants_linear, wants_ranges, wants_subset}
+use Rattle.glpsol_cli.specs.Asked.{ToldNames, AreTexts, AreThere, IsInTurn, Solves, Translates, sources_of, ranges_file, splits_rows, wants_linear, wants_ranges, wants_subset}
 use Rattle.glpsol_cli.specs.Pieces.{Piece, Outside, AllWritten, SameNames, Says, WrittenUpTo, SomeWritten, IsFileInPart, IsWritten, IsWrittenInPart, told_behind}
 use Rattle.glpsol_cli.specs.Meaning.{Behind, Declared, Faulty, Wanting, Meaning, HasDone, asked_of, behind_of, displayed, ends_in, file_pieces, files_behind, files_by, found_pieces, lacks_subset, made_in, meaning_in, meaning_of, nothing_behind, saved_in, shown_by}
 use Rattle.glpsol_cli.specs.Texts.{AreTables, OfTexts, OfPieces}
@@ -85,7 +85,7 @@ texts_in inputs = map (λ text. text.items) inputs.texts.items
 -- the inputs are what the words ask for
 pub record AreInputs (words : List (List ℕ)) (told : ToldNames) (inputs : Inputs) : Type 0 where
   pub asks : settings_of words ≡ Some inputs.settings
-  pub read : AreTexts told (names_read inputs.settings) (texts_in inputs)
+  pub read : AreTexts told (sources_of inputs.settings) (texts_in inputs)
 
 -- what a piece is to the definitions
 abbrev pub piece_of : PieceHeld → Piece
@@ -297,18 +297,25 @@ IsStopAt name told files_rose (File u) = (u.name ≡ name) × IsUnread (told u.n
 IsStopAt name told files_rose (Words fault) = ⊥
 IsStopAt name told files_rose StopNoMemory = Unit {0}
 
--- a file of these names is not read, and all before it are there
-pub record IsUnreadAmong (names : List (List ℕ)) (told : ToldNames) (files_rose : Type 0) (u : Unread) : Type 0 where
-  pub before : List (List ℕ)
-  pub after : List (List ℕ)
-  pub is : names ≡ before ++ u.name ∷ after
+-- the stop at a source; where there is no file, for want of memory alone
+abbrev pub IsStopFrom : Option (List ℕ) → ToldNames → Type 0 → Stop → Type 0
+IsStopFrom (Some name) told files_rose stop = IsStopAt name told files_rose stop
+IsStopFrom None told files_rose (Words fault) = ⊥
+IsStopFrom None told files_rose (File u) = ⊥
+IsStopFrom None told files_rose StopNoMemory = Unit {0}
+
+-- a file among these sources is not read, and all before it are there
+pub record IsUnreadAmong (sources : List (Option (List ℕ))) (told : ToldNames) (files_rose : Type 0) (u : Unread) : Type 0 where
+  pub before : List (Option (List ℕ))
+  pub after : List (Option (List ℕ))
+  pub is : sources ≡ before ++ Some u.name ∷ after
   pub there : AreThere told before
   pub unread : IsUnread (told u.name) files_rose u.fault
 
-abbrev pub IsStopAmong : List (List ℕ) → ToldNames → Type 0 → Stop → Type 0
-IsStopAmong names told files_rose (File u) = IsUnreadAmong names told files_rose u
-IsStopAmong names told files_rose (Words fault) = ⊥
-IsStopAmong names told files_rose StopNoMemory = Unit {0}
+abbrev pub IsStopAmong : List (Option (List ℕ)) → ToldNames → Type 0 → Stop → Type 0
+IsStopAmong sources told files_rose (File u) = IsUnreadAmong sources told files_rose u
+IsStopAmong sources told files_rose (Words fault) = ⊥
+IsStopAmong sources told files_rose StopNoMemory = Unit {0}
 
 -- the file is in turn, and is not read
 abbrev pub IsUnreadIn : List (List ℕ) → ToldNames → Type 0 → Unread → Type 0
@@ -463,7 +470,7 @@ pub record AreRead (words : List (List ℕ)) (told : ToldNames) (s : Settings) (
   pub first : List (List ℕ)
   pub tables : List (List ℕ)
   pub texts_are : texts ≡ first ++ tables
-  pub read : AreTexts told (names_read s) first
+  pub read : AreTexts told (sources_of s) first
   pub tables_read : AreTables told s first tables
 
 -- these pieces were written since the start, at which at least this was told

@@ -3,7 +3,7 @@ use Rattle.std.specs.Prelude.{◌≡◌, ℕ, List, [], ◌∷◌, ◌++◌, Som
 use Rattle.std.specs.declared.option.Option.{Option}
 use Rattle.command_line.specs.Meaning.{settings_of}
 use Rattle.command_line.specs.declared.settings.Settings.{Settings}
-use Rattle.glpsol_cli.specs.Asked.{ToldNames, AreTexts, IsInTurn, IsTextOf, names_read}
+use Rattle.glpsol_cli.specs.Asked.{ToldNames, AreTexts, IsInTurn, IsTextOf, sources_of}
 use Rattle.glpsol_cli.specs.Pieces.{Piece, told_behind}
 use Rattle.glpsol_cli.specs.Meaning.{Meaning, HasDone, HasFound, Wanting, meaning_of}
 use Rattle.glpsol_cli.specs.declared.answer.Reached.{Reached}
@@ -33,7 +33,7 @@ pub record OfTexts (words : List (List ℕ)) (told : ToldNames) (P : Settings �
   pub settings : Settings
   pub asks : settings_of words ≡ Some settings
   pub texts : List (List ℕ)
-  pub read : AreTexts told (names_read settings) texts
+  pub read : AreTexts told (sources_of settings) texts
   pub tables : List (List ℕ)
   pub tables_read : AreTables told settings texts tables
   pub has : P settings (texts ++ tables)

@@ -1,6 +1,6 @@
 // The texts are executed up to `solve`: what they print, and the problem that they declare, as the words ask for it.
 ghost use Rattle.std.specs.Prelude.{◌≡◌, ◌<◌, ◌++◌, ◌∷◌, [], ℕ, List, Some, length, map, string_bytes, IfOk};
-ghost use Rattle.command_line.specs.declared.settings.Language.TheVariants.{MathProg, FreeMps, CplexLp};
+ghost use Rattle.command_line.specs.declared.settings.Language.TheVariants.{MathProg, FreeMps, CplexLp, Made};
 ghost use Rattle.gmpl_generate.specs.Running.{File};
 ghost use Rattle.gmpl_reader.specs.MathProg.{IsPending, making};
 ghost use Rattle.glpsol_cli.specs.Meaning.{asked_of, directed, file_pieces, relaxed, text_fault_of};
@@ -14,6 +14,7 @@ use command_line::{Language, Settings};
 use cplex_lp_reader::read_lp;
 use gmpl_reader::{MathProgFault, Pending, Reading, ReadingEnd, Rest, read_math_prog, read_on};
 use instance::{Direction, Instance};
+use made_problem::{Size, made_problem};
 use model_text::ReadError;
 use mps_reader::read_mps;
 use sqlite_items::Boxed;
@@ -109,6 +110,7 @@ fn execute_model(
         Language::MathProg => math_prog(alloc, settings, text, data_texts),
         Language::FreeMps => free_mps(alloc, settings, text),
         Language::CplexLp => cplex_lp(alloc, settings, text),
+        Language::Made(size) => made(alloc, settings, size),
     }
 }
 
@@ -195,6 +197,15 @@ fn cplex_lp(alloc: Global, settings: &Settings, text: &[u8]) -> Result<Executed,
         Err(ReadError::Fault(fault)) => Ok(at_fault(alloc, TextFault::File(fault))),
         Err(ReadError::NoMemory) => Err(AllocError),
     }
+}
+
+// There is no text, and the problem is made.
+fn made(alloc: Global, settings: &Settings, size: Size) -> Result<Executed, AllocError>
+    requires { settings.now.language ≡ Made size }
+    ensures { IfOk result (λ e. (text : List ℕ) (data_texts : List (List ℕ)) → IsExecutionOf [] settings.now text data_texts [] e) }
+{
+    let problem = made_problem(alloc, size)?;
+    at_problem(alloc, settings, problem)
 }
 
 // ---- the ends

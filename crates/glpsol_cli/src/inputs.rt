@@ -1,8 +1,8 @@
 // What the words and the files give.
 ghost use Rattle.std.specs.Prelude.{◌≡◌, ◌≤◌, ◌++◌, ◌∷◌, [], ℕ, List, IfOk, IfErr, OnOk, Some, map, string_bytes};
 ghost use Rattle.outside.specs.Causes.{Rose};
-ghost use Rattle.glpsol_cli.specs.Asked.{AreTexts, IsTextOf, names_read, names_checked};
-ghost use Rattle.glpsol_cli.specs.Stages.{AreInputs, IsStop, IsStopAt, IsStopAmong, IsUnreadStop, IsWordsStop, texts_in};
+ghost use Rattle.glpsol_cli.specs.Asked.{AreTexts, IsTextFrom, IsTextOf, sources_of, names_checked};
+ghost use Rattle.glpsol_cli.specs.Stages.{AreInputs, IsStop, IsStopAt, IsStopFrom, IsStopAmong, IsUnreadStop, IsWordsStop, texts_in};
 ghost use Rattle.command_line.specs.Meaning.{settings_of};
 
 use crate::stop::{Stop, Unread};
@@ -30,11 +30,11 @@ pub fn read_inputs<S: Store>(alloc: Global, words: &[String], files: &mut S) -> 
         Ok(settings) => settings,
         Err(stop) => return Err(stop),
     };
-    let names = match names_read(alloc, settings.get()) {
-        Ok(names) => names,
+    let sources = match sources_of(alloc, settings.get()) {
+        Ok(sources) => sources,
         Err(_) => return Err(Stop::NoMemory),
     };
-    match load_all(alloc, &names, files) {
+    match load_all(alloc, &sources, files) {
         Ok(texts) => Ok(Inputs { settings, texts }),
         Err(stop) => Err(stop),
     }
@@ -69,50 +69,71 @@ impl Inputs {
     }
 }
 
-// ---- the names of the files
+// ---- where the texts come from
 
-// The names of the files that are read, in order.
-fn names_read(alloc: Global, settings: &Settings) -> Result<Vec<Name>, AllocError>
-    ensures { IfOk result (λ names. names.items ≡ names_read settings.now) }
+// The files of the texts, in order; a made problem has none.
+fn sources_of(alloc: Global, settings: &Settings) -> Result<Vec<Option<Name>>, AllocError>
+    ensures { IfOk result (λ sources. sources.items ≡ sources_of settings.now) }
 {
-    let mut names = Vec::new(alloc);
-    names.push(settings.model.copy(alloc)?)?;
-    add_names(alloc, &mut names, settings.data_files.as_slice())?;
-    add_checked(alloc, &mut names, &settings.task)?;
-    Ok(names)
+    let mut sources = Vec::new(alloc);
+    sources.push(copy_of(alloc, &settings.model)?)?;
+    add_names(alloc, &mut sources, settings.data_files.as_slice())?;
+    add_checked(alloc, &mut sources, &settings.task)?;
+    Ok(sources)
 }
 
-fn add_names(alloc: Global, names: &mut Vec<Name>, more: &[Name]) -> Result<(), AllocError>
-    ensures { OnOk result (names.new.items ≡ names.old.items ++ more.now) }
+fn copy_of(alloc: Global, name: &Option<Name>) -> Result<Option<Name>, AllocError>
+    ensures { IfOk result (λ copy. copy ≡ name.now) }
+{
+    match name {
+        Some(name) => Ok(Some(name.copy(alloc)?)),
+        None => Ok(None),
+    }
+}
+
+fn add_names(
+    alloc: Global,
+    sources: &mut Vec<Option<Name>>,
+    more: &[Name],
+) -> Result<(), AllocError>
+    ensures { OnOk result (sources.new.items ≡ sources.old.items ++ map Some more.now) }
 {
     for name in more {
-        names.push(name.copy(alloc)?)?;
+        sources.push(Some(name.copy(alloc)?))?;
     }
     Ok(())
 }
 
 // The certificate that is to be checked, where one is.
-fn add_checked(alloc: Global, names: &mut Vec<Name>, task: &Task) -> Result<(), AllocError>
-    ensures { OnOk result (names.new.items ≡ names.old.items ++ names_checked task.now) }
+fn add_checked(
+    alloc: Global,
+    sources: &mut Vec<Option<Name>>,
+    task: &Task,
+) -> Result<(), AllocError>
+    ensures { OnOk result (sources.new.items ≡ sources.old.items ++ map Some (names_checked task.now)) }
 {
     if let Task::CheckCertificate { certificate, .. } = task {
-        names.push(certificate.copy(alloc)?)?;
+        sources.push(Some(certificate.copy(alloc)?))?;
     }
     Ok(())
 }
 
-// ---- their texts
+// ---- the texts
 
-// The texts of the files of these names, in order.
-fn load_all<S: Store>(alloc: Global, names: &[Name], files: &mut S) -> Result<Vec<Vec<u8>>, Stop>
-    ensures texts { IfOk result (λ texts. AreTexts (S.told files.old) names.now (map (λ text. text.items) texts.items)) }
-    ensures stop { IfErr result (IsStopAmong names.now (S.told files.old) (Rose (S.faults files.old) (S.faults files.new))) }
+// The texts from these sources, in order.
+fn load_all<S: Store>(
+    alloc: Global,
+    sources: &[Option<Name>],
+    files: &mut S,
+) -> Result<Vec<Vec<u8>>, Stop>
+    ensures texts { IfOk result (λ texts. AreTexts (S.told files.old) sources.now (map (λ text. text.items) texts.items)) }
+    ensures stop { IfErr result (IsStopAmong sources.now (S.told files.old) (Rose (S.faults files.old) (S.faults files.new))) }
     ensures told { (other : List ℕ) → S.told files.new other ≡ S.told files.old other }
     ensures later { S.faults files.old ≤ S.faults files.new }
 {
     let mut texts = Vec::new(alloc);
-    for name in names {
-        let text = match load(alloc, name, files) {
+    for source in sources {
+        let text = match load_from(alloc, source, files) {
             Ok(text) => text,
             Err(stop) => return Err(stop),
         };
@@ -122,6 +143,23 @@ fn load_all<S: Store>(alloc: Global, names: &[Name], files: &mut S) -> Result<Ve
         }
     }
     Ok(texts)
+}
+
+// The text of a file, or an empty one where there is no file.
+fn load_from<S: Store>(
+    alloc: Global,
+    source: &Option<Name>,
+    files: &mut S,
+) -> Result<Vec<u8>, Stop>
+    ensures text { IfOk result (λ text. IsTextFrom (S.told files.old) source.now text.items) }
+    ensures stop { IfErr result (IsStopFrom source.now (S.told files.old) (Rose (S.faults files.old) (S.faults files.new))) }
+    ensures told { (other : List ℕ) → S.told files.new other ≡ S.told files.old other }
+    ensures later { S.faults files.old ≤ S.faults files.new }
+{
+    match source {
+        Some(name) => load(alloc, name, files),
+        None => Ok(Vec::new(alloc)),
+    }
 }
 
 /// The text of a file.

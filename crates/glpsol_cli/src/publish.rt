@@ -7,8 +7,8 @@ ghost use Rattle.outside.specs.Causes.{Rose};
 ghost use Rattle.solution_writer.specs.Report.{IsReportable, solved_report};
 ghost use Rattle.solution_writer.specs.Solution.{raw_solution};
 ghost use Rattle.certificate.specs.Text.{certificate_text};
-ghost use Rattle.glpsol_cli.specs.Asked.{migrated_file, outputs_of, wants_subset};
-ghost use Rattle.glpsol_cli.specs.Meaning.{found_pieces, in_version_two, lacks_subset, printed, saved_in, saved_pieces, solved_pieces};
+ghost use Rattle.glpsol_cli.specs.Asked.{migrated_file, outputs_of, wants_subset, wants_summary};
+ghost use Rattle.glpsol_cli.specs.Meaning.{found_pieces, in_version_two, lacks_subset, printed, report_by, saved_in, saved_pieces, solved_pieces};
 ghost use Rattle.glpsol_cli.specs.Stages.{reached_by, piece_of, pieces_of, IsShown, EndsPiece, EndsWriting, HasFailed, IsPublished};
 
 use crate::Target;
@@ -20,7 +20,7 @@ use instance::{Instance, Name};
 use migration::migrate;
 use outside::{Sink, Store, Trouble, write_all, write_file};
 use solution_writer::{
-    accepted_report, raw_solution, solved_report, subset_report, translated_report,
+    accepted_report, raw_solution, solved_report, subset_report, summary_report, translated_report,
 };
 use std::alloc::{AllocError, Global};
 
@@ -101,6 +101,33 @@ fn accepted(
     Ok(pieces)
 }
 
+// The report of a solved problem, or its summary.
+fn report(
+    alloc: Global,
+    task: &Task,
+    problem: &Instance,
+    certificate: &Certificate,
+) -> Result<String, AllocError>
+    requires { IsReportable problem.now certificate.now }
+    ensures { IfOk result (λ text. report_by (wants_summary task.now) problem.now certificate.now ≡ Some (string_bytes text)) }
+{
+    if wants_summary(task) {
+        summary_report(alloc, problem, certificate)
+    } else {
+        solved_report(alloc, problem, certificate)
+    }
+}
+
+fn wants_summary(task: &Task) -> bool
+    ensures { result ≡ wants_summary task.now }
+{
+    match task {
+        Task::Solve(outputs) => outputs.summary,
+        Task::Translate => false,
+        Task::CheckCertificate { .. } => false,
+    }
+}
+
 // The report of a certificate on the output, and then the files that the task names.
 fn solved(
     alloc: Global,
@@ -112,7 +139,7 @@ fn solved(
     requires plain { lacks_subset (wants_subset task.now) certificate.now.verdict ≡ false }
     ensures { IfOk result (λ pieces. found_pieces task.now problem.now (reached_by (Finding.Verdict certificate.now)) ≡ Some (pieces_of pieces.items)) }
 {
-    let report = solved_report(alloc, problem, certificate)?;
+    let report = report(alloc, task, problem, certificate)?;
     let mut pieces = output(alloc, &report)?;
     add_files(alloc, &mut pieces, task, problem, certificate, &report)?;
     Ok(pieces)

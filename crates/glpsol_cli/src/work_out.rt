@@ -9,7 +9,7 @@ ghost use Rattle.infeasible_subset.specs.Faults.{IsFault as IsSubsetFault};
 ghost use Rattle.certificate_reader.specs.Reading.{read_of};
 ghost use Rattle.cert_check.specs.Outcome.{Acceptance, outcome, trials};
 ghost use Rattle.command_line.specs.declared.settings.Task.TheVariants.{Solve};
-ghost use Rattle.glpsol_cli.specs.Asked.{names_read, splits_rows, wants_linear, wants_subset};
+ghost use Rattle.glpsol_cli.specs.Asked.{sources_of, splits_rows, wants_linear, wants_subset};
 ghost use Rattle.glpsol_cli.specs.Meaning.{IsAsked};
 ghost use Rattle.glpsol_cli.specs.Cause.{IsAccepted, IsSubsetOf};
 ghost use Rattle.glpsol_cli.specs.Stages.{IsFinding, IsUnfound, IsSolution, IsSubsetFinding, IsUnsolved, IsCheckStop, OfNext, texts_in};
@@ -38,7 +38,7 @@ pub fn finding<T: Threads + Sync>(
     inputs: &Inputs,
 ) -> Result<Finding, Unfound>
     requires asked { IsAsked inputs.now.settings (texts_in inputs.now) problem.now }
-    requires enough { length (names_read inputs.now.settings) ≤ length (texts_in inputs.now) }
+    requires enough { length (sources_of inputs.now.settings) ≤ length (texts_in inputs.now) }
     ensures finding { IfOk result (IsFinding problem.now inputs.now.settings (texts_in inputs.now)) }
     ensures fault { IfErr result (λ unfound. IsUnfound unfound inputs.now.settings (texts_in inputs.now)) }
 {

@@ -35,17 +35,17 @@ fn shown(alloc: Global, settings: &Settings) -> Result<String, AllocError> {
 }
 
 fn push_model(text: &mut String, settings: &Settings) -> Result<(), AllocError> {
-    text.push_str(language_word(settings.language))?;
-    text.push_str(settings.model.as_str())?;
+    push_source(text, settings)?;
     push_data(text, &settings.data_files)?;
     push_file(text, ", display ", &settings.display)
 }
 
-fn language_word(language: Language) -> &'static str {
-    match language {
-        Language::MathProg => "math ",
-        Language::FreeMps => "mps ",
-        Language::CplexLp => "lp ",
+fn push_source(text: &mut String, settings: &Settings) -> Result<(), AllocError> {
+    match settings.language {
+        Language::MathProg => push_file(text, "math ", &settings.model),
+        Language::FreeMps => push_file(text, "mps ", &settings.model),
+        Language::CplexLp => push_file(text, "lp ", &settings.model),
+        Language::Made(size) => write!(text, "made of {}", size.columns()),
     }
 }
 
@@ -114,6 +114,7 @@ fn push_task(text: &mut String, task: &Task) -> Result<(), AllocError> {
             push_want(text, &outputs.certificate)?;
             push_if(text, outputs.subset, ", subset")?;
             push_if(text, outputs.row_splits, ", row splits")?;
+            push_if(text, outputs.summary, ", summary")?;
             push_file(text, ", ranges ", &outputs.ranges)
         }
         Task::Translate => text.push_str(", translate"),

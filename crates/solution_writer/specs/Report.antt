@@ -70,9 +70,26 @@ verdict_report p c Unbounded = unbounded_at p c.point c.ray
 abbrev pub solved_report : Problem → Certificate → Option (List ℕ)
 solved_report p c = verdict_report p c c.verdict
 
+-- how many rows and columns the problem has
+abbrev pub size_lines : Problem → List ℕ
+size_lines p = codes "rows " ++ (decimal (length p.rows) ++ (codes "\ncolumns " ++ (decimal (length p.columns) ++ codes "\n")))
+
+abbrev pub optimal_summary : Problem → Option Rational → Option (List ℕ)
+optimal_summary p None = None
+optimal_summary p (Some value) = Some (codes "OPTIMAL\nobjective " ++ (text_of value ++ (codes "\n" ++ size_lines p)))
+
+abbrev pub summary_by : Problem → Certificate → Verdict → Option (List ℕ)
+summary_by p c Optimal = optimal_summary p c.value
+summary_by p c Infeasible = Some (codes "INFEASIBLE\n" ++ size_lines p)
+summary_by p c Unbounded = Some (codes "UNBOUNDED\n" ++ size_lines p)
+
+-- the report of a solved problem without names and points: the verdict, the value of a best point, and how large the problem is
+abbrev pub summary_report : Problem → Certificate → Option (List ℕ)
+summary_report p c = summary_by p c c.verdict
+
 -- the report of a problem that was only read
 abbrev pub translated_report : Problem → List ℕ
-translated_report p = codes "TRANSLATED\nrows " ++ (decimal (length p.rows) ++ (codes "\ncolumns " ++ (decimal (length p.columns) ++ codes "\n")))
+translated_report p = codes "TRANSLATED\n" ++ size_lines p
 
 -- the report of a certificate that was accepted
 abbrev pub accepted_report : List ℕ

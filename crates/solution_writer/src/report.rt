@@ -95,13 +95,46 @@ fn unbounded_report(
     Ok(text)
 }
 
+/// The report of a solved problem without names and points: the verdict, the value of a best point, and the numbers of rows and columns.
+pub fn summary_report(
+    alloc: Global,
+    problem: &Instance,
+    certificate: &Certificate,
+) -> Result<String, AllocError>
+    requires parts { IsReportable problem.now certificate.now }
+    ensures { IfOk result (λ text. summary_report problem.now certificate.now ≡ Some (string_bytes text)) }
+{
+    let size = size_lines(alloc, problem)?;
+    match certificate.verdict() {
+        Verdict::Optimal => optimal_summary(alloc, certificate.value(), &size),
+        Verdict::Infeasible => format!(in alloc; "INFEASIBLE\n{size}"),
+        Verdict::Unbounded => format!(in alloc; "UNBOUNDED\n{size}"),
+    }
+}
+
+fn optimal_summary(alloc: Global, value: Option<Frac>, size: &str) -> Result<String, AllocError>
+    requires { IsSome value }
+    ensures { IfOk result (λ text. (p : Problem) → size_lines p ≡ size.now → optimal_summary p value ≡ Some (string_bytes text)) }
+{
+    let Some(value) = value else { unreachable!() };
+    let value = value.text(alloc)?;
+    format!(in alloc; "OPTIMAL\nobjective {value}\n{size}")
+}
+
+fn size_lines(alloc: Global, problem: &Instance) -> Result<String, AllocError>
+    ensures { IfOk result (λ text. string_bytes text ≡ size_lines problem.now) }
+{
+    let rows = problem.rows().len();
+    let columns = problem.columns().len();
+    format!(in alloc; "rows {rows}\ncolumns {columns}\n")
+}
+
 /// The report of a problem that was only read: its numbers of rows and columns.
 pub fn translated_report(alloc: Global, problem: &Instance) -> Result<String, AllocError>
     ensures { IfOk result (λ text. string_bytes text ≡ translated_report problem.now) }
 {
-    let rows = problem.rows().len();
-    let columns = problem.columns().len();
-    format!(in alloc; "TRANSLATED\nrows {rows}\ncolumns {columns}\n")
+    let size = size_lines(alloc, problem)?;
+    format!(in alloc; "TRANSLATED\n{size}")
 }
 
 /// The report of a certificate that was accepted.

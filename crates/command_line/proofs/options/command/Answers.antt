@@ -29,6 +29,7 @@ returns c =
     let app = added c.in_ok-arg-17.ensures c.option-3.ensures.local c.option-3.ensures.rule app in
     let app = added c.in_ok-arg-18.ensures c.option-4.ensures.local c.option-4.ensures.rule app in
     let app = added c.in_ok-arg-19.ensures c.option-5.ensures.local c.option-5.ensures.rule app in
-    let app = added c.in_ok-arg-20.ensures c.flag-9.ensures.local c.flag-9.ensures.rule app in
-    let app = added c.in_ok-arg-21.ensures c.flag-10.ensures.local c.flag-10.ensures.rule app in
-    IfOk-weaker c.arg-22.result _ _ (λ _ adds. added adds c.option-6.ensures.local c.option-6.ensures.rule app) c.arg-22.ensures
+    let app = added c.in_ok-arg-20.ensures c.option-6.ensures.local c.option-6.ensures.rule app in
+    let app = added c.in_ok-arg-21.ensures c.flag-9.ensures.local c.flag-9.ensures.rule app in
+    let app = added c.in_ok-arg-22.ensures c.flag-10.ensures.local c.flag-10.ensures.rule app in
+    IfOk-weaker c.arg-23.result _ _ (λ _ adds. added adds c.option-7.ensures.local c.option-7.ensures.rule app) c.arg-23.ensures
