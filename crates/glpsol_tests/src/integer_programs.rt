@@ -58,6 +58,23 @@ fn certificates_of_several_workers_are_accepted(rt: HostRuntime) -> Result<(), F
     check(&rt, rt.alloc(), &Subject::RoundTrips, BY_WORKERS)
 }
 
+// Made problems. The objectives are those of GLPK and, for 200 columns, the best of esolver's over the whole numbers of the first six.
+const MADE: &str = "\
+0 OPTIMAL$objective 0$rows 3$columns 1$ <- --demo 1
+0 OPTIMAL$objective 4$rows 3$columns 3$ <- --demo 3
+0 OPTIMAL$objective 65/4$rows 3$columns 7$ <- --demo 7
+4 UNDECIDED nodes$ <- --demo 7 --nodlim 0
+0 OPTIMAL$objective 54156/71$rows 3$columns 200$ <- --demo 200
+0 OPTIMAL$objective 54156/71$rows 3$columns 200$ <- --demo 200 --workers 2
+0 OPTIMAL$objective 54156/71$rows 3$columns 200$ <- --demo 200 --workers 4
+1 usage: <- --demo 3 --cert c
+";
+
+#[test]
+fn made_problems(rt: HostRuntime) -> Result<(), Fail> {
+    check(&rt, rt.alloc(), &Subject::Answers, MADE)
+}
+
 // Equations that splits of columns alone do not decide within these limits, and a relaxation. (`--rowsplit` does not stand with
 // `--checkcert`.)
 const BY_ROWS: &str = "\
