@@ -37,8 +37,8 @@ fn settings_in(alloc: Global, matches: &ArgMatches<'_>) -> Result<Settings, Word
 {
     let size = size_in(matches)?;
     let (language, model) = source_in(alloc, size, matches)?;
-    let data_files = data_in(alloc, language, matches)?;
-    let display = display_in(alloc, language, matches)?;
+    let data_files = data_in(alloc, &language, matches)?;
+    let display = display_in(alloc, &language, matches)?;
     let direction = direction_in(matches).ok_or(WordsFault::Usage)?;
     let relaxed = stands(matches, "nomip");
     let split_limit = split_limit_in(matches).ok_or(WordsFault::Usage)?;
@@ -158,19 +158,19 @@ fn source_by(
 // The data files, which stand with MathProg alone.
 fn data_in(
     alloc: Global,
-    language: Language,
+    language: &Language,
     matches: &ArgMatches<'_>,
 ) -> Result<DataFiles, WordsFault>
-    ensures some { IfOk result (λ files. data_in language (given_in matches.now) ≡ Some files) }
-    ensures none { IfErr result (λ fault. fault ≡ Usage → data_in language (given_in matches.now) ≡ None) }
+    ensures some { IfOk result (λ files. data_in language.now (given_in matches.now) ≡ Some files) }
+    ensures none { IfErr result (λ fault. fault ≡ Usage → data_in language.now (given_in matches.now) ≡ None) }
 {
     let files = names_in(alloc, matches, "data")?;
     let files = data_by(language, files).ok_or(WordsFault::Usage)?;
     Ok(files)
 }
 
-fn data_by(language: Language, files: DataFiles) -> Option<DataFiles>
-    ensures { result ≡ data_by language files }
+fn data_by(language: &Language, files: DataFiles) -> Option<DataFiles>
+    ensures { result ≡ data_by language.now files }
 {
     match language {
         Language::MathProg => Some(files),
@@ -187,19 +187,19 @@ fn data_by(language: Language, files: DataFiles) -> Option<DataFiles>
 // The file of what is displayed, which stands with MathProg alone.
 fn display_in(
     alloc: Global,
-    language: Language,
+    language: &Language,
     matches: &ArgMatches<'_>,
 ) -> Result<Option<Name>, WordsFault>
-    ensures some { IfOk result (λ file. display_in language (given_in matches.now) ≡ Some file) }
-    ensures none { IfErr result (λ fault. fault ≡ Usage → display_in language (given_in matches.now) ≡ None) }
+    ensures some { IfOk result (λ file. display_in language.now (given_in matches.now) ≡ Some file) }
+    ensures none { IfErr result (λ fault. fault ≡ Usage → display_in language.now (given_in matches.now) ≡ None) }
 {
     let file = name_in(alloc, matches, "display")?;
     let file = display_by(language, file).ok_or(WordsFault::Usage)?;
     Ok(file)
 }
 
-fn display_by(language: Language, file: Option<Name>) -> Option<Option<Name>>
-    ensures { result ≡ display_by language file }
+fn display_by(language: &Language, file: Option<Name>) -> Option<Option<Name>>
+    ensures { result ≡ display_by language.now file }
 {
     match (language, file) {
         (Language::MathProg, file) => Some(file),
