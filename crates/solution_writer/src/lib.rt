@@ -10,6 +10,6 @@ mod subset;
 mod values;
 
 pub use fault::{Fault, fault_line};
-pub use report::{accepted_report, solved_report, translated_report};
+pub use report::{accepted_report, solved_report, summary_report, translated_report};
 pub use solution::raw_solution;
 pub use subset::subset_report;
