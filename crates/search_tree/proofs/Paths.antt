@@ -28,7 +28,7 @@ high_turn nodes s w =
     ∙ ap (λ (ns : List TreeNode). way_to ns 0) (reverse-append (nodes ++ Branch s ∷ []) (Empty w ∷ []) ∙ ap (λ (ns : List TreeNode). Empty w ∷ ns) (reverse-append nodes (Branch s ∷ [])))
     ∙ ap (λ (sides : List SideOf). HighOf s ∷ sides) (sym (sides_are nodes))
 
-sides_more : (taken : List SplitTaken) (t : SplitTaken) → sides_of (taken ++ t ∷ []) ≡ side_of t.split t.side ∷ sides_of taken
+pub sides_more : (taken : List SplitTaken) (t : SplitTaken) → sides_of (taken ++ t ∷ []) ≡ side_of t.split t.side ∷ sides_of taken
 sides_more [] t = refl
 sides_more (u ∷ taken) t = ap (λ (sides : List SideOf). sides ++ side_of u.split u.side ∷ []) (sides_more taken t)
 
