@@ -1,4 +1,5 @@
 pub mod Walk
+pub mod KeptTurns
 pub mod Tests
 pub mod Order
 pub mod NamedItems

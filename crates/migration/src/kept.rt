@@ -120,8 +120,8 @@ pub(crate) fn turns_to<'t>(
         if turns.len() >= u32::MAX as usize - 1 {
             return Err(AllocError);
         }
-        turns.push(KeptTurn::of(turn))?;
         at = turn.place;
+        turns.push(KeptTurn::of(turn))?;
     }
     Ok(turns)
 }
