@@ -1,5 +1,4 @@
 pub mod Walk
-pub mod KeptTurns
 pub mod Tests
 pub mod Order
 pub mod NamedItems

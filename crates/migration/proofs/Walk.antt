@@ -64,8 +64,8 @@ with_split_within side index j most s found f e h k = rw e (go (is_on side s && 
     go false = k
 
 -- at the root
-pub at_root : (side : Side) (p : Problem) (j : ℕ) (turns : List SideOf) (i : ℕ) (found : Option Tightest) (result all : Option ℕ) → length turns ≤ i → result ≡ option_and_then (λ t. if tightens side (bound_on side p [] j) t.at then Some t.index else None) found → source_from side p (drop i turns) j found ≡ all → result ≡ all
-at_root side p j turns i found result all h e inv = e ∙ own found ∙ (rw (drop_all i turns h) at inv)
+pub at_root : (side : Side) (p : Problem) (j : ℕ) (turns : List SideOf) (i : ℕ) (bound : Option Rational) (found : Option Tightest) (result all : Option ℕ) → length turns ≤ i → bound ≡ bound_on side p [] j → result ≡ option_and_then (λ t. if tightens side bound t.at then Some t.index else None) found → source_from side p (drop i turns) j found ≡ all → result ≡ all
+at_root side p j turns i bound found result all h is e inv = e ∙ ap (λ (b : Option Rational). option_and_then (λ t. if tightens side b t.at then Some t.index else None) found) is ∙ own found ∙ (rw (drop_all i turns h) at inv)
   where
     own : (o : Option Tightest) → option_and_then (λ t. if tightens side (bound_on side p [] j) t.at then Some t.index else None) o ≡ source_from side p [] j o
     own None = no_source side

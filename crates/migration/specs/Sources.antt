@@ -1,5 +1,5 @@
 -- The split whose bound the weight of a column uses, found from a leaf back to the root.
-use Rattle.std.specs.Prelude.{ℕ, ℤ, pos, ◌+ℤ◌, int_le, List, length, Bool, true, false, ◌&&◌, Option, Some, None, if◌then◌else◌}
+use Rattle.std.specs.Prelude.{ℕ, ℤ, pos, ◌+ℤ◌, int_le, List, Bool, true, false, ◌&&◌, Option, Some, None, if◌then◌else◌}
 use Rattle.rational.specs.Rational.{Rational, whole}
 use Rattle.milp.specs.Problem.{Problem}
 use Rattle.verdicts.specs.Certificate.{Split, Side as SideOf}

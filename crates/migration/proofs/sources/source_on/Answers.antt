@@ -17,7 +17,7 @@ loop-turn-preserved c =
 pub returns-clause-source : goal.returns-clause-source
 returns-clause-source c =
     let past : length c.args.turns.now ≤ c.loop-turn.turn-index = omega (arith, c.loop-turn-test.false) in
-    at_root c.args.side c.args.problem.now c.args.column c.args.turns.now c.loop-turn.turn-index c.loop-turn.found c.past_own.result _ past c.past_own.ensures c.loop-turn.invariant.left
+    at_root c.args.side c.args.problem.now c.args.column c.args.turns.now c.loop-turn.turn-index c.own_bound.result c.loop-turn.found c.past_own.result _ past c.own_bound.ensures c.past_own.ensures c.loop-turn.invariant.left
 
 pub returns-clause-index : goal.returns-clause-index
 returns-clause-index c = index_within c.args.side c.own_bound.result c.loop-turn.found c.past_own.result (length c.args.turns.now) _ c.past_own.ensures c.requires c.loop-turn.invariant.known
