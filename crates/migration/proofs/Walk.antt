@@ -80,7 +80,7 @@ at_root side p j turns i bound found result all h is e inv = e ∙ ap (λ (b : O
         go High false = refl
         go Low false = refl
 
-pub index_within : (side : Side) (bound : Option Rational) (found : Option Tightest) (result : Option ℕ) (count most : ℕ) → result ≡ option_and_then (λ t. if tightens side bound t.at then Some t.index else None) found → count < most → IfSome found (λ t. t.index < count) → IfSome result (λ index. index < most)
+pub index_within : (side : Side) (bound : Option Rational) (found : Option Tightest) (result : Option ℕ) (count most : ℕ) → result ≡ option_and_then (λ t. if tightens side bound t.at then Some t.index else None) found → count ≤ most → IfSome found (λ t. t.index < count) → IfSome result (λ index. index < most)
 index_within side bound None result count most e h k = rw e tt
 index_within side bound (Some t) result count most e h k = rw e (go (tightens side bound t.at))
   where

@@ -9,14 +9,14 @@ use certificate::{Item, Items};
 use instance::Instance;
 use std::alloc::{AllocError, Global};
 
-// The weights of columns at a place that use a bound of the column's own.
+// The weights of columns that use a bound of the column's own below these turns.
 pub(crate) fn own_columns(
     alloc: Global,
     problem: &Instance,
     turns: &[KeptTurn],
     columns: &Items,
 ) -> Result<Items, AllocError>
-    requires { length turns.now < count_max }
+    requires { length turns.now ≤ count_max }
     ensures { IfOk result (λ own. own ≡ kept problem.now turns.now columns.now) }
 {
     let mut own = Items::new(alloc);
@@ -34,7 +34,7 @@ fn keep_own(
     turns: &[KeptTurn],
     item: Item,
 ) -> Result<(), AllocError>
-    requires count { length turns.now < count_max }
+    requires count { length turns.now ≤ count_max }
     requires index { item.index < count_max }
     requires some { item.weight.numerator ≢ pos 0 }
     requires order { next_rank 0 own.old ≤ rank_of item }

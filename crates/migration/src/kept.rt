@@ -1,5 +1,5 @@
 // The turns on the way to a place, with the column that each narrows.
-ghost use Rattle.std.specs.Prelude.{◌≡◌, ◌<◌, ◌≤◌, ◌&&◌, [], ◌∷◌, length, IfOk};
+ghost use Rattle.std.specs.Prelude.{◌≡◌, ◌≤◌, ◌&&◌, [], ◌∷◌, length, IfOk};
 ghost use Rattle.verdicts.specs.Certificate.{Split as SplitOf};
 ghost use Rattle.verdicts.specs.Proves.{narrows, unit_column, is_column};
 ghost use Rattle.certificate.specs.Ways.{way, side_of};
@@ -112,12 +112,12 @@ pub(crate) fn turns_to<'t>(
 ) -> Result<Vec<KeptTurn<'t>>, AllocError>
     requires { place ≤ length tree.now }
     ensures turns { IfOk result (λ turns. turns.items ≡ way tree.now place) }
-    ensures count { IfOk result (λ turns. length turns.items < count_max) }
+    ensures count { IfOk result (λ turns. length turns.items ≤ count_max) }
 {
     let mut turns = Vec::new(alloc);
     let mut at = place;
     while let Some(turn) = tree.last_turn(at) {
-        if turns.len() >= u32::MAX as usize - 1 {
+        if turns.len() >= u32::MAX as usize {
             return Err(AllocError);
         }
         at = turn.place;

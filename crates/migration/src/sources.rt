@@ -1,5 +1,5 @@
 // The splits on the way to a leaf whose bounds its weights of columns use.
-ghost use Rattle.std.specs.Prelude.{◌≡◌, ◌<◌, ◌+ℤ◌, [], pos, length, option_and_then, if◌then◌else◌, Some, None, IfSome};
+ghost use Rattle.std.specs.Prelude.{◌≡◌, ◌<◌, ◌≤◌, ◌+ℤ◌, [], pos, length, option_and_then, if◌then◌else◌, Some, None, IfSome};
 ghost use Rattle.rational.specs.Rational.{whole};
 ghost use Rattle.rational.specs.Compare.{is_less};
 ghost use Rattle.verdicts.specs.Migrated.{source};
@@ -21,7 +21,7 @@ pub(crate) struct Tightest {
 // The split whose bound the weight of a column uses below these turns, by its index from the root; none where the bound is the
 // column's own.
 pub(crate) fn source(problem: &Instance, turns: &[KeptTurn], item: Item) -> Option<u32>
-    requires { length turns.now < count_max }
+    requires { length turns.now ≤ count_max }
     ensures source { result ≡ source problem.now turns.now item }
     ensures index { IfSome result (λ index. index < count_max) }
 {
@@ -36,7 +36,7 @@ pub(crate) fn source(problem: &Instance, turns: &[KeptTurn], item: Item) -> Opti
 // The split that gives a column its bound on a side: the tightest on the way, of several the one nearest the root, where it is
 // tighter than the column's own bound.
 fn source_on(problem: &Instance, turns: &[KeptTurn], column: u32, side: Side) -> Option<u32>
-    requires { length turns.now < count_max }
+    requires { length turns.now ≤ count_max }
     ensures source { result ≡ source_on side problem.now turns.now column }
     ensures index { IfSome result (λ index. index < count_max) }
 {
@@ -90,7 +90,7 @@ fn is_as_tight(at: WholeNumber, other: WholeNumber, side: Side) -> bool
     }
 }
 
-// The branch of a split that is tighter than a column's own bound.
+// The index of a split that is tighter than a column's own bound.
 fn past_own(found: Option<Tightest>, own: Option<Frac>, side: Side) -> Option<u32>
     ensures { result ≡ option_and_then (λ t. if tightens side own t.at then Some t.index else None) found }
 {

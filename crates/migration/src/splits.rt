@@ -12,14 +12,14 @@ use fraction::Frac;
 use instance::Instance;
 use std::alloc::{AllocError, Global};
 
-// The weights of splits that stand for those of columns at a place, each above 0, in order of the splits.
+// The weights of splits that stand for those of columns below these turns, each above 0, in order of the splits.
 pub(crate) fn split_weights(
     alloc: Global,
     problem: &Instance,
     turns: &[KeptTurn],
     columns: &Items,
 ) -> Result<Items, AllocError>
-    requires { length turns.now < count_max }
+    requires { length turns.now ≤ count_max }
     ensures { IfOk result (λ splits. splits ≡ with_splits problem.now turns.now columns.now []) }
 {
     let columns = columns.as_slice();
@@ -35,7 +35,7 @@ fn named_splits(
     turns: &[KeptTurn],
     columns: &[Item],
 ) -> Result<Vec<Item>, AllocError>
-    requires count { length turns.now < count_max }
+    requires count { length turns.now ≤ count_max }
     requires columns { AreItemsFrom 0 columns.now }
     ensures named { IfOk result (λ named. named.items ≡ with_splits problem.now turns.now columns.now []) }
     ensures indices { IfOk result (λ named. Each (λ i. i.index < count_max) named.items) }
@@ -56,7 +56,7 @@ fn name_split(
     turns: &[KeptTurn],
     item: Item,
 ) -> Result<(), AllocError>
-    requires count { length turns.now < count_max }
+    requires count { length turns.now ≤ count_max }
     requires some { item.weight.numerator ≢ pos 0 }
     requires indices { Each (λ i. i.index < count_max) named.old.items }
     ensures named { OnOk result (named.new.items ≡ placed_if (source problem.now turns.now item) item named.old.items) }

@@ -42,9 +42,10 @@ of_columns s High sides one rest = (one, rest)
 
 -- one more split of a column, on the tree and in the list
 pub one_longer : (s : Split) (side : Side) (here more : List SideOf) (taken pushed : List SplitTaken) → IsColumnSplit s → more ≡ side_of s side ∷ here → pushed ≡ taken ++ (record { split = s; side = side } ∷ []) → AreOfColumns here → here ≡ sides_of taken → AreOfColumns more × (more ≡ sides_of pushed)
-one_longer s side here more taken pushed written turned put columns same =
-    (subst AreOfColumns (sym turned) (of_columns s side here written.form columns),
-     turned ∙ ap (λ (sides : List SideOf). side_of s side ∷ sides) same ∙ sym (sides_more taken (record { split = s; side = side })) ∙ ap sides_of (sym put))
+one_longer s side here more taken pushed written turned put columns same = (
+  subst AreOfColumns (sym turned) (of_columns s side here written.form columns),
+  turned ∙ ap (λ (sides : List SideOf). side_of s side ∷ sides) same ∙ sym (sides_more taken (record { split = s; side = side })) ∙ ap sides_of (sym put),
+)
 
 -- one more split of the list
 pub next_side : (taken : List SplitTaken) (i : ℕ) (t : SplitTaken) → i < length taken → t ≡ get_or taken i t → sides_of (take (i + 1) taken) ≡ side_of t.split t.side ∷ sides_of (take i taken)
