@@ -16,7 +16,7 @@ use std::marker::Model;
 // A problem, with its entries by column where they are wanted and there is memory for them.
 #[derive(Drop)]
 pub(crate) struct ByColumn<'a> {
-    alloc: Option<Global>,
+    alloc: Global,
     problem: &'a Instance,
     entries: Option<EntriesByColumn>,
 }
@@ -35,7 +35,7 @@ impl<'a> Model for ByColumn<'a> {
 
 impl<'a> ByColumn<'a> {
     // The problem's entries are gone over once.
-    pub(crate) fn new(problem: &'a Instance, alloc: Option<Global>) -> Self
+    pub(crate) fn new(alloc: Global, problem: &'a Instance) -> Self
         ensures { result ≡ problem.now }
     {
         ByColumn {
@@ -46,18 +46,18 @@ impl<'a> ByColumn<'a> {
     }
 
     // The problem by row alone, for one test whose sums mostly fit.
-    pub(crate) fn by_row(problem: &'a Instance, alloc: Global) -> Self
+    pub(crate) fn by_row(alloc: Global, problem: &'a Instance) -> Self
         ensures { result ≡ problem.now }
     {
         ByColumn {
-            alloc: Some(alloc),
+            alloc,
             problem,
             entries: None,
         }
     }
 
-    // Where memory for totals is taken from, if it may be.
-    pub(crate) fn alloc(&self) -> Option<Global> {
+    // Where memory for totals is taken from.
+    pub(crate) fn alloc(&self) -> Global {
         self.alloc
     }
 

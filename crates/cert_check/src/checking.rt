@@ -18,8 +18,8 @@ use std::alloc::Global;
 
 /// Whether a certificate proves its verdict for a problem: the first part that does not hold, if there is one. A fault is
 /// the first operation on the way, in the order of the parts and of the tests of each, whose result does not fit. It takes
-/// memory for the problem's entries by column and for the splits on the way to a node; where that is not there it answers
-/// the same, and takes longer.
+/// memory for the problem's entries by column, for a total for each column, and for the splits on the way to a node; where
+/// that is not there it answers the same, and takes longer.
 pub fn check(
     alloc: Global,
     problem: &Instance,
@@ -143,7 +143,7 @@ fn check_tree(
     let version = certificate.version();
     let derived = certificate.derived().as_slice();
     let mut way = Way::root(alloc, certificate.tree());
-    let problem = ByColumn::new(problem, Some(alloc));
+    let problem = ByColumn::new(alloc, problem);
     match check_derived(&problem, version, &way, derived)? {
         Checked::Accepted => check_nodes(version, &problem, goal, derived, &mut way),
         Checked::Refused(part) => Ok(Checked::Refused(part)),

@@ -32,7 +32,7 @@ pub fn shows_no_point(
     requires { place ≤ length tree.now }
     ensures { result ≡ node_answer (record { version = Two; problem = problem.now; derived = derived.now; sides = way tree.now place }) None (Empty weights.now) }
 {
-    let problem = ByColumn::by_row(problem, alloc);
+    let problem = ByColumn::by_row(alloc, problem);
     let way = Way::to(alloc, tree, place);
     let setting = Setting::of_node(Version::Two, &problem, derived, &way);
     empty_passes(&setting, &Named::of_leaf(weights))
@@ -53,7 +53,7 @@ pub fn shows_none_better(
     requires { place ≤ length tree.now }
     ensures { result ≡ node_answer (record { version = Two; problem = problem.now; derived = derived.now; sides = way tree.now place }) (Some value) (Bound weights.now) }
 {
-    let problem = ByColumn::by_row(problem, alloc);
+    let problem = ByColumn::by_row(alloc, problem);
     let way = Way::to(alloc, tree, place);
     let setting = Setting::of_node(Version::Two, &problem, derived, &way);
     bound_passes(&setting, &Named::of_leaf(weights), value)
@@ -63,6 +63,7 @@ pub fn shows_none_better(
 /// the sum 1 at this column and 0 at each other one. Or the first operation on the way that does not fit. Memory is taken
 /// as in `check`.
 pub fn makes_column(
+    alloc: Global,
     problem: &Instance,
     derived: &[Derived],
     tree: &Tree,
@@ -73,7 +74,7 @@ pub fn makes_column(
     requires { place ≤ length tree.now }
     ensures { IfOk result (λ b. b ≡ same_form (length problem.now.columns) (made_form (record { version = One; problem = problem.now; derived = derived.now; sides = way tree.now place }) weights.now) (record { column = column; coefficient = one_ℚ } ∷ [])) }
 {
-    let problem = ByColumn::new(problem, None);
+    let problem = ByColumn::by_row(alloc, problem);
     let way = Way::at(tree, place);
     let setting = Setting::of_node(Version::One, &problem, derived, &way);
     let alone = [Entry {

@@ -66,8 +66,8 @@ impl<'s, 't> Setting<'s, 't> {
         self.problem.problem()
     }
 
-    // Where memory for totals is taken from, if it may be.
-    pub(crate) fn alloc(&self) -> Option<Global> {
+    // Where memory for totals is taken from.
+    pub(crate) fn alloc(&self) -> Global {
         self.problem.alloc()
     }
 

@@ -22,9 +22,8 @@ use std::alloc::Global;
 pub(crate) fn totals_of(setting: &Setting, weights: &Named) -> Option<Vec<Frac>>
     ensures { IfSome result (λ totals. AreTotals (length setting.now.problem.columns) (weight_products setting.now weights.now) totals.items) }
 {
-    let alloc = setting.alloc()?;
     let count = setting.problem().columns().len();
-    let mut totals = zeros(alloc, count)?;
+    let mut totals = zeros(setting.alloc(), count)?;
     match add_weights(&mut totals, setting, weights) {
         Ok(()) => Some(totals),
         Err(_) => None,

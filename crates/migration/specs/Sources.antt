@@ -1,12 +1,11 @@
 -- The split whose bound the weight of a column uses, found from a leaf back to the root.
-use Rattle.std.specs.Prelude.{ℕ, ℤ, pos, ◌+ℤ◌, int_le, List, length, Bool, true, false, ◌&&◌, Option, Some, None, if◌then◌else◌}
+use Rattle.std.specs.Prelude.{ℕ, ℤ, pos, ◌+ℤ◌, int_le, List, Bool, true, false, ◌&&◌, Option, Some, None, if◌then◌else◌}
 use Rattle.rational.specs.Rational.{Rational, whole}
 use Rattle.milp.specs.Problem.{Problem}
-use Rattle.verdicts.specs.Certificate.{Split, Side as SideOf, TreeNode}
+use Rattle.verdicts.specs.Certificate.{Split, Side as SideOf}
 use Rattle.verdicts.specs.Certificate as of
 use Rattle.verdicts.specs.Proves.{lower_under, upper_under, narrows}
 use Rattle.verdicts.specs.Migrated.{raises, lowers, lower_source, upper_source}
-use Rattle.certificate.specs.Ways.{way}
 use Rattle.certificate.specs.declared.split.Side.{Side}
 use Rattle.certificate.specs.declared.split.Side.TheVariants.{Low, High}
 use Rattle.migration.specs.declared.sources.Tightest.{Tightest}
@@ -46,15 +45,15 @@ abbrev pub tighter : Side → Option Tightest → Tightest → Tightest
 tighter side None t = t
 tighter side (Some f) t = if is_as_tight side t.at f.at then t else f
 
--- the tightest split of a column so far, with one more split, whose branch is at a place
+-- the tightest split of a column so far, with one more split, by its index from the root
 abbrev pub with_split : Side → Option Tightest → ℕ → SideOf → ℕ → Option Tightest
-with_split side found place s j = if is_on side s && narrows (split_of s) j then Some (tighter side found (record { place = place; at = (split_of s).at })) else found
+with_split side found index s j = if is_on side s && narrows (split_of s) j then Some (tighter side found (record { index = index; at = (split_of s).at })) else found
 
 -- of what gives a bound and the bound itself, and a split that was found before, whichever is tighter
-abbrev pub tightest_of : Side → List TreeNode → Option ℕ → Option Rational → Option Tightest → Option ℕ
-tightest_of side nodes from bound None = from
-tightest_of side nodes from bound (Some t) = if tightens side bound t.at then Some (length (way nodes t.place)) else from
+abbrev pub tightest_of : Side → Option ℕ → Option Rational → Option Tightest → Option ℕ
+tightest_of side from bound None = from
+tightest_of side from bound (Some t) = if tightens side bound t.at then Some t.index else from
 
 -- the source of a bound, once the splits nearest a leaf are gone over, and others are left
-abbrev pub source_from : Side → Problem → List TreeNode → List SideOf → ℕ → Option Tightest → Option ℕ
-source_from side p nodes sides j found = tightest_of side nodes (source_on side p sides j) (bound_on side p sides j) found
+abbrev pub source_from : Side → Problem → List SideOf → ℕ → Option Tightest → Option ℕ
+source_from side p sides j found = tightest_of side (source_on side p sides j) (bound_on side p sides j) found

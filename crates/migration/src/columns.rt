@@ -1,29 +1,28 @@
 // The weights of a leaf's columns that use bounds of the columns' own.
 ghost use Rattle.std.specs.Prelude.{◌≡◌, ◌≢◌, ◌<◌, ◌≤◌, ◌+◌, ◌++◌, [], length, pos, IfOk, OnOk};
 ghost use Rattle.verdicts.specs.Migrated.{source, kept_if, kept};
-ghost use Rattle.certificate.specs.Ways.{way};
 ghost use Rattle.certificate.specs.Written.{count_max, rank_of, next_rank};
 
+use crate::kept::KeptTurn;
 use crate::sources::source;
-use certificate::{Item, Items, Tree};
+use certificate::{Item, Items};
 use instance::Instance;
 use std::alloc::{AllocError, Global};
 
-// The weights of columns at a place that use a bound of the column's own.
+// The weights of columns that use a bound of the column's own below these turns.
 pub(crate) fn own_columns(
     alloc: Global,
     problem: &Instance,
-    tree: &Tree,
-    place: usize,
+    turns: &[KeptTurn],
     columns: &Items,
 ) -> Result<Items, AllocError>
-    requires { place ≤ length tree.now }
-    ensures { IfOk result (λ own. own ≡ kept problem.now (way tree.now place) columns.now) }
+    requires { length turns.now ≤ count_max }
+    ensures { IfOk result (λ own. own ≡ kept problem.now turns.now columns.now) }
 {
     let mut own = Items::new(alloc);
     let items = columns.as_slice();
     for item in items {
-        keep_own(&mut own, problem, tree, place, *item)?;
+        keep_own(&mut own, problem, turns, *item)?;
     }
     Ok(own)
 }
@@ -32,18 +31,17 @@ pub(crate) fn own_columns(
 fn keep_own(
     own: &mut Items,
     problem: &Instance,
-    tree: &Tree,
-    place: usize,
+    turns: &[KeptTurn],
     item: Item,
 ) -> Result<(), AllocError>
-    requires within { place ≤ length tree.now }
+    requires count { length turns.now ≤ count_max }
     requires index { item.index < count_max }
     requires some { item.weight.numerator ≢ pos 0 }
     requires order { next_rank 0 own.old ≤ rank_of item }
-    ensures kept { OnOk result (own.new ≡ own.old ++ kept_if (source problem.now (way tree.now place) item) item []) }
+    ensures kept { OnOk result (own.new ≡ own.old ++ kept_if (source problem.now turns.now item) item []) }
     ensures next { OnOk result (next_rank 0 own.new ≤ rank_of item + 1) }
 {
-    match source(problem, tree, place, item) {
+    match source(problem, turns, item) {
         None => own.push(item),
         Some(_) => Ok(()),
     }

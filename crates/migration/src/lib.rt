@@ -3,6 +3,7 @@
 
 mod certificates;
 mod columns;
+mod kept;
 mod nodes;
 mod sources;
 mod splits;

@@ -7,6 +7,7 @@ ghost use Rattle.certificate.specs.Ways.{way};
 ghost use Rattle.certificate.specs.Written.{is_tree, IsOfOne};
 
 use crate::columns::own_columns;
+use crate::kept::turns_to;
 use crate::splits::split_weights;
 use certificate::{LeafWeights, Tree, TreeNode, Weights};
 use instance::Instance;
@@ -93,7 +94,8 @@ pub fn named(
 {
     let rows = weights.rows().copy(alloc)?;
     let derived = weights.derived().copy(alloc)?;
-    let columns = own_columns(alloc, problem, tree, place, weights.columns())?;
-    let splits = split_weights(alloc, problem, tree, place, weights.columns())?;
+    let turns = turns_to(alloc, tree, place)?;
+    let columns = own_columns(alloc, problem, &turns, weights.columns())?;
+    let splits = split_weights(alloc, problem, &turns, weights.columns())?;
     Ok(LeafWeights::new(Weights::new(rows, columns, derived), splits))
 }

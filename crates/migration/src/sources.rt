@@ -1,109 +1,79 @@
 // The splits on the way to a leaf whose bounds its weights of columns use.
-ghost use Rattle.std.specs.Prelude.{◌≡◌, ◌<◌, ◌≤◌, ◌+ℤ◌, [], pos, length, option_and_then, if◌then◌else◌, Some, None, IfOk, IfSome};
-ghost use Rattle.std.specs.Option.{option_map};
+ghost use Rattle.std.specs.Prelude.{◌≡◌, ◌<◌, ◌≤◌, ◌+ℤ◌, [], pos, length, option_and_then, if◌then◌else◌, Some, None, IfSome};
 ghost use Rattle.rational.specs.Rational.{whole};
 ghost use Rattle.rational.specs.Compare.{is_less};
-ghost use Rattle.verdicts.specs.Certificate.{Split as SplitOf};
-ghost use Rattle.verdicts.specs.Proves.{narrows};
 ghost use Rattle.verdicts.specs.Migrated.{source};
 ghost use Rattle.certificate.specs.Written.{count_max};
-ghost use Rattle.certificate.specs.Ways.{side_of, way};
-ghost use Rattle.migration.specs.Sources.{bound_on, source_on, tightens, is_as_tight, is_on, tighter, with_split};
+ghost use Rattle.migration.specs.Sources.{bound_on, source_on, tightens, is_as_tight, tighter, with_split};
 
-use certificate::{Item, Side, Split, Tree, Turn, WholeNumber, parts_fit};
+use crate::kept::KeptTurn;
+use certificate::{Item, Side, WholeNumber, parts_fit};
 use fraction::Frac;
 use instance::Instance;
-use std::alloc::AllocError;
 
-// A split that narrows a column: the place of its branch in the preorder, and where its cases part.
+// A split that narrows a column: its index from the root, and where its cases part.
 #[derive(Clone, Copy)]
 pub(crate) struct Tightest {
-    place: usize,
+    index: u32,
     at: WholeNumber,
 }
 
-// The branch of the split whose bound the weight of a column uses at a place, by its place in the preorder; none where the
-// bound is the column's own.
-pub(crate) fn source(problem: &Instance, tree: &Tree, place: usize, item: Item) -> Option<usize>
-    requires { place ≤ length tree.now }
-    ensures within { IfSome result (λ at. at ≤ length tree.now) }
-    ensures source { option_map (λ at. length (way tree.now at)) result ≡ source problem.now (way tree.now place) item }
+// The split whose bound the weight of a column uses below these turns, by its index from the root; none where the bound is the
+// column's own.
+pub(crate) fn source(problem: &Instance, turns: &[KeptTurn], item: Item) -> Option<u32>
+    requires { length turns.now ≤ count_max }
+    ensures source { result ≡ source problem.now turns.now item }
+    ensures index { IfSome result (λ index. index < count_max) }
 {
     let side = if Frac::zero() < item.weight {
         Side::High
     } else {
         Side::Low
     };
-    source_on(problem, tree, place, item.index, side)
+    source_on(problem, turns, item.index, side)
 }
 
-// The branch of the split that gives a column its bound on a side at a place: the tightest on the way, of several the one
-// nearest the root, where it is tighter than the column's own bound.
-fn source_on(
-    problem: &Instance,
-    tree: &Tree,
-    place: usize,
-    column: u32,
-    side: Side,
-) -> Option<usize>
-    requires { place ≤ length tree.now }
-    ensures within { IfSome result (λ at. at ≤ length tree.now) }
-    ensures source { option_map (λ at. length (way tree.now at)) result ≡ source_on side problem.now (way tree.now place) column }
+// The split that gives a column its bound on a side: the tightest on the way, of several the one nearest the root, where it is
+// tighter than the column's own bound.
+fn source_on(problem: &Instance, turns: &[KeptTurn], column: u32, side: Side) -> Option<u32>
+    requires { length turns.now ≤ count_max }
+    ensures source { result ≡ source_on side problem.now turns.now column }
+    ensures index { IfSome result (λ index. index < count_max) }
 {
     let mut found = None;
-    let mut at = place;
-    while let Some(turn) = tree.last_turn(at) {
-        found = with_turn(found, turn, column, side);
-        at = turn.place;
+    let mut left = turns.len() as u32;
+    for turn in turns {
+        left -= 1;
+        found = with_turn(found, turn, left, column, side);
     }
     past_own(found, own_bound(problem, column, side), side)
 }
 
 // The tightest split of a column on a side so far, with one more turn on the way back.
-fn with_turn(found: Option<Tightest>, turn: Turn, column: u32, side: Side) -> Option<Tightest>
-    ensures { result ≡ with_split side found turn.entry.place (side_of turn.entry.split.now turn.entry.side) column }
+fn with_turn(
+    found: Option<Tightest>,
+    turn: &KeptTurn,
+    index: u32,
+    column: u32,
+    side: Side,
+) -> Option<Tightest>
+    ensures { result ≡ with_split side found index turn.now column }
 {
-    if is_on(side, turn.side) && narrows(turn.split, column) {
-        let at = turn.split.at();
-        Some(tighter(found, turn.place, at, side))
+    if turn.narrows(column, side) {
+        Some(tighter(found, index, turn.at(), side))
     } else {
         found
     }
 }
 
-fn is_on(side: Side, taken: Side) -> bool
-    ensures { (s : SplitOf) → result ≡ is_on side (side_of s taken) }
-{
-    match side {
-        Side::Low => match taken {
-            Side::Low => true,
-            Side::High => false,
-        },
-        Side::High => match taken {
-            Side::Low => false,
-            Side::High => true,
-        },
-    }
-}
-
-// The split is one of the column, with coefficient 1.
-fn narrows(split: &Split, column: u32) -> bool
-    ensures { result ≡ narrows split.now column }
-{
-    match split.form().as_slice() {
-        [entry] => entry.coefficient == Frac::one() && entry.column == column,
-        _ => false,
-    }
-}
-
-fn tighter(found: Option<Tightest>, place: usize, at: WholeNumber, side: Side) -> Tightest
-    ensures { result ≡ tighter side found (record { place = place; at = at }) }
+fn tighter(found: Option<Tightest>, index: u32, at: WholeNumber, side: Side) -> Tightest
+    ensures { result ≡ tighter side found (record { index = index; at = at }) }
 {
     match found {
-        None => Tightest { place, at },
+        None => Tightest { index, at },
         Some(found) => {
             if is_as_tight(at, found.at, side) {
-                Tightest { place, at }
+                Tightest { index, at }
             } else {
                 found
             }
@@ -120,15 +90,15 @@ fn is_as_tight(at: WholeNumber, other: WholeNumber, side: Side) -> bool
     }
 }
 
-// The branch of a split that is tighter than a column's own bound.
-fn past_own(found: Option<Tightest>, own: Option<Frac>, side: Side) -> Option<usize>
-    ensures { result ≡ option_and_then (λ t. if tightens side own t.at then Some t.place else None) found }
+// The index of a split that is tighter than a column's own bound.
+fn past_own(found: Option<Tightest>, own: Option<Frac>, side: Side) -> Option<u32>
+    ensures { result ≡ option_and_then (λ t. if tightens side own t.at then Some t.index else None) found }
 {
     match found {
         None => None,
         Some(split) => {
             if tightens(own, split.at, side) {
-                Some(split.place)
+                Some(split.index)
             } else {
                 None
             }
@@ -171,23 +141,4 @@ fn is_below_next(number: Frac, at: WholeNumber) -> bool
         return true;
     }
     number < Frac::whole(at + 1)
-}
-
-// How many splits are on the way to a place, which is the index of a split there. Where a text has no such index, as its
-// greatest is 2^32 - 2, memory counts as wanting.
-pub(crate) fn depth(tree: &Tree, place: usize) -> Result<u32, AllocError>
-    requires { place ≤ length tree.now }
-    ensures depth { IfOk result (λ depth. depth ≡ length (way tree.now place)) }
-    ensures index { IfOk result (λ depth. depth < count_max) }
-{
-    let mut depth = 0u32;
-    let mut at = place;
-    while let Some(turn) = tree.last_turn(at) {
-        if depth >= u32::MAX - 1 {
-            return Err(AllocError);
-        }
-        depth += 1;
-        at = turn.place;
-    }
-    Ok(depth)
 }

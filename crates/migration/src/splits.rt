@@ -3,28 +3,27 @@ ghost use Rattle.std.specs.Prelude.{◌≡◌, ◌≢◌, ◌<◌, ◌≤◌, []
 ghost use Rattle.rational.specs.Rational.{zero_ℚ};
 ghost use Rattle.rational.specs.Compare.{is_less};
 ghost use Rattle.verdicts.specs.Migrated.{source, on_split, placed, placed_if, with_splits, Each, Rising};
-ghost use Rattle.certificate.specs.Ways.{way};
 ghost use Rattle.certificate.specs.Written.{count_max, AreItemsFrom};
 
-use crate::sources::{depth, source};
-use certificate::{Item, Items, Tree};
+use crate::kept::KeptTurn;
+use crate::sources::source;
+use certificate::{Item, Items};
 use fraction::Frac;
 use instance::Instance;
 use std::alloc::{AllocError, Global};
 
-// The weights of splits that stand for those of columns at a place, each above 0, in order of the splits.
+// The weights of splits that stand for those of columns below these turns, each above 0, in order of the splits.
 pub(crate) fn split_weights(
     alloc: Global,
     problem: &Instance,
-    tree: &Tree,
-    place: usize,
+    turns: &[KeptTurn],
     columns: &Items,
 ) -> Result<Items, AllocError>
-    requires { place ≤ length tree.now }
-    ensures { IfOk result (λ splits. splits ≡ with_splits problem.now (way tree.now place) columns.now []) }
+    requires { length turns.now ≤ count_max }
+    ensures { IfOk result (λ splits. splits ≡ with_splits problem.now turns.now columns.now []) }
 {
     let columns = columns.as_slice();
-    let named = named_splits(alloc, problem, tree, place, columns)?;
+    let named = named_splits(alloc, problem, turns, columns)?;
     verdicts::splits_are_named();
     to_items(alloc, &named)
 }
@@ -33,20 +32,19 @@ pub(crate) fn split_weights(
 fn named_splits(
     alloc: Global,
     problem: &Instance,
-    tree: &Tree,
-    place: usize,
+    turns: &[KeptTurn],
     columns: &[Item],
 ) -> Result<Vec<Item>, AllocError>
-    requires within { place ≤ length tree.now }
+    requires count { length turns.now ≤ count_max }
     requires columns { AreItemsFrom 0 columns.now }
-    ensures named { IfOk result (λ named. named.items ≡ with_splits problem.now (way tree.now place) columns.now []) }
+    ensures named { IfOk result (λ named. named.items ≡ with_splits problem.now turns.now columns.now []) }
     ensures indices { IfOk result (λ named. Each (λ i. i.index < count_max) named.items) }
 {
     let mut named = Vec::new(alloc);
     let mut k = columns.len();
     while k > 0 {
         k -= 1;
-        name_split(&mut named, problem, tree, place, columns[k])?;
+        name_split(&mut named, problem, turns, columns[k])?;
     }
     Ok(named)
 }
@@ -55,22 +53,18 @@ fn named_splits(
 fn name_split(
     named: &mut Vec<Item>,
     problem: &Instance,
-    tree: &Tree,
-    place: usize,
+    turns: &[KeptTurn],
     item: Item,
 ) -> Result<(), AllocError>
-    requires within { place ≤ length tree.now }
+    requires count { length turns.now ≤ count_max }
     requires some { item.weight.numerator ≢ pos 0 }
     requires indices { Each (λ i. i.index < count_max) named.old.items }
-    ensures named { OnOk result (named.new.items ≡ placed_if (source problem.now (way tree.now place) item) item named.old.items) }
+    ensures named { OnOk result (named.new.items ≡ placed_if (source problem.now turns.now item) item named.old.items) }
     ensures indices { OnOk result (Each (λ i. i.index < count_max) named.new.items) }
 {
-    match source(problem, tree, place, item) {
+    match source(problem, turns, item) {
         None => Ok(()),
-        Some(branch) => {
-            let index = depth(tree, branch)?;
-            insert(named, on_split(index, item))
-        }
+        Some(index) => insert(named, on_split(index, item)),
     }
 }
 

@@ -20,6 +20,7 @@ mod WorkFaults
 pub mod Laws
 mod Combined
 mod NodePoints
+mod SplitBounds
 mod Paths
 mod OwnValues
 pub mod CheckLaws

@@ -1,14 +1,18 @@
 -- The way to the last place of a tree.
-use Rattle.std.proofs.Common.{◌≡◌, ◌∙◌, ℕ, suc, ◌+◌, ◌<◌, List, [], ◌∷◌, ◌++◌, length, map, take, take-suc, get_or, reverse, refl, sym, ap, arith}
+use Rattle.std.proofs.Common.{◌≡◌, ◌∙◌, ℕ, suc, ◌+◌, ◌<◌, List, [], ◌∷◌, ◌++◌, length, map, take, take-suc, get_or, reverse, refl, sym, ap, subst, arith}
 use Rattle.std.proofs.lemmas.List.{reverse-append, length-map}
 use Rattle.verdicts.specs.Certificate.{Split, Side as SideOf, Low as LowOf, High as HighOf, Weights, TreeNode, Branch, Empty}
 use Rattle.verdicts.specs.Preorder.{way_to}
 use Rattle.certificate.specs.Values.{node_of}
+use Rattle.certificate.specs.Written.{IsColumnSplit}
 use Rattle.certificate.specs.Ways.{side_of}
+use Rattle.certificate.specs.declared.split.Side.{Side}
+use Rattle.certificate.specs.declared.split.Side.TheVariants.{Low, High}
 use Rattle.certificate.specs.declared.tree.TreeNode.{TreeNode as NodeOf}
 use Rattle.search_node.specs.Sides.{sides_of}
 use Rattle.search_node.specs.declared.node.SplitTaken.{SplitTaken}
 use Rattle.search_tree.specs.Paths.{last_sides}
+use Rattle.search_tree.specs.Points.{IsOfColumn, AreOfColumns}
 
 take_all : (nodes : List TreeNode) → take (length nodes) nodes ≡ nodes
 take_all [] = refl
@@ -28,9 +32,20 @@ high_turn nodes s w =
     ∙ ap (λ (ns : List TreeNode). way_to ns 0) (reverse-append (nodes ++ Branch s ∷ []) (Empty w ∷ []) ∙ ap (λ (ns : List TreeNode). Empty w ∷ ns) (reverse-append nodes (Branch s ∷ [])))
     ∙ ap (λ (sides : List SideOf). HighOf s ∷ sides) (sym (sides_are nodes))
 
-sides_more : (taken : List SplitTaken) (t : SplitTaken) → sides_of (taken ++ t ∷ []) ≡ side_of t.split t.side ∷ sides_of taken
+pub sides_more : (taken : List SplitTaken) (t : SplitTaken) → sides_of (taken ++ t ∷ []) ≡ side_of t.split t.side ∷ sides_of taken
 sides_more [] t = refl
 sides_more (u ∷ taken) t = ap (λ (sides : List SideOf). sides ++ side_of u.split u.side ∷ []) (sides_more taken t)
+
+of_columns : (s : Split) (side : Side) (sides : List SideOf) → IsOfColumn s → AreOfColumns sides → AreOfColumns (side_of s side ∷ sides)
+of_columns s Low sides one rest = (one, rest)
+of_columns s High sides one rest = (one, rest)
+
+-- one more split of a column, on the tree and in the list
+pub one_longer : (s : Split) (side : Side) (here more : List SideOf) (taken pushed : List SplitTaken) → IsColumnSplit s → more ≡ side_of s side ∷ here → pushed ≡ taken ++ (record { split = s; side = side } ∷ []) → AreOfColumns here → here ≡ sides_of taken → AreOfColumns more × (more ≡ sides_of pushed)
+one_longer s side here more taken pushed written turned put columns same = (
+  subst AreOfColumns (sym turned) (of_columns s side here written.form columns),
+  turned ∙ ap (λ (sides : List SideOf). side_of s side ∷ sides) same ∙ sym (sides_more taken (record { split = s; side = side })) ∙ ap sides_of (sym put),
+)
 
 -- one more split of the list
 pub next_side : (taken : List SplitTaken) (i : ℕ) (t : SplitTaken) → i < length taken → t ≡ get_or taken i t → sides_of (take (i + 1) taken) ≡ side_of t.split t.side ∷ sides_of (take i taken)

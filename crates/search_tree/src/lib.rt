@@ -3,6 +3,7 @@
 #![tactic(auto)]
 
 mod boards;
+mod bounds;
 mod event;
 mod leaf;
 mod optimum;

@@ -13,24 +13,29 @@ ghost use Rattle.search_tree.specs.Work.{node_setting};
 ghost use Rattle.search_tree.specs.Paths.{last_sides};
 ghost use Rattle.search_tree.specs.Points.{AreOfColumns};
 
-use cert_check::{lower_at, makes_column, shows_no_point, shows_none_better, upper_at};
+use crate::bounds::{lower_below, upper_below};
+use cert_check::{makes_column, shows_no_point, shows_none_better};
 use certificate::{ColumnSplit, DerivedRows, LeafWeights, Side, Tree, TreeNode, Weights};
 use fraction::{Frac, NoFit};
 use instance::Instance;
 use migration::named;
-use search_node::SplitsTaken;
+use search_node::{SplitTaken, SplitsTaken};
 use std::alloc::{AllocError, Global};
 use std::marker::Model;
 
-/// The splits on the way to a node, as the checker's tests of weights read them: a tree whose last place is the node.
+/// The splits on the way to a node, as the checker's tests of weights read them: a tree whose last place is the node; and as
+/// they were taken.
 #[derive(Drop)]
 pub struct Path {
+    alloc: Global,
     tree: Tree,
+    splits: SplitsTaken,
 }
 
 impl Model for Path {
-    ghost use Rattle.std.specs.Prelude.{List};
+    ghost use Rattle.std.specs.Prelude.{List, ◌≡◌};
     ghost use Rattle.verdicts.specs.Certificate.{Side as SideOf};
+    ghost use Rattle.search_node.specs.Sides.{sides_of};
     ghost use Rattle.search_tree.specs.Paths.{last_sides};
     ghost use Rattle.search_tree.specs.Points.{AreOfColumns};
 
@@ -38,7 +43,7 @@ impl Model for Path {
 
     ghost view = { λ p. last_sides p.tree };
 
-    ghost invariant = { λ p. AreOfColumns (last_sides p.tree) };
+    ghost invariant = { λ p. AreOfColumns (last_sides p.tree) × (last_sides p.tree ≡ sides_of p.splits) };
 }
 
 impl Path {
@@ -47,7 +52,9 @@ impl Path {
         ensures { result ≡ [] }
     {
         Path {
+            alloc,
             tree: Tree::new(alloc),
+            splits: SplitsTaken::new(alloc),
         }
     }
 
@@ -72,9 +79,15 @@ impl Path {
         ensures { IfOk result (λ path. path ≡ side_of split side ∷ self) }
     {
         let mut tree = self.tree;
+        let mut splits = self.splits;
         let _column = split.column();
         turn(alloc, &mut tree, split, side)?;
-        Ok(Path { tree })
+        splits.push(SplitTaken { split, side })?;
+        Ok(Path {
+            alloc,
+            tree,
+            splits,
+        })
     }
 
     /// The splits on the way are of columns.
@@ -148,7 +161,15 @@ impl Path {
         ensures { result ≡ true → same_form (length problem.now.columns) (made_form (node_setting problem.now cuts.now self.now) weights.now) (unit_form column) ≡ true }
     {
         let place = self.tree.as_slice().len();
-        match makes_column(problem, cuts.as_slice(), &self.tree, place, weights, column) {
+        match makes_column(
+            self.alloc,
+            problem,
+            cuts.as_slice(),
+            &self.tree,
+            place,
+            weights,
+            column,
+        ) {
             Ok(makes) => makes,
             Err(_) => false,
         }
@@ -158,16 +179,14 @@ impl Path {
     pub(crate) fn lower(&self, problem: &Instance, column: u32) -> Result<Option<Frac>, NoFit>
         ensures { IfOk result (λ bound. bound ≡ lower_under problem.now self.now column) }
     {
-        let place = self.tree.as_slice().len();
-        lower_at(problem, &self.tree, place, column)
+        lower_below(problem, self.splits.as_slice(), column)
     }
 
     // The upper bound of a column under the splits on the way.
     pub(crate) fn upper(&self, problem: &Instance, column: u32) -> Option<Frac>
         ensures { result ≡ upper_under problem.now self.now column }
     {
-        let place = self.tree.as_slice().len();
-        upper_at(problem, &self.tree, place, column)
+        upper_below(problem, self.splits.as_slice(), column)
     }
 }
 

@@ -1,5 +1,4 @@
 use Rattle.std.proofs.Common.{◌≡◌, ◌-◌, ◌<◌, suc, List, length, arith}
-use Rattle.certificate.specs.Ways.{way}
 use Rattle.verdicts.specs.Certificate.{Side}
 use Rattle.migration.proofs.Order.{item_of}
 use Rattle.migration.proofs.NamedItems.{split_named}
@@ -12,7 +11,7 @@ name_split-requires-clause-some c =
 
 pub loop-k-preserved : goal.loop-k-preserved
 loop-k-preserved c =
-    let sides : List Side = way c.args.tree.now c.args.place in
+    let sides : List Side = c.args.turns.now in
     let here : c.loop-k.k - 1 < length c.args.columns.now = omega (arith, c.loop-k-test.true, c.loop-k.invariant.within) in
     let one : c.loop-k.k ≡ suc (c.loop-k.k - 1) = omega (arith, c.loop-k-test.true) in
     record {
