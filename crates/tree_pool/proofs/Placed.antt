@@ -1,5 +1,5 @@
 -- The nodes of a board's tree with another tree in the place of a leaf.
-use Rattle.std.proofs.Common.{◌≡◌, ◌∙◌, ℕ, zero, suc, ◌+◌, ◌*◌, ◌<◌, ◌≤◌, List, [], ◌∷◌, ◌++◌, drop, set, get_or, length, length-append, refl, sym, ap, subst, Option, Some, None, append_assoc, arith, slice_get}
+use Rattle.std.proofs.Common.{◌≡◌, ◌∙◌, ℕ, zero, suc, ◌+◌, ◌*◌, ◌<◌, List, [], ◌∷◌, ◌++◌, drop, set, length, length-append, refl, sym, ap, subst, Some, None, append_assoc, arith, slice_get}
 use Rattle.std.proofs.lemmas.List.{map-append, length-set, get_or-set_other, get_or_append_left, get_or_at, drop-drop, drop_at}
 use Rattle.certificate.specs.declared.split.Side.{Side}
 use Rattle.certificate.specs.declared.split.Side.TheVariants.{Low, High}

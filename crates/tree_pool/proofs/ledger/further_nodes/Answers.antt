@@ -1,4 +1,4 @@
-use Rattle.std.proofs.Common.{◌≡◌, ◌∙◌, ◌-◌, ap, arith}
+use Rattle.std.proofs.Common.{◌∙◌, ◌-◌, ap, arith}
 use Rattle.search_tree.proofs.Laws.{nodes_count}
 use Rattle.tree_pool.proofs.ledger.further_nodes.Goals as goal
 

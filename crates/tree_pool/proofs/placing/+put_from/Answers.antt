@@ -41,8 +41,7 @@ put_from-behind-requires t c =
     let room = c.requires.room.2 in
     let same_room = c.fork.ensures.room in
     let paths_room = c.requires.room.3 in
-    let less_room = c.fork-in-Some.ensures.room in
-    (
+    let less_room = c.fork-in-Some.ensures.room in (
       omega (arith, within, next),
       (
         (sides.low, subst (λ m. Begins slots m sides.low) (sym next) sides.low_begins, omega (arith, many, old, new, count, room, same_room), omega (arith, many, paths_room, less_room)),
@@ -75,8 +74,7 @@ put_from-requires t c =
     let room = c.requires.room.2 in
     let same_room = c.fork.ensures.room in
     let paths_room = c.requires.room.3 in
-    let less_room = c.fork-in-Some.ensures.room in
-    (
+    let less_room = c.fork-in-Some.ensures.room in (
       omega (arith, within, next, behind),
       (
         (
