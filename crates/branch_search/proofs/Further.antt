@@ -1,6 +1,5 @@
 -- What rounds keep, and that less work is left after each.
-use Rattle.std.proofs.Common.{◌≡◌, ◌∙◌, ℕ, suc, ◌+◌, ◌*◌, ◌-◌, ◌≤◌, inl, inr, List, [], Bool, true, false, cond, nat_lt, refl, sym, ap, subst, Option, None, arith, ◌<◌, ◌∷◌}
-use Rattle.std.proofs.lemmas.Bool.Decides.{nat_tests}
+use Rattle.std.proofs.Common.{◌≡◌, ◌∙◌, ℕ, suc, ◌+◌, ◌*◌, ◌-◌, ◌≤◌, min, inl, inr, List, [], Bool, true, false, cond, refl, sym, ap, subst, Option, None, arith, ◌<◌, ◌∷◌}
 use Rattle.rational.specs.Rational.{Rational}
 use Rattle.verdicts.specs.Certificate.{Side as SideOf, Low as LowOf, High as HighOf}
 use Rattle.certificate.specs.declared.split.Side.{Side}
@@ -12,7 +11,7 @@ use Rattle.search_tree.specs.declared.leaf.Lease.{Lease}
 use Rattle.search_tree.specs.declared.leaf.Leaf.{Leaf}
 use Rattle.search_tree.specs.declared.leaf.Leaf.TheVariants.{Todo, Treated, Leased, Refuted, Bounded, NotFitting, AtLimit}
 use Rattle.search_tree.specs.Tree.{Tree, AtLeaf, IsTodo, AllLeaves, replaced, sides_to, lease_of, of_lease, made, granted, sum_of_leaves, given_back, reclaimed, Divided}
-use Rattle.search_tree.specs.Board.{Board, after, value_of}
+use Rattle.search_tree.specs.Board.{Board, after, value_of, most_granted}
 use Rattle.search_tree.specs.Kept.{IsKept, closed_node}
 use Rattle.search_tree.specs.Finished.{IsThere}
 use Rattle.search_tree.specs.Steps.{Step, IsLease, IsOffer, IsReclaim}
@@ -21,7 +20,7 @@ use Rattle.branch_search.specs.Settled.{seat, IsOutcome, IsPut, IsWorked, IsLeft
 use Rattle.branch_search.specs.declared.settling.Round.{Round}
 use Rattle.branch_search.specs.declared.settling.Round.TheVariants.{Worked, Left, Idle}
 use Rattle.branch_search.specs.Underway.{IsStanding, IsUnderway, IsGoing, to_do, not_ended, work_left, count_to_do, AreSame, IsAtEnd, IsLess, IsFurther, IsNext}
-use Rattle.branch_search.proofs.Leased.{OrLeased, not_both, all_leaves, leaves_replaced, grafted, stays_leased}
+use Rattle.branch_search.proofs.Leased.{OrLeased, all_leaves, leaves_replaced, grafted, stays_leased}
 
 -- a leaf is leased, and all others stand as in a search that is under way
 record IsAtWork (b : Board) (best : Option Rational) (out : Bool) (lease : Lease) : Type 0 where
@@ -66,18 +65,8 @@ closed_not_leased (Bounded w) h = refl
 closed_not_leased (NotFitting e) h = absurd h
 closed_not_leased (AtLimit bases) h = absurd h
 
-abbrev grant_by : Bool → ℕ
-grant_by t = cond t 1 0
-
-no_grant : (sum limit : ℕ) → grant_by (nat_lt sum limit) ≡ 0 → limit ≤ sum
-no_grant sum limit h = go (nat_lt sum limit) refl h
-  where
-    past : (a b : ℕ) → nat_lt a b ≡ false → b ≤ a
-    past a b e = grind (arith, nat_tests)
-
-    go : (t : Bool) → nat_lt sum limit ≡ t → grant_by t ≡ 0 → limit ≤ sum
-    go true e k = absurd (not_both (grant_by true) k refl)
-    go false e k = past sum limit e
+no_grant : (sum limit : ℕ) → min most_granted (limit - sum) ≡ 0 → limit ≤ sum
+no_grant sum limit h = omega (arith, h)
 
 same_value : (b : Board) (t : Tree) (event : Event) (reply : Reply) (c : Board) → c ≡ after b t b.best event reply → value_of c ≡ value_of b
 same_value b t event reply c e = ap value_of e

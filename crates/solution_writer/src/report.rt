@@ -1,8 +1,9 @@
 // The reports.
 ghost use Rattle.std.specs.Prelude.{◌≡◌, IfOk, IsSome, IsSomeAnd, Some, length, string_bytes};
 ghost use Rattle.std.specs.Option.{option_map};
+ghost use Rattle.milp.specs.Problem.{Problem};
 ghost use Rattle.gmpl_generate.specs.Solved.{RowsFit};
-ghost use Rattle.solution_writer.specs.Report.{optimal_at, unbounded_at, optimal_report, unbounded_report, solved_report, translated_report, accepted_report, IsShownPoint, IsReportable};
+ghost use Rattle.solution_writer.specs.Report.{optimal_at, unbounded_at, optimal_report, unbounded_report, solved_report, translated_report, accepted_report, IsShownPoint, IsReportable, summary_report, optimal_summary, size_lines};
 
 use crate::lines::{column_lines, head_line, ray_lines, row_lines};
 use crate::values::row_values;
