@@ -105,7 +105,7 @@ module _ (text : List ℕ) (p : Problem) (count : ℕ) (declares : declared text
     problem = p;
     asks = plain_words;
     solves = tt;
-    has = (has, short, tt);
+    has = ((has, short), tt);
     tables_told = tt;
     asked = asked;
     linear = linear;

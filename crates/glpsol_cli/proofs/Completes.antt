@@ -379,8 +379,8 @@ module _ (c : Certificate) (again : List (List ℕ)) (told : ToldNames) (files_r
   as_many : length k.texts ≡ suc (length k.settings.data_files)
   as_many =
       let all : length (k.texts ++ certificate_text c ∷ []) ≡ suc (length (k.settings.data_files ++ k.name ∷ [])) =
-          told_many told (k.settings.model ∷ map Some (k.settings.data_files ++ k.name ∷ [])) (k.texts ++ certificate_text c ∷ []) k.has
-          ∙ ap suc (length-map Some (k.settings.data_files ++ k.name ∷ [])) in
+      told_many told (k.settings.model ∷ map Some (k.settings.data_files ++ k.name ∷ [])) (k.texts ++ certificate_text c ∷ []) k.has
+      ∙ ap suc (length-map (k.settings.data_files ++ k.name ∷ []) Some) in
       let texts = length_push k.texts (certificate_text c) in
       let names = length_push k.settings.data_files k.name in
       omega (arith, all, texts, names)

@@ -57,7 +57,7 @@ at_least [] more = omega arith
 at_least (name ∷ names) more = let k = at_least names more in omega (arith, k)
 
 pub many_sources : (s : Settings) → length (sources_of s) ≡ suc (length (s.data_files ++ names_checked s.task))
-many_sources s = ap suc (length-map Some (s.data_files ++ names_checked s.task))
+many_sources s = ap suc (length-map (s.data_files ++ names_checked s.task) Some)
 
 -- there is a text for the model and for each data file
 pub enough : (told : ToldNames) (s : Settings) (texts : List (List ℕ)) → AreTexts told (sources_of s) texts → length s.data_files < length texts

@@ -15,7 +15,7 @@ use Rattle.cert_check.specs.Parts.{point_answer, value_answer, ray_rows_answer, 
 use Rattle.cert_check.specs.Outcome.{Outcome, Acceptance, Refusal, Fault, judged, outcome, trials, verdict_trials, value_trials, ray_trials, tree_trials, form_goal}
 use Rattle.gmpl_generate.specs.Solved.{RowsFit}
 use Rattle.solution_writer.specs.Subset.{subset_report}
-use Rattle.solution_writer.specs.Report.{IsShownPoint, HasParts, IsReportable, solved_report, verdict_report, summary_by, optimal_summary, optimal_at, unbounded_at, optimal_report, unbounded_report, translated_report}
+use Rattle.solution_writer.specs.Report.{IsShownPoint, HasParts, IsReportable, verdict_report, summary_by, optimal_summary, optimal_at, unbounded_at, optimal_report, unbounded_report, translated_report}
 use Rattle.std.specs.Option.{option_map}
 use Rattle.command_line.specs.declared.settings.Settings.{Settings}
 use Rattle.command_line.specs.declared.settings.Task.{Task}
@@ -144,8 +144,11 @@ module _ (p : Problem) where
   summary_there : (c : Certificate) (v : Verdict) → HasParts p c v → (report : List ℕ) × (summary_by p c v ≡ Some report)
   summary_there c Optimal h = value_there c.value h.0
     where
+      nothing : IsSome {T = Rational} None → ⊥
+      nothing h = cc
+
       value_there : (value : Option Rational) → IsSome value → (report : List ℕ) × (optimal_summary p value ≡ Some report)
-      value_there None h = absurd h
+      value_there None h = absurd (nothing h)
       value_there (Some value) h = (_, refl)
   summary_there c Infeasible h = (_, refl)
   summary_there c Unbounded h = (_, refl)

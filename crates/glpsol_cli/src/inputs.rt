@@ -146,11 +146,7 @@ fn load_all<S: Store>(
 }
 
 // The text of a file, or an empty one where there is no file.
-fn load_from<S: Store>(
-    alloc: Global,
-    source: &Option<Name>,
-    files: &mut S,
-) -> Result<Vec<u8>, Stop>
+fn load_from<S: Store>(alloc: Global, source: &Option<Name>, files: &mut S) -> Result<Vec<u8>, Stop>
     ensures text { IfOk result (λ text. IsTextFrom (S.told files.old) source.now text.items) }
     ensures stop { IfErr result (IsStopFrom source.now (S.told files.old) (Rose (S.faults files.old) (S.faults files.new))) }
     ensures told { (other : List ℕ) → S.told files.new other ≡ S.told files.old other }
