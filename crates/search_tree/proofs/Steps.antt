@@ -1,5 +1,5 @@
 -- Each event keeps a kept board.
-use Rattle.std.proofs.Common.{◌≡◌, ◌∙◌, ℕ, ◌+◌, ◌≤◌, List, [], ◌∷◌, ◌++◌, Bool, true, false, refl, sym, ap, subst, cond, nat_lt, option_map, Option, Some, None, IfSome, length, ◌==◌, length-append, arith, ⊎_elim}
+use Rattle.std.proofs.Common.{◌≡◌, ◌∙◌, ℕ, ◌+◌, ◌-◌, min, ◌≤◌, List, [], ◌∷◌, ◌++◌, Bool, true, false, refl, sym, ap, subst, cond, option_map, Option, Some, None, IfSome, length, ◌==◌, length-append, arith, ⊎_elim}
 use Rattle.std.specs.List.{AllByRecursion}
 use Rattle.std.proofs.lemmas.Bool.Decides.{nat_tests}
 use Rattle.rational.specs.Rational.{Rational, ◌≤ℚ◌, ◌*ℚ◌}
@@ -19,7 +19,7 @@ use Rattle.search_tree.specs.declared.event.Reply.{Reply}
 use Rattle.search_tree.specs.declared.event.Entry.{Entry}
 use Rattle.search_tree.specs.declared.event.Event.TheVariants.{Leasing, Idling, Grafting, Offering, Reclaiming}
 use Rattle.search_tree.specs.declared.event.Reply.TheVariants.{Given, StillLeased, Best, Done}
-use Rattle.search_tree.specs.Board.{value_told, IsTold, Board, value_of, after, next_grant, next_lease, better_of}
+use Rattle.search_tree.specs.Board.{value_told, IsTold, Board, value_of, after, most_granted, next_grant, next_lease, better_of}
 use Rattle.search_tree.specs.Kept.{HasSums, IsNoBetter, IsKept}
 use Rattle.search_tree.specs.Nodes.{IsHonestSplit, KeepsLeaf}
 use Rattle.search_tree.specs.Steps.{IsSound, Step}
@@ -95,15 +95,8 @@ longer b e n k h = let size = length-append b.log (e ∷ []) in k.none_to_come n
 
 -- ---- leases
 
-pub grant_fits : (done limit : ℕ) → done ≤ limit → done + cond (nat_lt done limit) 1 0 ≤ limit
-grant_fits done limit h = go (nat_lt done limit) refl
-  where
-    go : (t : Bool) → nat_lt done limit ≡ t → done + cond t 1 0 ≤ limit
-    go true e = less done limit e
-      where
-        less : (m n : ℕ) → nat_lt m n ≡ true → m + 1 ≤ n
-        less m n e = grind (arith, nat_tests)
-    go false e = omega arith
+grant_fits : (done limit most : ℕ) → done ≤ limit → done + min most (limit - done) ≤ limit
+grant_fits done limit most h = omega arith
 
 lease_kept : (b : Board) (seat : ℕ) (way : List Side) (leaf : Leaf) → IsKept b → IsTodo leaf → at_place b.tree way ≡ Some (AtLeaf leaf) → IsKept (after b (replaced b.tree way (AtLeaf (Leased (next_lease b)))) b.best (Leasing seat) (Given way (next_lease b)))
 lease_kept b seat way leaf k todo h =
@@ -112,7 +105,7 @@ lease_kept b seat way leaf k todo h =
     let made_more : made (replaced b.tree way new) ≡ made b.tree + 0 = made_replaced b.tree way leaf new h in
     let none_held : grant_in leaf ≡ 0 = ap (of_lease (λ lease. lease.grant)) free in
     let granted_more : granted (replaced b.tree way new) + grant_in leaf ≡ granted b.tree + next_grant b = sum_replaced grant_in b.tree way leaf new h in
-    let fits = grant_fits (made b.tree + granted b.tree) b.split_limit k.within in
+    let fits = grant_fits (made b.tree + granted b.tree) b.split_limit most_granted k.within in
     let under : (n : ℕ) → leased_under n (replaced b.tree way new) + 0 ≡ leased_under n b.tree + under_in n (Leased (next_lease b)) = λ n. ap (λ m. leased_under n (replaced b.tree way new) + m) (sym (ap (of_lease (λ lease. cond (lease.number == n) 1 0)) free)) ∙ sum_replaced (under_in n) b.tree way leaf new h in
     record {
       best = k.best;

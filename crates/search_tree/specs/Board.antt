@@ -1,5 +1,5 @@
 -- The board of a search: its state, and what an event makes of it.
-use Rattle.std.specs.Prelude.{ℕ, ◌+◌, ◌≡◌, ◌⊎◌, List, [], ◌∷◌, ◌++◌, length, Option, Some, None, cond, nat_lt, option_map}
+use Rattle.std.specs.Prelude.{ℕ, ◌+◌, ◌-◌, min, ◌≡◌, ◌⊎◌, List, [], ◌∷◌, ◌++◌, length, Option, Some, None, cond, option_map}
 use Rattle.rational.specs.Compare.{is_less}
 use Rattle.rational.specs.Rational.{Rational, ◌*ℚ◌}
 use Rattle.milp.specs.Problem.{Problem}
@@ -50,9 +50,13 @@ after b tree best event reply = record {
   log = b.log ++ record { event = event; reply = reply } ∷ [];
 }
 
--- one split where the limit leaves one, else none
+-- no lease grants more splits
+abbrev pub most_granted : ℕ
+most_granted = 16
+
+-- the splits that the limit leaves beside those that are made and granted, and at most `most_granted`
 abbrev pub next_grant : Board → ℕ
-next_grant b = cond (nat_lt (made b.tree + granted b.tree) b.split_limit) 1 0
+next_grant b = min most_granted (b.split_limit - (made b.tree + granted b.tree))
 
 abbrev pub next_lease : Board → Lease
 next_lease b = record { number = length b.log; grant = next_grant b; best = value_of b }

@@ -1,5 +1,5 @@
 // What holds of boards and their nodes.
-ghost use Rattle.std.specs.Prelude.{ℕ, ◌<◌, List, [], ◌≡◌, length, Option, Some, None, IfSome};
+ghost use Rattle.std.specs.Prelude.{ℕ, ◌<◌, ◌≤◌, ◌+◌, List, [], ◌≡◌, length, Option, Some, None, IfSome};
 ghost use Rattle.rational.specs.Rational.{Rational};
 ghost use Rattle.milp.specs.Problem.{Problem};
 ghost use Rattle.milp.specs.Points.{objective_value};
@@ -22,7 +22,9 @@ ghost use Rattle.search_tree.specs.Ascending.{AreFormsAscending};
 ghost use Rattle.search_tree.specs.Work.{IsWorkFault};
 ghost use Rattle.search_tree.specs.Pinned.{IsPinned};
 ghost use Rattle.search_tree.specs.Points.{AreOfColumns};
-ghost use Rattle.search_tree.specs.Tree.{sides_to};
+ghost use Rattle.search_tree.specs.declared.leaf.Lease.{Lease};
+ghost use Rattle.search_tree.specs.declared.leaf.Leaf.TheVariants.{Leased};
+ghost use Rattle.search_tree.specs.Tree.{AtLeaf, at_place, sides_to};
 ghost use Rattle.search_tree.specs.Board.{Board};
 ghost use Rattle.search_tree.specs.declared.event.Event.{Event};
 ghost use Rattle.search_tree.specs.declared.event.Reply.{Reply};
@@ -38,9 +40,12 @@ pub fn kept_boards()
     ensures replays { (b : Board) → IsReplay b → IsKept b }
 {}
 
-/// The way to each place of a kept board is honest, and no longer than the limit of splits.
+/// The way to each place of a kept board is honest, and no longer than the limit of splits; the way to a leased leaf leaves
+/// room below that limit for the splits that the lease grants.
 pub fn ways_of_boards()
-    ensures { (b : Board) → IsKept b → (way : List Side) → IsHonestWay b.problem b.cuts b.split_limit (sides_to b.tree way []) }
+    ensures honest { (b : Board) → IsKept b → (way : List Side) → IsHonestWay b.problem b.cuts b.split_limit (sides_to b.tree way []) }
+    ensures leaves_room { (b : Board) → IsKept b → (way : List Side) (lease : Lease) → at_place b.tree way ≡ Some (AtLeaf (Leased lease)) →
+        length (sides_to b.tree way []) + lease.grant ≤ b.split_limit }
 {}
 
 /// The checker accepts the certificate of a kept board whose leaves are all closed: it refuses no part, and all its

@@ -7,6 +7,9 @@ use search_node::{Bases, Basis};
 use std::alloc::{AllocError, Global};
 use std::marker::Model;
 
+/// No lease grants more splits.
+pub const MOST_GRANTED: usize = 16;
+
 /// The right to work on a leaf: its number, which is the length of the board's log when it was given, how many splits it
 /// may make, and the best value when it was given.
 #[derive(Clone, Copy)]

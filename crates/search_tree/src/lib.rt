@@ -17,7 +17,7 @@ pub use boards::{
     none_far_out, optimal_points, treated_nodes, ways_of_boards,
 };
 pub use event::{Entry, Event, Reply};
-pub use leaf::{Hint, Leaf, Lease, Slot};
+pub use leaf::{Hint, Leaf, Lease, MOST_GRANTED, Slot};
 pub use optimum::is_optimal;
 pub use path::Path;
 pub use points::{form_value, is_node_point};

@@ -54,6 +54,24 @@ impl Subtree {
         Ok(Subtree { slots })
     }
 
+    /// The tree of a split and its two sides.
+    pub fn divided(
+        alloc: Global,
+        split: ColumnSplit,
+        low: Subtree,
+        high: Subtree,
+    ) -> Result<Self, AllocError>
+        ensures { IfOk result (λ t. t ≡ Divided split low high) }
+    {
+        let Subtree { slots: mut first } = low;
+        let Subtree { slots: mut second } = high;
+        let mut slots = Vec::with_capacity(alloc, 1)?;
+        slots.push_reserved(Slot::Divided(split));
+        slots.append(&mut first)?;
+        slots.append(&mut second)?;
+        Ok(Subtree { slots })
+    }
+
     /// The nodes in preorder, for reading.
     pub fn as_slice(&self) -> &[Slot]
         ensures { result.now ≡ slots_of self.now }
