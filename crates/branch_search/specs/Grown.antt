@@ -76,7 +76,7 @@ IsGrown p ds limit sides best grant (Ungranted hint) = IsUngranted p ds sides be
 
 -- the best value stays; or a feasible point that beats it was found since, and its value is the best one now
 pub data IsOnward (p : Problem) (old new : Progress) : Type 0 where
-  same : new.best ≡ old.best → new.found ≡ old.found → IsOnward p old new
+  unchanged : new.best ≡ old.best → new.found ≡ old.found → IsOnward p old new
   better : (x : List Rational) → IsBetterPoint p old.best x → new.best ≡ Some (objective_value p x) → new.found ≡ Some x → IsOnward p old new
 
 -- the tree has grown below these splits, and each of its splits was one of those that were left
@@ -96,4 +96,4 @@ pub record IsClosed (p : Problem) (ds : List Derived) (limit : ℕ) (sides : Lis
 -- the node is closed, or it is to be split, and nothing was found
 abbrev pub IsDecided : Problem → List Derived → ℕ → Node → Progress → Progress → Decided → Type 0
 IsDecided p ds limit node old new (Closed leaf) = IsClosed p ds limit (sides_of node.splits) old new leaf
-IsDecided p ds limit node old new (ToSplit same fractional) = (same ≡ node) × (new ≡ old) × IsToSplit p ds (sides_of node.splits) old.best fractional
+IsDecided p ds limit node old new (ToSplit parent fractional) = (parent ≡ node) × (new ≡ old) × IsToSplit p ds (sides_of node.splits) old.best fractional
