@@ -1,12 +1,12 @@
 -- Trees that may be put in the place of a leased leaf.
-use Rattle.std.proofs.Common.{◌≡◌, ◌∙◌, List, [], cond, false, refl, sym, ap, subst, Option, Some, None, IfSome, option_map, Result, Ok, Err, IfOk, OnOk, is_err}
+use Rattle.std.proofs.Common.{◌≡◌, ◌∙◌, ℕ, List, [], cond, false, refl, sym, ap, subst, Option, Some, None, IfSome, option_map, Result, Ok, Err, IfErr, IfOk, OnOk, is_err}
 use Rattle.std.specs.Result.{result_ok}
 use Rattle.std.proofs.lemmas.Option.{same_Some}
 use Rattle.rational.specs.Rational.{Rational}
 use Rattle.rational.proofs.Laws.{true_less}
 use Rattle.milp.specs.Problem.{Problem}
 use Rattle.milp.specs.Points.{objective_value}
-use Rattle.verdicts.specs.Certificate.{Side as SideOf}
+use Rattle.verdicts.specs.Certificate.{Side as SideOf, Derived}
 use Rattle.certificate.specs.declared.split.Side.{Side}
 use Rattle.search_tree.specs.declared.leaf.Lease.{Lease}
 use Rattle.search_tree.specs.declared.leaf.Leaf.TheVariants.{Leased}
@@ -15,17 +15,15 @@ use Rattle.search_tree.specs.Nodes.{Beats, IsTreated}
 use Rattle.search_tree.specs.Board.{Board, value_of, IsTold, better_of}
 use Rattle.search_tree.specs.Steps.{IsOffer, MayGraft}
 use Rattle.tree_pool.specs.Places.{IsOpen}
+use Rattle.branch_search.specs.declared.fault.SearchFault.{SearchFault}
 use Rattle.branch_search.specs.declared.fragment.Fragment.{Fragment}
 use Rattle.branch_search.specs.declared.fragment.Grown.{Grown}
 use Rattle.branch_search.specs.declared.fragment.Grown.TheVariants.{Ready, Ungranted}
+use Rattle.branch_search.specs.Faults.{IsFault}
 use Rattle.branch_search.specs.Grown.{IsHonestTree, IsOutcome, IsBetterPoint, best_with, IsFragment, IsUngranted, IsGrown}
 use Rattle.branch_search.specs.Places.{LeadTo, GrowsAt, IsFragmentAt, MayStand}
 use Rattle.branch_search.specs.Settled.{seat, IsLeft}
 use Rattle.branch_search.proofs.Growth.{none_leased_in}
-
-pub if_ok : {A E : Type 0} (r : Result A E) (P Q : A → Type 0) → ((x : A) → P x → Q x) → IfOk r P → IfOk r Q
-if_ok (Ok x) P Q f h = f x h
-if_ok (Err e) P Q f h = tt
 
 pub value_of_ok : {A E : Type 0} (r : Result A E) (x : A) (P : A → Type 0) → result_ok r ≡ Some x → IfOk r P → P x
 value_of_ok (Ok y) x P e h = subst P (same_Some y x e) h
@@ -77,6 +75,9 @@ stands_at_once b lease fragment best h none way there =
 pub outcome_at : (b : Board) (lease : Lease) (fragment : Fragment) → IsOpen b.tree lease → IsFragmentAt b lease fragment → IsOutcome lease.grant fragment.tree
 outcome_at b lease fragment is_open h = (h is_open.way is_open.there).outcome
 
+pub with_point : (b : Board) (lease : Lease) (fragment : Fragment) (x : List Rational) → IsFragmentAt b lease fragment → fragment.found ≡ Some x → IsFragmentAt b lease (record { tree = fragment.tree; found = Some x })
+with_point b lease fragment x h is = subst (λ (o : Option (List Rational)). IsFragmentAt b lease (record { tree = fragment.tree; found = o })) is h
+
 -- ---- after a point was offered
 
 pub point_at : (b : Board) (lease : Lease) (x : List Rational) (t : Tree) → IsOpen b.tree lease → IsFragmentAt b lease (record { tree = t; found = Some x }) → IsBetterPoint b.problem lease.best x
@@ -98,3 +99,12 @@ stands_then b lease x t best c is_open is_best h o =
 
 pub open_then : (b : Board) (lease : Lease) (x : List Rational) (best : Option Rational) (c : Board) → IsOpen b.tree lease → IsOffer b seat x best c → IsOpen c.tree lease
 open_then b lease x best c is_open o = subst (λ (d : Board). IsOpen d.tree lease) (sym o.new) is_open
+
+-- ---- faults
+
+pub fault_on : {A : Type 0} (r : Result A SearchFault) (b : Board) (p : Problem) (ds : List Derived) (pivots : ℕ) → p ≡ b.problem → ds ≡ b.cuts → b.pivot_limit ≡ pivots → IfErr r (IsFault p ds b.split_limit pivots) → IfErr r (IsFault b.problem b.cuts b.split_limit b.pivot_limit)
+fault_on r b p ds pivots problem cuts limit h =
+    let P : Problem → Type 0 = λ q. IfErr r (IsFault q ds b.split_limit pivots) in
+    let D : List Derived → Type 0 = λ cs. IfErr r (IsFault b.problem cs b.split_limit pivots) in
+    let L : ℕ → Type 0 = λ n. IfErr r (IsFault b.problem b.cuts b.split_limit n) in
+    subst L (sym limit) (subst D cuts (subst P problem h))

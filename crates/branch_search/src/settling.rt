@@ -83,7 +83,8 @@ fn put_with(
 {
     offer(board, point)?;
     graft(alloc, board, lease, tree)?;
-    board.reclaim(alloc)
+    board.reclaim(alloc)?;
+    Ok(())
 }
 
 fn graft(alloc: Global, board: &mut Board, lease: Lease, tree: Subtree) -> Result<(), AllocError>
