@@ -13,6 +13,7 @@ import sys
 
 TOP = os.path.dirname(os.path.dirname(os.path.abspath(__file__)))
 ROWS = os.path.join(TOP, "crates", "search_rows", "stdin")
+MOST_GRANTED = 16
 
 
 class Unfollowed(Exception):
@@ -55,7 +56,7 @@ class Account:
         if first == "idle":
             demand(self.count("todo") == 0 and int(rest[0]) == len(self.leased()), "idle")
             return
-        grant = 1 if self.splits + self.granted() < self.limit else 0
+        grant = max(0, min(MOST_GRANTED, self.limit - self.splits - self.granted()))
         demand((int(first), int(rest[0]), rest[1]) == (self.events, grant, self.value()), "the lease")
         demand(self.leaves.get(rest[2]) == "todo", "the leaf")
         self.leaves[rest[2]] = (self.events, grant)

@@ -1,12 +1,9 @@
 -- A log with the nodes of the tree that it leads to, after one more entry.
-use Rattle.std.proofs.Common.{◌≡◌, ◌∙◌, ℕ, zero, suc, ◌+◌, ◌<◌, ◌≤◌, List, [], ◌∷◌, ◌++◌, Bool, true, false, set, length, length-append, refl, sym, ap, subst, cond, Option, Some, None, IfSome, slice_get, arith}
+use Rattle.std.proofs.Common.{◌≡◌, ◌∙◌, ℕ, zero, suc, ◌+◌, ◌<◌, ◌≤◌, List, [], ◌∷◌, ◌++◌, Bool, true, false, set, length, length-append, refl, sym, ap, subst, cond, Option, Some, None, IfSome, slice_get, append-nil, arith}
 use Rattle.rational.specs.Rational.{Rational}
-use Rattle.verdicts.specs.Certificate.{Split}
 use Rattle.certificate.specs.declared.split.Side.{Side}
-use Rattle.certificate.specs.declared.split.Side.TheVariants.{Low, High}
 use Rattle.search_node.specs.declared.node.SplitTaken.{SplitTaken}
 use Rattle.search_tree.specs.declared.leaf.Lease.{Lease}
-use Rattle.search_tree.specs.declared.leaf.Leaf.{Leaf}
 use Rattle.search_tree.specs.declared.leaf.Leaf.TheVariants.{Todo, Leased}
 use Rattle.search_tree.specs.declared.leaf.Slot.{Slot}
 use Rattle.search_tree.specs.declared.leaf.Slot.TheVariants as slot
@@ -22,11 +19,13 @@ use Rattle.tree_pool.specs.declared.kind.Kind.TheVariants as kind
 use Rattle.tree_pool.specs.LogNodes.{leased_in, put_in, slot_or_todo, node_at, IsInLog, AllInLog}
 use Rattle.tree_pool.specs.Paths.{path_at}
 use Rattle.tree_pool.specs.Standing.{way_of, ref_at, AreNodes}
+use Rattle.tree_pool.specs.Placed.{refs_with, paths_with}
 use Rattle.tree_pool.specs.Grown.{tree_by, grown, tree_after}
 use Rattle.tree_pool.specs.Ledger.{Ledger, offered_by, offered_in, best_at, IsPlaceOf, IsTaken}
 use Rattle.tree_pool.proofs.KindLemmas.{todo_slot, under_slot}
 use Rattle.tree_pool.proofs.LogNodes.{same_entry, last_entry, entry_at, same_at}
-use Rattle.tree_pool.proofs.Standing.{leaf_on, relabelled, forked, read_anew}
+use Rattle.tree_pool.proofs.Standing.{leaf_on, relabelled, read_anew}
+use Rattle.tree_pool.proofs.Placed.{placed}
 use Rattle.tree_pool.proofs.Unders.{put_is}
 
 -- ---- references
@@ -35,7 +34,7 @@ more_in_log : (m n : ℕ) (r : NodeRef) → m ≤ n → IsInLog m r → IsInLog 
 more_in_log m n Again h k = tt
 more_in_log m n (Under entry) h k = omega arith
 more_in_log m n (Held entry i) h k = omega arith
-more_in_log m n (Forked entry place) h k = omega arith
+more_in_log m n (Forked entry i low) h k = omega arith
 
 all_more_in_log : (m n : ℕ) (refs : List NodeRef) → m ≤ n → AllInLog m refs → AllInLog n refs
 all_more_in_log m n [] h k = tt
@@ -72,6 +71,13 @@ later log more e t paths refs is_more within are = read_anew (node_at log) (node
 pub unchanged : (log more : List Entry) (paths : List (List SplitTaken)) (refs : List NodeRef) (best : Option ℕ) → more ≡ log → AreNodes (node_at log) (tree_after log) paths refs × AllInLog (length log) refs × IfSome best (λ n. n < length log)
     → AreNodes (node_at more) (tree_after more) paths refs × AllInLog (length more) refs × IfSome best (λ n. n < length more)
 unchanged log more paths refs best e h = subst (λ l. AreNodes (node_at l) (tree_after l) paths refs × AllInLog (length l) refs × IfSome best (λ n. n < length l)) (sym e) h
+
+-- the same log, paths and nodes in other places of memory
+pub same_parts : (log more : List Entry) (paths others : List (List SplitTaken)) (refs news : List NodeRef) (best : Option ℕ) → more ≡ log → others ≡ paths → news ≡ refs → AreNodes (node_at log) (tree_after log) paths refs × AllInLog (length log) refs × IfSome best (λ n. n < length log)
+    → AreNodes (node_at more) (tree_after more) others news × AllInLog (length more) news × IfSome best (λ n. n < length more)
+same_parts log more paths others refs news best e f g h =
+    subst (λ ps. AreNodes (node_at more) (tree_after more) ps news × AllInLog (length more) news × IfSome best (λ n. n < length more)) (sym f)
+    (subst (λ rs. AreNodes (node_at more) (tree_after more) paths rs × AllInLog (length more) rs × IfSome best (λ n. n < length more)) (sym g) (unchanged log more paths refs best e h))
 
 -- an entry that leaves the tree as it is, or makes this one of it
 pub nodes_after : (log more : List Entry) (e : Entry) (u : Tree) (paths : List (List SplitTaken)) (refs : List NodeRef) → more ≡ log ++ e ∷ [] → tree_by e.event e.reply (tree_after log) ≡ u → AllInLog (length log) refs → AreNodes (node_at log) u paths refs
@@ -129,44 +135,32 @@ put_tree log more seat lease u reply paths refs place is_more one are at =
     let found = leased_on log (tree_after log) paths refs place lease.number are at in
     tree_more log more (record { event = Grafting seat lease u; reply = reply }) is_more ∙ put_is (tree_after log) (way_of (path_at paths place)) found.lease lease.number u found.there found.is_under one
 
-pub put_leaf : (log more : List Entry) (seat : ℕ) (lease : Lease) (u : Tree) (new : Leaf) (reply : Reply) (paths : List (List SplitTaken)) (refs : List NodeRef) (place count : ℕ) → more ≡ log ++ record { event = Grafting seat lease u; reply = reply } ∷ [] → count ≡ length log → u ≡ AtLeaf new
-    → leased_under lease.number (tree_after log) ≤ 1 → AllInLog (length log) refs → AreNodes (node_at log) (tree_after log) paths refs → IsPlaceOf (kind.LeasedUnder lease.number) log refs place → AreNodes (node_at more) (tree_after more) paths (set refs place (Held count 0))
-put_leaf log more seat lease u new reply paths refs place count is_more is_count is_leaf one within are at =
+pub put_nodes : (log more : List Entry) (seat : ℕ) (lease : Lease) (u : Tree) (reply : Reply) (paths others : List (List SplitTaken)) (refs news : List NodeRef) (place count : ℕ) → more ≡ log ++ record { event = Grafting seat lease u; reply = reply } ∷ [] → count ≡ length log
+    → leased_under lease.number (tree_after log) ≤ 1 → AllInLog (length log) refs → AreNodes (node_at log) (tree_after log) paths refs → IsPlaceOf (kind.LeasedUnder lease.number) log refs place
+    → news ≡ refs_with count 0 place u refs → others ≡ paths_with place u paths → AreNodes (node_at more) (tree_after more) others news
+put_nodes log more seat lease u reply paths others refs news place count is_more is_count one within are at are_news are_others =
     let e : Entry = record { event = Grafting seat lease u; reply = reply } in
     let t = tree_after log in
     let found = leased_on log t paths refs place lease.number are at in
-    let put = ap put_in (entry_at log more e count is_more is_count) ∙ ap slots_of is_leaf in
-    let read : node_at more (Held count 0) ≡ slot.Leaf new = ap (λ xs. slot_or_todo (slice_get xs 0)) put in
-    let is_tree = put_tree log more seat lease u reply paths refs place is_more one are at ∙ ap (replaced t (way_of (path_at paths place))) is_leaf in
-    subst (λ v. AreNodes (node_at more) v paths (set refs place (Held count 0))) (sym is_tree)
-    (relabelled (node_at more) t paths refs place (Held count 0) (Leased found.lease) new (later log more e t paths refs is_more within are) at.within (same_at log more e refs place is_more within at.within ∙ found.is_node) read)
+    let put : put_in (slice_get more count) ≡ slots_of u = ap put_in (entry_at log more e count is_more is_count) in
+    let read : (n : ℕ) → node_at more (Held count n) ≡ slot_or_todo (slice_get (slots_of u) n) = λ n. ap (λ xs. slot_or_todo (slice_get xs n)) put in
+    let whole = placed (node_at more) count (slots_of u) refl read (λ n low. read n) 0 u (record { rest = []; is = sym (append-nil (slots_of u)) }) t paths refs place (Leased found.lease)
+    (later log more e t paths refs is_more within are) at.within (same_at log more e refs place is_more within at.within ∙ found.is_node) in
+    subst (λ v. AreNodes (node_at more) v others news) (sym (put_tree log more seat lease u reply paths refs place is_more one are at))
+    (subst (λ ps. AreNodes (node_at more) (replaced t (way_of (path_at paths place)) u) ps news) (sym are_others) (subst (λ rs. AreNodes (node_at more) (replaced t (way_of (path_at paths place)) u) (paths_with place u paths) rs) (sym are_news) whole))
 
-pub put_leaf_in_log : (log more : List Entry) (e : Entry) (refs : List NodeRef) (place count : ℕ) → more ≡ log ++ e ∷ [] → count ≡ length log → AllInLog (length log) refs → AllInLog (length more) (set refs place (Held count 0))
-put_leaf_in_log log more e refs place count is_more is_count within =
+with_in_log : (m entry n i : ℕ) (t : Tree) (refs : List NodeRef) → entry < m → AllInLog m refs → AllInLog m (refs_with entry n i t refs)
+with_in_log m entry n i (AtLeaf leaf) refs less within = set_in_log m refs i (Held entry n) within less
+with_in_log m entry n i (Divided s low high) refs less within =
+    let r = Forked entry n (length refs) in
+    let news = set refs i r ++ Again ∷ Again ∷ [] in
+    with_in_log m entry (suc n + length (slots_of low)) (suc (length refs)) high (refs_with entry (suc n) (length refs) low news) less
+    (with_in_log m entry (suc n) (length refs) low news less (both_in_log m (set refs i r) (Again ∷ Again ∷ []) (set_in_log m refs i r within less) (tt, (tt, tt))))
+
+pub put_in_log : (log more : List Entry) (e : Entry) (u : Tree) (refs news : List NodeRef) (place count : ℕ) → more ≡ log ++ e ∷ [] → count ≡ length log → news ≡ refs_with count 0 place u refs → AllInLog (length log) refs → AllInLog (length more) news
+put_in_log log more e u refs news place count is_more is_count are_news within =
     let l = longer log more e is_more in
-    set_in_log (length more) refs place (Held count 0) (all_more_in_log (length log) (length more) refs (omega arith) within) (omega arith)
-
-pub put_split : (log more : List Entry) (seat : ℕ) (lease : Lease) (u : Tree) (s : Split) (x y : Leaf) (reply : Reply) (paths others : List (List SplitTaken)) (refs news : List NodeRef) (place count : ℕ) → more ≡ log ++ record { event = Grafting seat lease u; reply = reply } ∷ [] → count ≡ length log
-    → u ≡ Divided s (AtLeaf x) (AtLeaf y) → leased_under lease.number (tree_after log) ≤ 1 → AllInLog (length log) refs → AreNodes (node_at log) (tree_after log) paths refs → IsPlaceOf (kind.LeasedUnder lease.number) log refs place
-    → news ≡ set refs place (Forked count (length refs)) ++ Held count 1 ∷ Held count 2 ∷ []
-    → others ≡ paths ++ (path_at paths place ++ record { split = s; side = Low } ∷ []) ∷ (path_at paths place ++ record { split = s; side = High } ∷ []) ∷ []
-    → AreNodes (node_at more) (tree_after more) others news
-put_split log more seat lease u s x y reply paths others refs news place count is_more is_count is_split one within are at are_news are_others =
-    let e : Entry = record { event = Grafting seat lease u; reply = reply } in
-    let t = tree_after log in
-    let found = leased_on log t paths refs place lease.number are at in
-    let put = ap put_in (entry_at log more e count is_more is_count) ∙ ap slots_of is_split in
-    let is_tree = put_tree log more seat lease u reply paths refs place is_more one are at ∙ ap (replaced t (way_of (path_at paths place))) is_split in
-    subst (λ v. AreNodes (node_at more) v others news) (sym is_tree)
-    (forked (node_at more) t paths others refs news place (Forked count (length refs)) (Held count 1) (Held count 2) (Leased found.lease) x y s (later log more e t paths refs is_more within are) at.within (same_at log more e refs place is_more within at.within ∙ found.is_node)
-    (ap (λ xs. slot_or_todo (slice_get xs 0)) put) refl (ap (λ xs. slot_or_todo (slice_get xs 1)) put) (ap (λ xs. slot_or_todo (slice_get xs 2)) put) are_news are_others)
-
-pub put_split_in_log : (log more : List Entry) (e : Entry) (refs news : List NodeRef) (place count : ℕ) → more ≡ log ++ e ∷ [] → count ≡ length log → news ≡ set refs place (Forked count (length refs)) ++ Held count 1 ∷ Held count 2 ∷ [] → AllInLog (length log) refs → AllInLog (length more) news
-put_split_in_log log more e refs news place count is_more is_count are_news within =
-    let l = longer log more e is_more in
-    let less : count < length more = omega arith in
-    subst (λ rs. AllInLog (length more) rs) (sym are_news)
-    (both_in_log (length more) (set refs place (Forked count (length refs))) (Held count 1 ∷ Held count 2 ∷ []) (set_in_log (length more) refs place (Forked count (length refs)) (all_more_in_log (length log) (length more) refs (omega arith) within) less) (less, (less, tt)))
+    subst (λ rs. AllInLog (length more) rs) (sym are_news) (with_in_log (length more) count 0 place u refs (omega arith) (all_more_in_log (length log) (length more) refs (omega arith) within))
 
 -- ---- the best point
 

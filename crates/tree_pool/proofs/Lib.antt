@@ -1,6 +1,6 @@
 mod Results
-mod Shapes
 mod Standing
+mod Placed
 mod Unders
 mod Preorders
 mod PathLemmas

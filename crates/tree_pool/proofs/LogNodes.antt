@@ -15,7 +15,7 @@ same_node : (log more : List Entry) (r : NodeRef) → IsInLog (length log) r →
 same_node log more Again h = refl
 same_node log more (Under entry) h = ap leased_in (same_entry log more entry h)
 same_node log more (Held entry n) h = ap (λ e. slot_or_todo (slice_get (put_in e) n)) (same_entry log more entry h)
-same_node log more (Forked entry place) h = ap (λ e. slot_or_todo (slice_get (put_in e) 0)) (same_entry log more entry h)
+same_node log more (Forked entry n low) h = ap (λ e. slot_or_todo (slice_get (put_in e) n)) (same_entry log more entry h)
 
 in_log_at : (n : ℕ) (refs : List NodeRef) (p : ℕ) → AllInLog n refs → p < length refs → IsInLog n (ref_at refs p)
 in_log_at n [] p h less = absurd (omega arith)

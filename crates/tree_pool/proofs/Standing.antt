@@ -62,7 +62,7 @@ below (Divided s low high) (High ∷ w) v side leaf h = below high w v side leaf
 
 -- ---- lists
 
-second_at : {A : Type 0} (xs : List A) (a b d : A) (n : ℕ) → length xs ≡ n → get_or (xs ++ a ∷ b ∷ []) (suc n) d ≡ b
+pub second_at : {A : Type 0} (xs : List A) (a b d : A) (n : ℕ) → length xs ≡ n → get_or (xs ++ a ∷ b ∷ []) (suc n) d ≡ b
 second_at {A = A} xs a b d n e = ap (λ m. get_or (xs ++ a ∷ b ∷ []) (suc m) d) (sym e) ∙ go xs
   where
     go : (xs : List A) → get_or (xs ++ a ∷ b ∷ []) (suc (length xs)) d ≡ b

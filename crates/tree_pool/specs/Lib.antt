@@ -4,6 +4,6 @@ pub mod Paths
 pub mod Places
 pub mod Standing
 pub mod Grown
-pub mod Shapes
+pub mod Placed
 pub mod Ledger
 pub mod Answers

@@ -43,7 +43,7 @@ abbrev pub node_at : List Entry → NodeRef → Slot
 node_at log Again = slot.Leaf (Todo tt)
 node_at log (Under entry) = leased_in (slice_get log entry)
 node_at log (Held entry n) = slot_or_todo (slice_get (put_in (slice_get log entry)) n)
-node_at log (Forked entry place) = slot_or_todo (slice_get (put_in (slice_get log entry)) 0)
+node_at log (Forked entry n low) = slot_or_todo (slice_get (put_in (slice_get log entry)) n)
 
 -- the nodes in preorder
 abbrev pub nodes_in : List Entry → List NodeRef → List Slot
@@ -54,7 +54,7 @@ abbrev pub IsInLog : ℕ → NodeRef → Type 0
 IsInLog count Again = Unit {0}
 IsInLog count (Under entry) = entry < count
 IsInLog count (Held entry n) = entry < count
-IsInLog count (Forked entry place) = entry < count
+IsInLog count (Forked entry n low) = entry < count
 
 abbrev pub AllInLog : ℕ → List NodeRef → Type 0
 AllInLog count [] = Unit {0}

@@ -3,6 +3,11 @@ use Rattle.std.specs.Prelude.{ℕ, suc, ◌<◌, List, [], ◌∷◌, ◌++◌, 
 use Rattle.search_node.specs.declared.node.SplitTaken.{SplitTaken}
 use Rattle.tree_pool.specs.declared.paths.Link.{Link}
 
+-- the splits on the way to each place, and for how many further places there is room
+pub record Paths : Type 0 where
+  pub all : List (List SplitTaken)
+  pub room : ℕ
+
 abbrev pub path_at : List (List SplitTaken) → ℕ → List SplitTaken
 path_at paths place = get_or paths place []
 

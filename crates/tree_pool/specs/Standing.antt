@@ -35,7 +35,7 @@ abbrev pub side_of : NodeRef → ℕ
 side_of Again = 0
 side_of (Under entry) = 0
 side_of (Held entry n) = 0
-side_of (Forked entry place) = place
+side_of (Forked entry n low) = low
 
 abbrev pub ref_at : List NodeRef → ℕ → NodeRef
 ref_at refs place = get_or refs place Again

@@ -1,5 +1,5 @@
 // Boards.
-ghost use Rattle.std.specs.Prelude.{◌≡◌, [], length, option_map, cond, nat_lt, ◌+◌, ◌-◌, ◌^◌, ◌≤◌, true, false, None, Some, List, IfOk, IfSome, OnOk, OnErr, IfErr, MatchOption};
+ghost use Rattle.std.specs.Prelude.{◌≡◌, [], length, option_map, cond, ◌+◌, ◌-◌, ◌^◌, ◌≤◌, min, true, false, None, Some, List, IfOk, IfSome, OnOk, OnErr, IfErr, MatchOption};
 ghost use Rattle.rational.specs.Rational.{◌*ℚ◌};
 ghost use Rattle.rational.specs.Compare.{is_less};
 ghost use Rattle.milp.specs.Points.{Feasible, sign_of};
@@ -7,7 +7,7 @@ ghost use Rattle.certificate.specs.declared.split.Side.{Side as SideOf};
 ghost use Rattle.search_node.specs.Sides.{sides_of};
 ghost use Rattle.search_tree.specs.declared.leaf.Leaf.TheVariants.{Todo, Leased};
 ghost use Rattle.search_tree.specs.Tree.{AtLeaf, AllLeaves, IsTodo, at_place, sides_to, made, leased_under};
-ghost use Rattle.search_tree.specs.Board.{value_of, IsTold};
+ghost use Rattle.search_tree.specs.Board.{value_of, most_granted, IsTold};
 ghost use Rattle.search_tree.specs.Kept.{AllPass, HasSums, IsKept, IsCovered};
 ghost use Rattle.search_tree.specs.Steps.{MayGraft, IsGraft, IsOffer, IsReclaim, IsReplay};
 ghost use Rattle.cert_check.specs.Outcome.{Acceptance, outcome, trials};
@@ -24,7 +24,7 @@ use fraction::Frac;
 use instance::{Instance, Point, signed, value};
 use milp::Direction;
 use search_node::{Node, SplitsTaken};
-use search_tree::{Lease, Subtree};
+use search_tree::{Lease, MOST_GRANTED, Subtree};
 use std::alloc::{AllocError, Global};
 use std::marker::Model;
 
@@ -370,16 +370,13 @@ fn better_value(better: bool, value: Frac, best: &Option<Frac>) -> Option<Frac>
     if better { Some(value) } else { *best }
 }
 
-// One split where the limit leaves one.
+// The splits that the limit leaves beside those that are made and granted, and no more than a lease may grant.
 fn next_grant(made: usize, granted: usize, limit: usize) -> usize
-    ensures grant { result ≡ cond (nat_lt (made + granted) limit) 1 0 }
+    ensures grant { result ≡ min most_granted (limit - (made + granted)) }
     ensures limit { limit ≤ 2 ^ 64 - 1 }
 {
-    if made.saturating_add(granted) < limit {
-        1
-    } else {
-        0
-    }
+    let left = limit.saturating_sub(made.saturating_add(granted));
+    left.min(MOST_GRANTED)
 }
 
 // The sum of two numbers, where it is at most the limit.

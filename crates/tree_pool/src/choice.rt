@@ -99,12 +99,10 @@ pub(crate) fn add_open(open: &mut Open, log: &[Entry], nodes: &[NodeRef], place:
     }
 }
 
-// The leaves at the two last places, too.
-pub(crate) fn add_sides(open: &mut Open, log: &[Entry], nodes: &[NodeRef]) {
-    let count = nodes.len();
-    if count >= 2 {
-        add_open(open, log, nodes, count - 2);
-        add_open(open, log, nodes, count - 1);
+// The leaves from a place on, too.
+pub(crate) fn add_from(open: &mut Open, log: &[Entry], nodes: &[NodeRef], first: usize) {
+    for place in first..nodes.len() {
+        add_open(open, log, nodes, place);
     }
 }
 
@@ -121,7 +119,7 @@ fn entry_of(node: NodeRef) -> usize {
         NodeRef::Again => 0,
         NodeRef::Under(entry) => entry,
         NodeRef::Held(entry, _) => entry,
-        NodeRef::Forked(entry, _) => entry,
+        NodeRef::Forked { entry, .. } => entry,
     }
 }
 

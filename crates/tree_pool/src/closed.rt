@@ -53,7 +53,7 @@ fn closed_at(alloc: Global, log: &[Entry], node: NodeRef) -> Result<Option<TreeN
         NodeRef::Again => Ok(None),
         NodeRef::Under(_) => Ok(None),
         NodeRef::Held(entry, n) => held_closed(alloc, log, entry, n),
-        NodeRef::Forked(entry, _) => held_closed(alloc, log, entry, 0),
+        NodeRef::Forked { entry, node, .. } => held_closed(alloc, log, entry, node),
     }
 }
 
@@ -109,7 +109,7 @@ fn is_closed(log: &[Entry], node: NodeRef) -> bool
         NodeRef::Again => false,
         NodeRef::Under(_) => false,
         NodeRef::Held(entry, n) => is_held_closed(log, entry, n),
-        NodeRef::Forked(entry, _) => is_held_closed(log, entry, 0),
+        NodeRef::Forked { entry, node, .. } => is_held_closed(log, entry, node),
     }
 }
 

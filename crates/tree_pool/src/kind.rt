@@ -36,7 +36,7 @@ pub(crate) fn kind_at(log: &[Entry], node: NodeRef) -> Kind
         NodeRef::Again => Kind::ToDo,
         NodeRef::Under(entry) => leased_kind(log, entry),
         NodeRef::Held(entry, n) => held_kind(log, entry, n),
-        NodeRef::Forked(entry, _) => held_kind(log, entry, 0),
+        NodeRef::Forked { entry, node, .. } => held_kind(log, entry, node),
     }
 }
 
@@ -71,9 +71,16 @@ fn held_kind(log: &[Entry], entry: usize, n: usize) -> Kind
 pub(crate) fn held(log: &[Entry], entry: usize, n: usize) -> Option<&Slot>
     ensures { option_map (λ s. s.now) result ≡ slice_get (put_in (slice_get log.now entry)) n }
 {
+    put_in(log, entry).get(n)
+}
+
+// The nodes of the tree that an entry put in, none where it put in no tree.
+pub(crate) fn put_in(log: &[Entry], entry: usize) -> &[Slot]
+    ensures { result.now ≡ put_in (slice_get log.now entry) }
+{
     match log.get(entry) {
-        None => None,
-        Some(entry) => put_by(entry).get(n),
+        None => &[],
+        Some(entry) => put_by(entry),
     }
 }
 

@@ -16,7 +16,7 @@ pub(crate) fn node_lease(log: &[Entry], node: NodeRef) -> Option<Lease>
         NodeRef::Again => None,
         NodeRef::Under(entry) => told_lease(log, entry),
         NodeRef::Held(entry, n) => held_lease(log, entry, n),
-        NodeRef::Forked(entry, _) => held_lease(log, entry, 0),
+        NodeRef::Forked { entry, node, .. } => held_lease(log, entry, node),
     }
 }
 

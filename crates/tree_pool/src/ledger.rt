@@ -1,17 +1,14 @@
 // The log of a board, and the tree and best point that it leads to.
-ghost use Rattle.std.specs.Prelude.{◌≡◌, ◌++◌, [], ◌∷◌, ◌<◌, ◌≤◌, ◌+◌, length, set, cond, Some, None, option_map, true, false, OnOk, OnErr, IfOk, IfErr, IfSome, List, slice_get};
+ghost use Rattle.std.specs.Prelude.{◌≡◌, ◌++◌, [], ◌∷◌, ◌<◌, ◌≤◌, ◌+◌, ◌*◌, length, cond, Some, None, option_map, true, false, OnOk, OnErr, IfOk, IfErr, IfSome, List, slice_get};
 ghost use Rattle.std.specs.Vec.{vec_len, vec_capacity};
 ghost use Rattle.certificate.specs.declared.split.Side.{Side as SideOf};
 ghost use Rattle.search_tree.specs.declared.leaf.Lease.{Lease as LeaseOf};
 ghost use Rattle.search_tree.specs.declared.leaf.Leaf.TheVariants.{Todo, Leased};
 ghost use Rattle.search_tree.specs.declared.event.Event.TheVariants.{Idling, Grafting, Offering, Reclaiming};
 ghost use Rattle.search_tree.specs.declared.event.Reply.TheVariants.{StillLeased, Best, Done};
-ghost use Rattle.search_tree.specs.Tree.{AtLeaf, IsTodo, at_place, leased, leased_under, reclaimed, AllLeaves};
+ghost use Rattle.search_tree.specs.Tree.{AtLeaf, IsTodo, at_place, made, leased, leased_under, reclaimed, AllLeaves};
 ghost use Rattle.search_tree.specs.Slots.{slots_of};
 ghost use Rattle.search_tree.specs.Finished.{nodes_of};
-ghost use Rattle.tree_pool.specs.declared.refs.NodeRef.TheVariants.{Held, Forked};
-ghost use Rattle.tree_pool.specs.declared.shape.Shape.TheVariants.{Leaf, Split as OneSplit};
-ghost use Rattle.tree_pool.specs.Shapes.{IsShape};
 ghost use Rattle.tree_pool.specs.Places.{AreClosed, IsOpen, taken_to};
 ghost use Rattle.tree_pool.specs.LogNodes.{nodes_in};
 ghost use Rattle.tree_pool.specs.Paths.{path_at};
@@ -19,16 +16,16 @@ ghost use Rattle.tree_pool.specs.Standing.{way_of};
 ghost use Rattle.tree_pool.specs.Grown.{put_under};
 ghost use Rattle.tree_pool.specs.Ledger.{IsTaken, offered_by, offered_in};
 
-use crate::choice::{Order, add_all, add_open, add_sides, chosen, hint_of, is_todo_at};
+use crate::choice::{Order, add_all, add_from, add_open, chosen, hint_of, is_todo_at};
 use crate::closed::{are_closed, closed_tree};
 use crate::lease::node_lease;
 use crate::open::Open;
 use crate::paths::Paths;
+use crate::placing::put_tree;
 use crate::refs::NodeRef;
 use crate::scan::{forget, given_back, leased_count, place_under, remember, sides_of};
-use crate::shape::{Shape, shape_of};
 use crate::walk::in_preorder;
-use certificate::{ColumnSplit, Tree};
+use certificate::Tree;
 use fraction::Frac;
 use instance::Point;
 use search_node::SplitTaken;
@@ -64,7 +61,7 @@ impl Model for Ledger {
 
     ghost view = { λ l. record { log = l.log.items; tree = tree_after l.log.items; best = best_at l.log.items l.best } };
 
-    ghost invariant = { λ l. AreNodes (node_at l.log.items) (tree_after l.log.items) l.paths l.nodes.items × AllInLog (length l.log.items) l.nodes.items × IfSome l.best (λ n. n < length l.log.items) };
+    ghost invariant = { λ l. AreNodes (node_at l.log.items) (tree_after l.log.items) l.paths.all l.nodes.items × AllInLog (length l.log.items) l.nodes.items × IfSome l.best (λ n. n < length l.log.items) };
 }
 
 impl Ledger {
@@ -195,7 +192,7 @@ impl Ledger {
     }
 
     /// One more entry, by which a tree is put in the place of the leaf that is leased. After an error nothing has changed, and
-    /// the tree comes back. No lease grants more than one split, so a larger tree never comes.
+    /// the tree comes back.
     pub(crate) fn graft(
         &mut self,
         seat: usize,
@@ -210,83 +207,22 @@ impl Ledger {
         ensures kept { OnErr result (self.new ≡ self.old) }
         ensures back { IfErr result (λ t. t ≡ tree) }
     {
-        match shape_of(&tree) {
-            Shape::Leaf => self.put_leaf(seat, lease, tree, best),
-            Shape::Split(split) => self.put_split(seat, lease, tree, split, best),
-            Shape::Larger => Err(tree),
-        }
-    }
-
-    // The same for a tree of one leaf.
-    fn put_leaf(
-        &mut self,
-        seat: usize,
-        lease: Lease,
-        tree: Subtree,
-        best: Option<Frac>,
-    ) -> Result<(), Subtree>
-        requires one { leased_under lease.number self.old.tree ≤ 1 }
-        requires leaf { IsShape tree Leaf }
-        ensures log { OnOk result (self.new.log ≡ self.old.log ++ record { event = Grafting seat lease tree; reply = Best best } ∷ []) }
-        ensures tree { OnOk result (self.new.tree ≡ put_under lease.number tree self.old.tree) }
-        ensures best { OnOk result (self.new.best ≡ self.old.best) }
-        ensures kept { OnErr result (self.new ≡ self.old) }
-        ensures back { IfErr result (λ t. t ≡ tree) }
-    {
         let Some(place) = place_under(&self.log, &self.nodes, &self.leased, lease.number) else {
             return Err(tree);
         };
-        if self.log.reserve(1).is_err() {
+        if make_room(&mut self.log, &mut self.nodes, &mut self.paths, &tree).is_err() {
             return Err(tree);
         }
         let entry = self.log.len();
-        self.nodes[place] = NodeRef::Held(entry, 0);
+        let behind = self.nodes.len();
         self.log.push_reserved(Entry {
             event: Event::Grafting(seat, lease, tree),
             reply: Reply::Best(best),
         });
+        put_tree(&self.log, &mut self.nodes, &mut self.paths, place, entry);
         forget(&mut self.leased, place);
         add_open(&mut self.open, &self.log, &self.nodes, place);
-        Ok(())
-    }
-
-    // The same for a tree of one split.
-    fn put_split(
-        &mut self,
-        seat: usize,
-        lease: Lease,
-        tree: Subtree,
-        split: ColumnSplit,
-        best: Option<Frac>,
-    ) -> Result<(), Subtree>
-        requires one { leased_under lease.number self.old.tree ≤ 1 }
-        requires split { IsShape tree (OneSplit split) }
-        ensures log { OnOk result (self.new.log ≡ self.old.log ++ record { event = Grafting seat lease tree; reply = Best best } ∷ []) }
-        ensures tree { OnOk result (self.new.tree ≡ put_under lease.number tree self.old.tree) }
-        ensures best { OnOk result (self.new.best ≡ self.old.best) }
-        ensures kept { OnErr result (self.new ≡ self.old) }
-        ensures back { IfErr result (λ t. t ≡ tree) }
-    {
-        let Some(place) = place_under(&self.log, &self.nodes, &self.leased, lease.number) else {
-            return Err(tree);
-        };
-        if self.log.reserve(1).is_err() {
-            return Err(tree);
-        }
-        if self.nodes.reserve(2).is_err() {
-            return Err(tree);
-        }
-        if self.paths.fork(place, split).is_err() {
-            return Err(tree);
-        }
-        let entry = self.log.len();
-        expand(&mut self.nodes, place, entry);
-        self.log.push_reserved(Entry {
-            event: Event::Grafting(seat, lease, tree),
-            reply: Reply::Best(best),
-        });
-        forget(&mut self.leased, place);
-        add_sides(&mut self.open, &self.log, &self.nodes);
+        add_from(&mut self.open, &self.log, &self.nodes, behind);
         Ok(())
     }
 
@@ -404,22 +340,37 @@ fn newer(better: bool, entry: usize, best: Option<usize>) -> Option<usize>
 
 // The way to a place.
 fn way_to(alloc: Global, paths: &Paths, place: usize) -> Result<Way, AllocError>
-    requires { place < length paths.now }
-    ensures { IfOk result (λ way. way ≡ way_of (path_at paths.now place)) }
+    requires { place < length paths.now.all }
+    ensures { IfOk result (λ way. way ≡ way_of (path_at paths.now.all place)) }
 {
     let taken = paths.splits_to(alloc, place)?;
     let sides = sides_of(alloc, &taken)?;
     Ok(Way::from_vec(sides))
 }
 
-// The split that an entry puts in at a place has its sides behind all other nodes.
-fn expand(nodes: &mut Vec<NodeRef>, place: usize, entry: usize)
-    requires place { place < length nodes.old.items }
-    requires room { vec_len nodes.old + 2 ≤ vec_capacity nodes.old }
-    ensures { nodes.new.items ≡ set nodes.old.items place (Forked entry (length nodes.old.items)) ++ Held entry 1 ∷ Held entry 2 ∷ [] }
+// Room for one more entry, and for the nodes of a tree in the place of a leaf.
+fn make_room(
+    log: &mut Vec<Entry>,
+    nodes: &mut Vec<NodeRef>,
+    paths: &mut Paths,
+    tree: &Subtree,
+) -> Result<(), AllocError>
+    ensures same_log { log.new.items ≡ log.old.items }
+    ensures same_nodes { nodes.new.items ≡ nodes.old.items }
+    ensures same_paths { paths.new.all ≡ paths.old.all }
+    ensures log { OnOk result (vec_len log.new + 1 ≤ vec_capacity log.new) }
+    ensures nodes { OnOk result (vec_len nodes.new + made tree.now * 2 ≤ vec_capacity nodes.new) }
+    ensures paths { OnOk result (made tree.now * 2 ≤ paths.new.room) }
 {
-    let low = nodes.len();
-    nodes[place] = NodeRef::Forked(entry, low);
-    nodes.push_reserved(NodeRef::Held(entry, 1));
-    nodes.push_reserved(NodeRef::Held(entry, 2));
+    let more = further_nodes(tree);
+    log.reserve(1)?;
+    nodes.reserve(more)?;
+    paths.reserve(more)
+}
+
+// The number of a tree's nodes beside its root.
+fn further_nodes(tree: &Subtree) -> usize
+    ensures { result ≡ made tree.now * 2 }
+{
+    tree.count().saturating_sub(1)
 }

@@ -11,9 +11,9 @@ mod lease;
 mod ledger;
 mod open;
 mod paths;
+mod placing;
 mod refs;
 mod scan;
-mod shape;
 mod verdict;
 mod walk;
 

@@ -1,5 +1,5 @@
 // The splits on the ways to the nodes of a tree.
-ghost use Rattle.std.specs.Prelude.{◌≡◌, ◌≤◌, ◌<◌, ◌-◌, ◌++◌, ◌∷◌, [], length, get_or, reverse, IfOk, OnOk, OnErr};
+ghost use Rattle.std.specs.Prelude.{◌≡◌, ◌≤◌, ◌<◌, ◌+◌, ◌-◌, ◌++◌, ◌∷◌, [], length, get_or, reverse, IfOk, OnOk};
 ghost use Rattle.certificate.specs.declared.split.Side.TheVariants.{Low, High};
 ghost use Rattle.tree_pool.specs.Paths.{path_at, paths_of, AreAbove};
 
@@ -22,13 +22,13 @@ pub(crate) struct Paths {
 }
 
 impl Model for Paths {
-    ghost use Rattle.std.specs.Prelude.{List};
-    ghost use Rattle.search_node.specs.declared.node.SplitTaken.{SplitTaken as SplitTakenOf};
-    ghost use Rattle.tree_pool.specs.Paths.{paths_of, AreAbove};
+    ghost use Rattle.std.specs.Prelude.{◌-◌};
+    ghost use Rattle.std.specs.Vec.{vec_len, vec_capacity};
+    ghost use Rattle.tree_pool.specs.Paths.{Paths as PathsOf, paths_of, AreAbove};
 
-    ghost Value = { List (List SplitTakenOf) };
+    ghost Value = { PathsOf };
 
-    ghost view = { λ p. paths_of p.links.items };
+    ghost view = { λ p. record { all = paths_of p.links.items; room = vec_capacity p.links - vec_len p.links } };
 
     ghost invariant = { λ p. AreAbove 1 p.links.items };
 }
@@ -36,23 +36,30 @@ impl Model for Paths {
 impl Paths {
     /// The root's alone.
     pub(crate) fn new(alloc: Global) -> Self
-        ensures { result ≡ [] ∷ [] }
+        ensures { result.all ≡ [] ∷ [] }
     {
         Paths {
             links: Vec::new(alloc),
         }
     }
 
-    /// Those of the two sides of a split at a place come behind all others. After an error nothing has changed.
-    pub(crate) fn fork(&mut self, place: usize, split: ColumnSplit) -> Result<(), AllocError>
-        requires { place < length self.old }
-        ensures ok { OnOk result (self.new ≡ self.old ++ (path_at self.old place ++ record { split = split; side = Low } ∷ []) ∷ (path_at self.old place ++ record { split = split; side = High } ∷ []) ∷ []) }
-        ensures kept { OnErr result (self.new ≡ self.old) }
+    /// Makes room for so many further places.
+    pub(crate) fn reserve(&mut self, count: usize) -> Result<(), AllocError>
+        ensures same { self.new.all ≡ self.old.all }
+        ensures room { OnOk result (count ≤ self.new.room) }
     {
-        self.links.reserve(2)?;
+        self.links.reserve(count)
+    }
+
+    /// Those of the two sides of a split at a place come behind all others.
+    pub(crate) fn fork(&mut self, place: usize, split: ColumnSplit)
+        requires place { place < length self.old.all }
+        requires room { 2 ≤ self.old.room }
+        ensures all { self.new.all ≡ self.old.all ++ (path_at self.old.all place ++ record { split = split; side = Low } ∷ []) ∷ (path_at self.old.all place ++ record { split = split; side = High } ∷ []) ∷ [] }
+        ensures room { self.new.room + 2 ≡ self.old.room }
+    {
         self.links.push_reserved(link_to(place, split, Side::Low));
         self.links.push_reserved(link_to(place, split, Side::High));
-        Ok(())
     }
 
     /// The splits on the way to a place.
@@ -61,8 +68,8 @@ impl Paths {
         alloc: Global,
         place: usize,
     ) -> Result<Vec<SplitTaken>, AllocError>
-        requires { place < length self.now }
-        ensures { IfOk result (λ taken. taken.items ≡ path_at self.now place) }
+        requires { place < length self.now.all }
+        ensures { IfOk result (λ taken. taken.items ≡ path_at self.now.all place) }
     {
         splits_to(alloc, &self.links, place)
     }

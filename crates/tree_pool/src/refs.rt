@@ -9,7 +9,11 @@ pub enum NodeRef {
     Under(usize),
     /// The node at the second place of the tree that the entry at the first place put in.
     Held(usize, usize),
-    /// The split at the head of the tree that the entry at the first place put in. Its low side stands at the second place of
-    /// the nodes, and its high side at the next.
-    Forked(usize, usize),
+    /// A split of a tree that was put in, the same by `entry` and `node`. Its low side stands at the place `low` of the nodes,
+    /// and its high side at the next.
+    Forked {
+        entry: usize,
+        node: usize,
+        low: usize,
+    },
 }

@@ -70,6 +70,6 @@ fn side_of(node: NodeRef) -> usize
         NodeRef::Again => 0,
         NodeRef::Under(_) => 0,
         NodeRef::Held(_, _) => 0,
-        NodeRef::Forked(_, place) => place,
+        NodeRef::Forked { low, .. } => low,
     }
 }

@@ -1,9 +1,9 @@
-use Rattle.std.proofs.Common.{◌≡◌, ◌∙◌, ◌+◌, ℕ, List, refl, sym, ap, subst, length, Option, option_map, cond, nat_lt}
+use Rattle.std.proofs.Common.{◌≡◌, ◌∙◌, ◌+◌, ◌-◌, min, ℕ, List, refl, sym, ap, subst, length, Option, option_map}
 use Rattle.search_tree.specs.declared.leaf.Lease.{Lease}
 use Rattle.search_tree.specs.declared.leaf.Leaf.TheVariants.{Leased}
 use Rattle.search_tree.specs.declared.event.Entry.{Entry}
 use Rattle.search_tree.specs.Tree.{AtLeaf, made, granted, replaced}
-use Rattle.search_tree.specs.Board.{Board, next_lease, next_grant}
+use Rattle.search_tree.specs.Board.{Board, most_granted, next_lease, next_grant}
 use Rattle.search_tree.specs.Steps.{IsReplay}
 use Rattle.tree_pool.proofs.Leases.{IsTodoOn, made_after, granted_after, lease_replays, same_lease, sum_fits}
 use Rattle.search_tree.proofs.Laws.{replay_kept}
@@ -20,7 +20,7 @@ invariant_of-self-2 c =
     let lease : Lease = c.copy.result in
     let e : c.lease.new.self.tree ≡ replaced inside.ledger.tree at.way (AtLeaf (Leased lease)) = taken.tree in
     let number : c.count-number.result ≡ length inside.ledger.log = c.count-number.ensures in
-    let grant : c.next_grant-grant.result ≡ next_grant b = c.next_grant-grant.ensures.grant ∙ ap (λ n. cond (nat_lt (n + inside.splits_granted) inside.split_limit) 1 0) c.self.invariant.0 ∙ ap (λ n. cond (nat_lt (made inside.ledger.tree + n) inside.split_limit) 1 0) c.self.invariant.1 in
+    let grant : c.next_grant-grant.result ≡ next_grant b = c.next_grant-grant.ensures.grant ∙ ap (λ n. min most_granted (inside.split_limit - (n + inside.splits_granted))) c.self.invariant.0 ∙ ap (λ n. min most_granted (inside.split_limit - (made inside.ledger.tree + n))) c.self.invariant.1 in
     let is_lease : lease ≡ next_lease b = c.copy.ensures ∙ same_lease _ _ _ _ _ _ number grant c.self.invariant.2 in
     let replays = lease_replays b c.args.seat at taken.way lease c.lease.new.self.tree c.self.invariant.3 refl is_lease e in
     let Q : List Entry → Type 0 = λ entries. IsReplay (record { problem = inside.problem; cuts = inside.cuts; split_limit = inside.split_limit; pivot_limit = inside.pivot_limit; tree = c.lease.new.self.tree; best = inside.ledger.best; log = entries }) in

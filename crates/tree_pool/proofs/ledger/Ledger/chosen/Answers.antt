@@ -12,4 +12,4 @@ returns-clause-none c = λ e.
     let refs = c.self.inside.nodes.items in
     let none = none_in ToDo log c.deref.result.now refs c.deref-2.result.now c.deref.ensures.value c.deref-2.ensures.value (c.chosen.ensures.none e) in
     let P : Ledger → Type 0 = λ l. AllLeaves (λ sides leaf. ¬ (IsTodo leaf)) [] l.tree in
-    subst P c.self.view_is (none_todo log (tree_after log) c.self.inside.paths refs c.self.invariant.0 none)
+    subst P c.self.view_is (none_todo log (tree_after log) c.self.inside.paths.all refs c.self.invariant.0 none)

@@ -15,7 +15,7 @@ returns c =
     let t = tree_after log in
     let are = c.self.invariant.0 in
     let node = node_at log in
-    let whole : map node (in_preorder node refs (length refs) (0 ∷ [])) ≡ slots_of t = walked node t c.self.inside.paths refs are t 0 0 (length refs) [] (root_at node t c.self.inside.paths refs are) (let n = nodes_count t in let m = are.count in omega (arith, n, m)) ∙ append-nil (slots_of t) in
+    let whole : map node (in_preorder node refs (length refs) (0 ∷ [])) ≡ slots_of t = walked node t c.self.inside.paths.all refs are t 0 0 (length refs) [] (root_at node t c.self.inside.paths.all refs are) (let n = nodes_count t in let m = are.count in omega (arith, n, m)) ∙ append-nil (slots_of t) in
     let lent : in_preorder (node_at c.deref.result.now) c.deref-2.result.now (length c.deref-2.result.now) (0 ∷ []) ≡ in_preorder node refs (length refs) (0 ∷ []) =
     ap (λ l. in_preorder (node_at l) c.deref-2.result.now (length c.deref-2.result.now) (0 ∷ [])) c.deref.ensures.value ∙ ap (λ rs. in_preorder node rs (length rs) (0 ∷ [])) c.deref-2.ensures.value in
     if_ok c.in_preorder.result _ _ (λ all h. ap (λ l. nodes_in l.log all.items) (sym c.self.view_is) ∙ ap (map node) (h ∙ lent) ∙ whole ∙ ap (λ l. slots_of l.tree) c.self.view_is) c.in_preorder.ensures

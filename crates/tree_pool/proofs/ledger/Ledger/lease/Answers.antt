@@ -25,7 +25,7 @@ index_mut-requires c =
     omega (arith, less, room)
 
 pub invariant_of-self : goal.invariant_of-self
-invariant_of-self c = unchanged c.self.inside.log.items c.reserve.new.self.items c.self.inside.paths c.self.inside.nodes.items c.self.inside.best c.reserve.ensures.items c.self.invariant
+invariant_of-self c = unchanged c.self.inside.log.items c.reserve.new.self.items c.self.inside.paths.all c.self.inside.nodes.items c.self.inside.best c.reserve.ensures.items c.self.invariant
 
 pub invariant_of-self-2 : goal.invariant_of-self-2
 invariant_of-self-2 c =
@@ -35,7 +35,7 @@ invariant_of-self-2 c =
     let at = place_in ToDo log c.deref.result.now refs c.deref-2.result.now c.args.place c.deref.ensures.value c.deref-2.ensures.value (c.is_todo_at.ensures.yes c.if-not-is_todo_at.false) in
     let more : c.push_reserved.new.self.items ≡ log ++ e ∷ [] = c.push_reserved.ensures.items ∙ ap (λ entries. entries ++ e ∷ []) c.reserve.ensures.items in
     let count : c.len-entry.result ≡ length log = c.len-entry.ensures ∙ c.reserve.ensures.len ∙ c.self.inside.log.ok.0 in (
-      leased_nodes log c.push_reserved.new.self.items c.args.seat c.in_ok-told.told c.args.lease c.self.inside.paths refs c.args.place c.len-entry.result more count c.in_ok-told.ensures c.self.invariant.1 c.self.invariant.0 at,
+      leased_nodes log c.push_reserved.new.self.items c.args.seat c.in_ok-told.told c.args.lease c.self.inside.paths.all refs c.args.place c.len-entry.result more count c.in_ok-told.ensures c.self.invariant.1 c.self.invariant.0 at,
       leased_in_log log c.push_reserved.new.self.items e refs c.args.place c.len-entry.result more count c.self.invariant.1,
       best_in_log log c.push_reserved.new.self.items e c.self.inside.best more c.self.invariant.2,
     )
@@ -52,4 +52,4 @@ returns-clause-ok c =
     let m : Ledger = record { log = news; tree = tree_after news; best = best_at news c.self.inside.best } in
     let P : Ledger → Type 0 = λ l. IsTaken l c.args.seat c.args.lease m in
     subst P c.self.view_is
-    (leased_is log c.push_reserved.new.self.items c.args.seat c.in_ok-told.told c.args.lease c.self.inside.paths refs c.args.place c.self.inside.best more c.in_ok-told.ensures c.self.invariant.0 at best)
+    (leased_is log c.push_reserved.new.self.items c.args.seat c.in_ok-told.told c.args.lease c.self.inside.paths.all refs c.args.place c.self.inside.best more c.in_ok-told.ensures c.self.invariant.0 at best)

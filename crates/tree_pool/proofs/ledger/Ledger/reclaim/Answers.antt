@@ -12,7 +12,7 @@ use Rattle.tree_pool.proofs.Reclaims.{back_in_log, reclaimed_nodes}
 use Rattle.tree_pool.proofs.ledger.Ledger.reclaim.Goals as goal
 
 pub invariant_of-self : goal.invariant_of-self
-invariant_of-self c = unchanged c.self.inside.log.items c.reserve.new.self.items c.self.inside.paths c.self.inside.nodes.items c.self.inside.best c.reserve.ensures.items c.self.invariant
+invariant_of-self c = unchanged c.self.inside.log.items c.reserve.new.self.items c.self.inside.paths.all c.self.inside.nodes.items c.self.inside.best c.reserve.ensures.items c.self.invariant
 
 pub invariant_of-self-2 : goal.invariant_of-self-2
 invariant_of-self-2 c =
@@ -24,7 +24,7 @@ invariant_of-self-2 c =
     let news : backs ≡ map (given_back log) refs = c.in_ok-nodes.ensures ∙ ap (λ entries. map (given_back entries) c.deref-2.result.now) c.deref.ensures.value ∙ ap (map (given_back log)) c.deref-2.ensures.value in
     let P : List NodeRef → Type 0 = λ rs. AllInLog (length log) rs in
     let within = subst P (sym news) (back_in_log log (length log) refs c.self.invariant.1) in (
-      nodes_after log c.push_reserved.new.self.items e (reclaimed (tree_after log)) c.self.inside.paths backs more refl within (reclaimed_nodes log (tree_after log) c.self.inside.paths refs backs news c.self.invariant.0),
+      nodes_after log c.push_reserved.new.self.items e (reclaimed (tree_after log)) c.self.inside.paths.all backs more refl within (reclaimed_nodes log (tree_after log) c.self.inside.paths.all refs backs news c.self.invariant.0),
       all_later log c.push_reserved.new.self.items e backs more within,
       best_in_log log c.push_reserved.new.self.items e c.self.inside.best more c.self.invariant.2,
     )

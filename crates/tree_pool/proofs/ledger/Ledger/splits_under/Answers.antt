@@ -29,8 +29,8 @@ returns c =
     let t = tree_after log in
     let are = c.self.invariant.0 in
     let at = place_in (LeasedUnder c.args.number) log c.deref.result.now refs c.deref-2.result.now c.in-Some.place c.deref.ensures.value c.deref-2.ensures.value c.in-Some.ensures.under in
-    let path = path_at c.self.inside.paths c.in-Some.place in
-    let found = leased_on log t c.self.inside.paths refs c.in-Some.place c.args.number are at in
+    let path = path_at c.self.inside.paths.all c.in-Some.place in
+    let found = leased_on log t c.self.inside.paths.all refs c.in-Some.place c.args.number are at in
     let P : Ledger → Type 0 = λ l. leased_under c.args.number l.tree ≤ 1 in
     let one = subst P (sym c.self.view_is) c.requires in
     if_ok c.splits_to.result _ _ (λ taken h way lease there is_number.
