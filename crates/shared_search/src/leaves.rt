@@ -88,35 +88,16 @@ fn settle(
 {
     treated_nodes();
     match grown {
-        Grown::Ready(fragment) => put_fragment(alloc, pool, pass, lease, fragment),
+        Grown::Ready(fragment) => {
+            let step = step_behind(&fragment.tree, lease.grant);
+            put_fragment(alloc, pool, pass, lease, fragment)?;
+            Ok(step)
+        }
         Grown::Ungranted(hint) => {
             put_leaf(alloc, pool, pass, lease, Leaf::Treated(hint))?;
             Ok(Step::Ended)
         }
     }
-}
-
-// The tree is put in the place of the leaf, behind an offer of the point, if one was found.
-fn put_fragment(
-    alloc: Global,
-    pool: &Pool<SharedBoard>,
-    pass: &mut Pass<SharedBoard>,
-    lease: Lease,
-    fragment: Fragment,
-) -> Result<Step, AllocError>
-    requires pool { IsPassOf pool.now pass.old }
-    requires fragment { IsFragmentFor (view_of pass.old) lease fragment }
-    ensures pool { IsSamePool pass.old pass.new }
-    ensures same { IsSameHolder (view_of pass.old) (view_of pass.new) }
-{
-    trees_of_leases();
-    let Fragment { tree, found } = fragment;
-    let step = step_behind(&tree, lease.grant);
-    match found {
-        None => put(alloc, pool, pass, lease, tree)?,
-        Some(point) => put_with(alloc, pool, pass, lease, tree, point)?,
-    }
-    Ok(step)
 }
 
 // How the worker goes on behind a tree. Where all splits that were granted are made, the tree has leaves that are to be worked on, and
@@ -127,6 +108,27 @@ fn step_behind(tree: &Subtree, grant: usize) -> Step {
         Step::Split
     } else {
         Step::Closed
+    }
+}
+
+// The tree is put in the place of the leaf, behind an offer of the point, if one was found.
+fn put_fragment(
+    alloc: Global,
+    pool: &Pool<SharedBoard>,
+    pass: &mut Pass<SharedBoard>,
+    lease: Lease,
+    fragment: Fragment,
+) -> Result<(), AllocError>
+    requires pool { IsPassOf pool.now pass.old }
+    requires fragment { IsFragmentFor (view_of pass.old) lease fragment }
+    ensures pool { IsSamePool pass.old pass.new }
+    ensures same { IsSameHolder (view_of pass.old) (view_of pass.new) }
+{
+    trees_of_leases();
+    let Fragment { tree, found } = fragment;
+    match found {
+        None => put(alloc, pool, pass, lease, tree),
+        Some(point) => put_with(alloc, pool, pass, lease, tree, point),
     }
 }
 
