@@ -1,5 +1,5 @@
 -- Honest ways are over the problem's columns; how a search begins and ends.
-use Rattle.std.proofs.Common.{◌≡◌, ℕ, zero, suc, ◌<◌, ◌≤◌, ◌+◌, ◌∙◌, ◌⊎◌, inl, inr, List, [], ◌∷◌, length, Bool, true, false, refl, sym, subst, Option, Some, IfSome, slice_get, Result, Ok, Err, IfOk, arith}
+use Rattle.std.proofs.Common.{◌≡◌, ℕ, zero, suc, ◌<◌, ◌≤◌, ◌+◌, inl, inr, List, [], ◌∷◌, length, Bool, true, false, refl, sym, subst, Option, Some, IfSome, slice_get, Result, Ok, Err, IfOk, arith}
 use Rattle.milp.specs.Form.{Entry}
 use Rattle.milp.specs.Problem.{Column, Problem}
 use Rattle.verdicts.specs.WeightedSums.{AllBelow}

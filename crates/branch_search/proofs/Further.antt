@@ -1,5 +1,5 @@
 -- What rounds keep, and that less work is left after each.
-use Rattle.std.proofs.Common.{◌≡◌, ◌∙◌, ℕ, suc, ◌+◌, ◌*◌, ◌-◌, ◌≤◌, min, inl, inr, List, [], Bool, true, false, cond, refl, sym, ap, subst, Option, None, arith, ◌<◌, ◌∷◌}
+use Rattle.std.proofs.Common.{◌≡◌, ◌∙◌, ℕ, suc, ◌+◌, ◌*◌, ◌-◌, ◌≤◌, min, inl, inr, List, [], Bool, true, false, cond, refl, sym, ap, subst, Option, arith, ◌<◌, ◌∷◌}
 use Rattle.rational.specs.Rational.{Rational}
 use Rattle.milp.specs.Problem.{Problem}
 use Rattle.verdicts.specs.Certificate.{Side as SideOf, Low as LowOf, High as HighOf, Derived}

@@ -14,7 +14,7 @@ use Rattle.search_node.specs.declared.node.SplitTaken.{SplitTaken}
 use Rattle.search_node.specs.declared.node.Node.{Node}
 use Rattle.search_tree.specs.declared.leaf.Leaf.{Leaf}
 use Rattle.search_tree.specs.declared.leaf.Leaf.TheVariants.{Todo, Treated, Leased, Refuted, Bounded, NotFitting, AtLimit}
-use Rattle.search_tree.specs.Tree.{Tree, Divided, AtLeaf, IsTodo, IsNotLeased, AllSplits, AllLeaves, made}
+use Rattle.search_tree.specs.Tree.{Tree, Divided, AtLeaf, IsTodo, IsNotLeased, AllSplits, AllLeaves}
 use Rattle.search_tree.specs.Nodes.{IsHonestSplit, IsWorthwhile, IsTreated, Beats, NodePasses, KeepsLeaf}
 use Rattle.search_tree.specs.Honest.{AreHonest}
 use Rattle.search_tree.proofs.Laws.{todo_not_leased}
@@ -29,7 +29,7 @@ use Rattle.branch_search.specs.declared.growing.Progress.{Progress}
 use Rattle.branch_search.specs.declared.growing.Decided.{Decided}
 use Rattle.branch_search.specs.declared.growing.Decided.TheVariants.{Closed, ToSplit}
 use Rattle.branch_search.specs.Treatment.{IsFound, IsToSplit}
-use Rattle.branch_search.specs.Grown.{IsHonestTree, AreTodoOrClosed, IsSplitOrClosed, IsBetterPoint, best_with, IsFragment, IsGrown, IsOnward, unchanged, better, IsGrowth, IsClosed, IsDecided}
+use Rattle.branch_search.specs.Grown.{IsHonestTree, AreTodoOrClosed, IsSplitOrClosed, IsBetterPoint, best_with, IsGrown, IsOnward, unchanged, better, IsGrowth, IsClosed, IsDecided}
 
 -- ---- values that get better
 

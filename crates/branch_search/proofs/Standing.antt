@@ -20,7 +20,7 @@ use Rattle.branch_search.specs.declared.fragment.Fragment.{Fragment}
 use Rattle.branch_search.specs.declared.fragment.Grown.{Grown}
 use Rattle.branch_search.specs.declared.fragment.Grown.TheVariants.{Ready, Ungranted}
 use Rattle.branch_search.specs.Faults.{IsFault}
-use Rattle.branch_search.specs.Grown.{IsHonestTree, IsOutcome, IsBetterPoint, best_with, IsFragment, IsUngranted, IsGrown}
+use Rattle.branch_search.specs.Grown.{IsHonestTree, IsOutcome, IsBetterPoint, best_with, IsUngranted, IsGrown}
 use Rattle.branch_search.specs.Places.{LeadTo, GrowsAt, IsFragmentAt, MayStand}
 use Rattle.branch_search.specs.Settled.{seat, IsLeft}
 use Rattle.branch_search.proofs.Growth.{none_leased_in}
@@ -95,7 +95,7 @@ stands_then b lease x t best c is_open is_best h o =
     let point = point_at b lease x t is_open h in
     let value : Some (objective_value b.problem x) ≡ Some (objective_value b.problem (better_of b.problem b.best x)) = ap Some (sym (is_better b.problem b.best lease.best x is_best point.beats)) in
     subst (λ (d : Board). MayStand d lease t) (sym o.new) (λ way there.
-        subst (λ (goal : Option Rational). IsHonestTree b.problem b.cuts b.pivot_limit (sides_to b.tree way []) lease.best goal t) value (h way there).tree)
+    subst (λ (goal : Option Rational). IsHonestTree b.problem b.cuts b.pivot_limit (sides_to b.tree way []) lease.best goal t) value (h way there).tree)
 
 pub open_then : (b : Board) (lease : Lease) (x : List Rational) (best : Option Rational) (c : Board) → IsOpen b.tree lease → IsOffer b seat x best c → IsOpen c.tree lease
 open_then b lease x best c is_open o = subst (λ (d : Board). IsOpen d.tree lease) (sym o.new) is_open

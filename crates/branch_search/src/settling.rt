@@ -49,12 +49,7 @@ pub(crate) fn settle(
 }
 
 // The tree is put in the place of the leaf, behind an offer of the point, if one was found.
-fn put(
-    alloc: Global,
-    board: &mut Board,
-    lease: Lease,
-    fragment: Fragment,
-) -> Result<(), AllocError>
+fn put(alloc: Global, board: &mut Board, lease: Lease, fragment: Fragment) -> Result<(), AllocError>
     requires open { IsOpen board.old.tree lease }
     requires best { lease.best ≡ value_of board.old }
     requires fragment { IsFragmentAt board.old lease fragment }

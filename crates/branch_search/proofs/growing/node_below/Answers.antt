@@ -1,4 +1,4 @@
-use Rattle.std.proofs.Common.{◌∙◌, ◌∷◌, ◌++◌, [], List, ap}
+use Rattle.std.proofs.Common.{◌∙◌, ◌∷◌, ◌++◌, [], ap}
 use Rattle.search_node.specs.declared.node.Node.{Node}
 use Rattle.search_node.specs.declared.node.SplitTaken.{SplitTaken}
 use Rattle.branch_search.proofs.Growth.{sides_below}
