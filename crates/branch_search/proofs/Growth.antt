@@ -94,14 +94,6 @@ worthwhile_first p ds old new h sides (AtLeaf leaf) k = tt
 
 -- ---- what grows
 
-pub todo_grown : (p : Problem) (ds : List Derived) (limit : ℕ) (sides : List SideOf) (old : Progress) (hint : Unit {0}) (t : Tree) → t ≡ AtLeaf (Todo hint) → IsGrowth p ds limit sides old old t
-todo_grown p ds limit sides old hint t e = subst (IsGrowth p ds limit sides old old) (sym e) (record {
-  tree = record { splits = tt; worthwhile = tt; leaves = tt };
-  leaves = inl tt;
-  count = omega arith;
-  onward = stays p old;
-})
-
 leaf_grown : (p : Problem) (ds : List Derived) (limit : ℕ) (sides : List SideOf) (old new : Progress) (leaf : Leaf) (t : Tree) → IsClosed p ds limit sides old new leaf → t ≡ AtLeaf leaf → IsGrowth p ds limit sides old new t
 leaf_grown p ds limit sides old new leaf t h e = subst (IsGrowth p ds limit sides old new) (sym e) (record {
   tree = record { splits = tt; worthwhile = tt; leaves = h.keeps };
@@ -133,12 +125,6 @@ split_grown law treated p ds limit sides f old start mid new low high t one left
       onward = onward_then p old mid new to_mid b.onward;
     })
 
-pub split_root : (s : Split) (low high t : Tree) → t ≡ Divided s low high → IsSplitOrClosed t
-split_root s low high t e = subst IsSplitOrClosed (sym e) tt
-
-pub leaf_root : (leaf : Leaf) (p : Problem) (ds : List Derived) (limit : ℕ) (sides : List SideOf) (old new : Progress) (t : Tree) → IsClosed p ds limit sides old new leaf → t ≡ AtLeaf leaf → IsSplitOrClosed t
-leaf_root leaf p ds limit sides old new t h e = subst IsSplitOrClosed (sym e) h.there
-
 -- ---- what is made of it
 
 pub closed_not_leased : (leaf : Leaf) → IsThere (closed_node leaf) → IsNotLeased leaf
@@ -158,26 +144,6 @@ not_leased leaf (inr h) = closed_not_leased leaf h
 pub none_leased_in : (t : Tree) (sides : List SideOf) → AreTodoOrClosed t → AllLeaves (λ at leaf. IsNotLeased leaf) sides t
 none_leased_in (Divided s low high) sides h = (none_leased_in low (LowOf s ∷ sides) h.0, none_leased_in high (HighOf s ∷ sides) h.1)
 none_leased_in (AtLeaf leaf) sides h = not_leased leaf h
-
-found_since : (p : Problem) (old new : Progress) → old.found ≡ None → IsOnward p old new → IfSome new.found (IsBetterPoint p old.best) × (new.best ≡ best_with p old.best new.found)
-found_since p old new none (unchanged best found) =
-    let P : Option (List Rational) → Type 0 = λ o. IfSome o (IsBetterPoint p old.best) × (new.best ≡ best_with p old.best o) in
-    subst P (sym (found ∙ none)) (tt, best)
-found_since p old new none (better x point best found) =
-    let P : Option (List Rational) → Type 0 = λ o. IfSome o (IsBetterPoint p old.best) × (new.best ≡ best_with p old.best o) in
-    subst P (sym found) (point, best)
-
-pub ready_grown : (p : Problem) (ds : List Derived) (limit : ℕ) (sides : List SideOf) (old new : Progress) (t : Tree) (grown : Grown) → old.found ≡ None → IsGrowth p ds limit sides old new t → IsSplitOrClosed t → grown ≡ Ready (record { tree = t; found = new.found })
-    → IsGrown p ds limit sides old.best old.left grown
-ready_grown p ds limit sides old new t grown none h root e =
-    let since = found_since p old new none h.onward in
-    let P : Option Rational → Type 0 = λ goal. IsHonestTree p ds limit sides old.best goal t in
-    let count = h.count in
-    subst (IsGrown p ds limit sides old.best old.left) (sym e) (record {
-      found = since.0;
-      tree = subst P since.1 h.tree;
-      outcome = record { leaves = h.leaves; root = root; within = omega (arith, count) };
-    })
 
 -- ---- what is decided
 
@@ -213,10 +179,6 @@ side_of_last (u ∷ taken) t = ap (λ (sides : List SideOf). sides ++ side_of u.
 
 pub sides_below : (taken more : List SplitTaken) (t : SplitTaken) → more ≡ taken ++ t ∷ [] → sides_of more ≡ side_of t.split t.side ∷ sides_of taken
 sides_below taken more t e = ap sides_of e ∙ side_of_last taken t
-
-pub honest_below : (p : Problem) (ds : List Derived) (sides : List SideOf) (s : Split) (side : Side) → IsHonestSplit p ds sides s → AreHonest p ds sides → AreHonest p ds (side_of s side ∷ sides)
-honest_below p ds sides s Low h k = (h, k)
-honest_below p ds sides s High h k = (h, k)
 
 -- ---- faults
 

@@ -51,9 +51,6 @@ may_graft b lease best t is_open may outcome value told =
 
 -- ---- what grows where a lease is open
 
-pub grows_at : (b : Board) (lease : Lease) (sides : List SideOf) (grown : Grown) → LeadTo b lease sides → IsGrown b.problem b.cuts b.pivot_limit sides lease.best lease.grant grown → GrowsAt b lease grown
-grows_at b lease sides grown lead h way there = subst (λ (at : List SideOf). IsGrown b.problem b.cuts b.pivot_limit at lease.best lease.grant grown) (lead way there) h
-
 pub fragment_at : (b : Board) (lease : Lease) (grown : Grown) (fragment : Fragment) → GrowsAt b lease grown → grown ≡ Ready fragment → IsFragmentAt b lease fragment
 fragment_at b lease grown fragment h is way there = subst (λ (g : Grown). IsGrown b.problem b.cuts b.pivot_limit (sides_to b.tree way []) lease.best lease.grant g) is (h way there)
 
