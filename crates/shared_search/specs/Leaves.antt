@@ -55,10 +55,10 @@ pub record IsLeafFor (v : View Board Entry) (lease : Lease) (leaf : Leaf) : Type
   pub not_stuck : IsNotStuck leaf
 
 -- the work at a leaf that is leased to the pass comes to this
-pub record IsGrownFor (v : View Board Entry) (lease : Lease) (grown : Grown) : Type 0 where
+pub record IsGrownFor (v : View Board Entry) (lease : Lease) (g : Grown) : Type 0 where
   pub sides : List SideOf
   pub is_open : IsOpenFor v lease sides
-  pub grown : IsGrown (first_of v).problem (first_of v).cuts (first_of v).pivot_limit sides lease.best lease.grant grown
+  pub grown : IsGrown (first_of v).problem (first_of v).cuts (first_of v).pivot_limit sides lease.best lease.grant g
 
 -- and this is such a fragment
 pub record IsFragmentFor (v : View Board Entry) (lease : Lease) (f : Fragment) : Type 0 where
