@@ -5,7 +5,6 @@ use Rattle.rational.specs.Rational.{Rational}
 use Rattle.milp.specs.Problem.{Problem}
 use Rattle.milp.specs.Points.{objective_value}
 use Rattle.verdicts.specs.Certificate.{Side as SideOf, Derived}
-use Rattle.turn_pool.specs.declared.view.View.{View}
 use Rattle.turn_pool.specs.Calls.{Called}
 use Rattle.search_node.specs.Sides.{sides_of}
 use Rattle.search_node.specs.declared.node.Node.{Node}
