@@ -13,7 +13,6 @@ use Rattle.tree_pool.specs.declared.answer.LeaseAnswer.{LeaseAnswer}
 use Rattle.tree_pool.specs.declared.answer.LeaseAnswer.TheVariants as answers
 use Rattle.tree_pool.specs.Answers.{IsAnswer}
 use Rattle.board_pool.specs.declared.asked.LeasedLeaf.{LeasedLeaf}
-use Rattle.board_pool.specs.declared.asked.Asked.{Asked}
 use Rattle.board_pool.specs.declared.asked.Asked.TheVariants.{Leased}
 use Rattle.board_pool.specs.Asks.{IsAsked}
 use Rattle.board_pool.proofs.LeafStays.{at_replaced}

@@ -1,5 +1,5 @@
 -- Open leases from call to call.
-use Rattle.std.proofs.Common.{ℕ, ◌≡◌, List, [], ◌∷◌, ◌++◌, Option, refl, sym, ap, subst}
+use Rattle.std.proofs.Common.{ℕ, ◌≡◌, ◌+◌, ◌≤◌, List, [], ◌∷◌, ◌++◌, length, Option, Some, refl, sym, ap, subst}
 use Rattle.std.specs.Option.{IfSome}
 use Rattle.rational.specs.Rational.{Rational}
 use Rattle.verdicts.specs.Certificate.{Side as SideOf}
@@ -7,9 +7,10 @@ use Rattle.search_tree.specs.declared.leaf.Lease.{Lease}
 use Rattle.search_tree.specs.declared.event.Event.TheVariants.{Offering}
 use Rattle.search_tree.specs.declared.event.Reply.TheVariants.{Best}
 use Rattle.search_tree.specs.declared.event.Entry.{Entry}
-use Rattle.search_tree.specs.Tree.{sides_to}
+use Rattle.search_tree.specs.declared.leaf.Leaf.TheVariants.{Leased as AtLease}
+use Rattle.search_tree.specs.Tree.{Tree, AtLeaf, at_place, sides_to}
 use Rattle.search_tree.specs.Board.{Board}
-use Rattle.search_tree.specs.Steps.{IsHistory, IsOffer, opening}
+use Rattle.search_tree.specs.Steps.{IsHistory, IsLease, IsOffer, opening}
 use Rattle.search_node.specs.Sides.{sides_of}
 use Rattle.search_tree.specs.Honest.{IsHonestWay}
 use Rattle.search_tree.specs.Kept.{IsKept}
@@ -27,6 +28,7 @@ use Rattle.board_pool.specs.Searches.{log_of, IsOfSearch}
 use Rattle.board_pool.specs.OpenLeases.{lease_to, IsLeasedBelow}
 use Rattle.board_pool.specs.LeasesStay.{none_ends, leased_behind}
 use Rattle.board_pool.proofs.Grafts.{same_opening}
+use Rattle.board_pool.proofs.LeafStays.{at_replaced}
 
 -- the way to each place of a kept board is honest
 abbrev WaysAreHonest : Type 0
@@ -36,10 +38,22 @@ WaysAreHonest = (b : Board) → IsKept b → (way : List Side) → IsHonestWay b
 honest_on_board : WaysAreHonest → (first b : Board) → IsOfSearch first b → (way : List Side) → IsHonestWay first.problem first.cuts first.split_limit (sides_to b.tree way [])
 honest_on_board honest first b of way = rw (sym of.problem, sym of.cuts, sym of.split_limit) (honest b (replay_kept b of.replay) way)
 
--- a lease that a pass was given is open for it, on an honest way, and the node that was told is that of the leaf
-pub given_is_open : WaysAreHonest → (v w : View Board Entry) (leaf : LeasedLeaf) → Called touched log_of IsOfSearch (λ seat b (asked : Asked) c. IsAsked b seat asked c) v (Leased leaf) w
+-- the way to a leased leaf leaves room for the splits that its lease grants
+abbrev WaysLeaveRoom : Type 0
+WaysLeaveRoom = (b : Board) → IsKept b → (way : List Side) (lease : Lease) → at_place b.tree way ≡ Some (AtLeaf (AtLease lease)) → length (sides_to b.tree way []) + lease.grant ≤ b.split_limit
+
+-- so it is on a board on which the lease was given
+room_on_board : WaysLeaveRoom → (first b c : Board) (seat : ℕ) (way : List Side) (lease : Lease) → IsLease b seat way lease c → IsOfSearch first c → length (sides_to c.tree way []) + lease.grant ≤ first.split_limit
+room_on_board room first b c seat way lease l of =
+    let there : at_place c.tree way ≡ Some (AtLeaf (AtLease lease)) = subst (λ (t : Tree). at_place t way ≡ Some (AtLeaf (AtLease lease))) (sym (ap (λ (d : Board). d.tree) l.new)) (at_replaced b.tree way (AtLeaf l.leaf) (AtLeaf (AtLease lease)) l.there) in
+    subst (λ (limit : ℕ). length (sides_to c.tree way []) + lease.grant ≤ limit) of.split_limit (room c (replay_kept c of.replay) way lease there)
+
+-- A lease that a pass was given is open for it, on an honest way, and the node that was told is that of the leaf. The limit leaves room
+-- for the splits that it grants.
+pub given_is_open : WaysAreHonest → WaysLeaveRoom → (v w : View Board Entry) (leaf : LeasedLeaf) → Called touched log_of IsOfSearch (λ seat b (asked : Asked) c. IsAsked b seat asked c) v (Leased leaf) w
     → (sides : List SideOf) × IsLeasedBelow v.key.first.value w.spans w.seen leaf.lease sides × IsHonestWay v.key.first.value.problem v.key.first.value.cuts v.key.first.value.split_limit sides × IfSome leaf.node (λ node. sides_of node.splits ≡ sides)
-given_is_open honest v w leaf c =
+    × (length sides + leaf.lease.grant ≤ v.key.first.value.split_limit)
+given_is_open honest room v w leaf c =
     let way = c.event.0 in
     let s = c.event.1 in
     let log_is : c.after.log ≡ c.before.log ++ lease_to v.own way leaf.lease ∷ [] = ap log_of s.new in
@@ -54,6 +68,7 @@ given_is_open honest v w leaf c =
       }),
       honest_on_board honest v.key.first.value c.after c.replay way,
       c.event.2,
+      room_on_board room v.key.first.value c.before c.after v.own way leaf.lease s c.replay,
     )
 
 -- a log that goes on without the numbers leaves it open, and so it is for who holds more numbers

@@ -1,8 +1,8 @@
 -- The certificates that a search makes are by splits of columns.
-use Rattle.std.proofs.Common.{◌≡◌, List, [], ◌∷◌, ◌++◌, refl, sym, subst, Option, Some, None}
+use Rattle.std.proofs.Common.{◌≡◌, List, [], ◌∷◌, ◌++◌, refl, sym, subst}
 use Rattle.std.specs.List.{AllByRecursion}
 use Rattle.milp.specs.Problem.{Problem}
-use Rattle.verdicts.specs.Certificate.{Side, Low, High, Derived, TreeNode, Branch, Empty, Bound, Certificate}
+use Rattle.verdicts.specs.Certificate.{Side, Low, High, Derived, TreeNode, Certificate}
 use Rattle.basis.specs.Relaxation.{point_certificate}
 use Rattle.rational.specs.Rational.{Rational}
 use Rattle.search_tree.specs.declared.leaf.Leaf.{Leaf}

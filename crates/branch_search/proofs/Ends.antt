@@ -1,5 +1,5 @@
 -- Honest ways are over the problem's columns; how a search begins and ends.
-use Rattle.std.proofs.Common.{◌≡◌, ℕ, zero, suc, ◌<◌, ◌≤◌, ◌+◌, ◌∙◌, ◌⊎◌, inl, inr, List, [], ◌∷◌, length, Bool, true, false, refl, sym, subst, Option, Some, IfSome, slice_get, Result, Ok, Err, IfOk, arith}
+use Rattle.std.proofs.Common.{◌≡◌, ℕ, zero, suc, ◌<◌, ◌≤◌, ◌+◌, inl, inr, List, [], ◌∷◌, length, Bool, true, false, refl, sym, subst, Option, Some, IfSome, slice_get, Result, Ok, Err, IfOk, arith}
 use Rattle.milp.specs.Form.{Entry}
 use Rattle.milp.specs.Problem.{Column, Problem}
 use Rattle.verdicts.specs.WeightedSums.{AllBelow}
@@ -25,14 +25,14 @@ use Rattle.branch_search.specs.declared.fault.SearchFault.{SearchFault}
 use Rattle.branch_search.specs.Settled.{seat, IsSettled, IsRound}
 use Rattle.certificate.specs.declared.split.Side.TheVariants.{Low, High}
 use Rattle.search_tree.specs.Board.{Board, value_of, after}
-use Rattle.search_tree.specs.Honest.{AreHonest, IsHonestWay}
+use Rattle.search_tree.specs.Honest.{AreHonest}
 use Rattle.search_tree.specs.Kept.{IsKept, closed_node}
 use Rattle.search_tree.specs.Finished.{IsFinished, IsThere}
 use Rattle.tree_pool.specs.Places.{IsOpen}
 use Rattle.branch_search.specs.Underway.{IsStanding, IsUnderway, IsAtEnd}
 use Rattle.branch_search.specs.Faults.{IsClosedOrTreated, IsOutOfSplits}
 use Rattle.branch_search.proofs.Leased.{all_of_both}
-use Rattle.branch_search.proofs.Standing.{not_leased}
+use Rattle.branch_search.proofs.Growth.{closed_not_leased}
 
 -- ---- honest ways
 
@@ -51,11 +51,11 @@ on_columns p ds (HighOf s ∷ sides) h zero = own_column p s h.0.form h.0.intege
 on_columns p ds (LowOf s ∷ sides) h (suc k) = on_columns p ds sides h.1 k
 on_columns p ds (HighOf s ∷ sides) h (suc k) = on_columns p ds sides h.1 k
 
-pub over_columns : (p : Problem) (ds : List Derived) (limit : ℕ) (sides : List SideOf) (q : Problem) (qs : List Derived) → q ≡ p → qs ≡ ds → ds ≡ [] → IsOverColumns q [] [] → IsHonestWay p ds limit sides → IsOverColumns q qs sides
-over_columns p ds limit sides q qs e f none root way =
-    let P : List Derived → Type 0 = λ cuts. IsOverColumns q cuts sides in
-    let H : Problem → Type 0 = λ r. AreHonest r ds sides in
-    subst P (sym (f ∙ none)) (record { objective = root.objective; rows = root.rows; derived = λ k. tt; splits = on_columns q ds sides (subst H (sym e) way.splits) })
+-- without cuts, a node on an honest way is over the problem's columns
+pub over_columns : (p : Problem) (ds : List Derived) (sides : List SideOf) → ds ≡ [] → IsOverColumns p [] [] → AreHonest p ds sides → IsOverColumns p ds sides
+over_columns p ds sides none root way =
+    let P : List Derived → Type 0 = λ cuts. IsOverColumns p cuts sides in
+    subst P (sym none) (record { objective = root.objective; rows = root.rows; derived = λ k. tt; splits = on_columns p ds sides way })
 
 -- ---- the end
 
@@ -67,7 +67,7 @@ closed b sides leaf (inr (inr k)) none = let never : false ≡ true = k.is_out i
 -- a leaf that was left is given back: it is to be worked on again
 end : (b : Board) (sides : List SideOf) (leaf : Leaf) → IsStanding b.problem b.cuts (value_of b) true sides leaf → ¬ (IsTodo leaf) → IsClosedOrTreated b.problem b.cuts (value_of b) sides (given_back leaf (lease_of leaf))
 end b sides leaf (inl k) none = absurd (none k)
-end b sides leaf (inr (inl k)) none = let P : Option Lease → Type 0 = λ o. IsClosedOrTreated b.problem b.cuts (value_of b) sides (given_back leaf o) in subst P (sym (not_leased leaf k)) (inl k)
+end b sides leaf (inr (inl k)) none = let P : Option Lease → Type 0 = λ o. IsClosedOrTreated b.problem b.cuts (value_of b) sides (given_back leaf o) in subst P (sym (closed_not_leased leaf k)) (inl k)
 end b sides leaf (inr (inr k)) none = let P : Option Lease → Type 0 = λ o. IsClosedOrTreated b.problem b.cuts (value_of b) sides (given_back leaf o) in subst P (sym k.leased) (inr (tt, k.treated))
 
 ends : (b : Board) (t : Tree) (sides : List SideOf) → AllLeaves (IsStanding b.problem b.cuts (value_of b) true) sides t → AllLeaves (λ at leaf. ¬ (IsTodo leaf)) sides t → AllLeaves (IsClosedOrTreated b.problem b.cuts (value_of b)) sides (reclaimed t)

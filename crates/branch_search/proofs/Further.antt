@@ -1,7 +1,8 @@
 -- What rounds keep, and that less work is left after each.
-use Rattle.std.proofs.Common.{◌≡◌, ◌∙◌, ℕ, suc, ◌+◌, ◌*◌, ◌-◌, ◌≤◌, min, inl, inr, List, [], Bool, true, false, cond, refl, sym, ap, subst, Option, None, arith, ◌<◌, ◌∷◌}
+use Rattle.std.proofs.Common.{◌≡◌, ◌∙◌, ℕ, suc, ◌+◌, ◌*◌, ◌-◌, ◌≤◌, min, inl, inr, List, [], Bool, true, false, cond, refl, sym, ap, subst, Option, arith, ◌<◌, ◌∷◌}
 use Rattle.rational.specs.Rational.{Rational}
-use Rattle.verdicts.specs.Certificate.{Side as SideOf, Low as LowOf, High as HighOf}
+use Rattle.milp.specs.Problem.{Problem}
+use Rattle.verdicts.specs.Certificate.{Side as SideOf, Low as LowOf, High as HighOf, Derived}
 use Rattle.certificate.specs.declared.split.Side.{Side}
 use Rattle.search_tree.specs.declared.event.Event.{Event}
 use Rattle.search_tree.specs.declared.event.Event.TheVariants.{Leasing, Grafting, Offering, Reclaiming}
@@ -16,10 +17,12 @@ use Rattle.search_tree.specs.Kept.{IsKept, closed_node}
 use Rattle.search_tree.specs.Finished.{IsThere}
 use Rattle.search_tree.specs.Steps.{Step, IsLease, IsOffer, IsReclaim}
 use Rattle.search_tree.proofs.Laws.{made_reclaimed, made_replaced, none_leased, reclaimed_none_leased, sum_replaced, todo_not_leased}
-use Rattle.branch_search.specs.Settled.{seat, IsOutcome, IsPut, IsWorked, IsLeft, IsRound}
+use Rattle.branch_search.specs.Grown.{AreTodoOrClosed, IsSplitOrClosed, IsOutcome}
+use Rattle.branch_search.specs.Settled.{seat, IsPut, IsWorked, IsLeft, IsRound}
 use Rattle.branch_search.specs.declared.settling.Round.{Round}
 use Rattle.branch_search.specs.declared.settling.Round.TheVariants.{Worked, Left, Idle}
 use Rattle.branch_search.specs.Underway.{IsStanding, IsUnderway, IsGoing, to_do, not_ended, work_left, count_to_do, AreSame, IsAtEnd, IsLess, IsFurther, IsNext}
+use Rattle.branch_search.proofs.Growth.{closed_not_leased, none_leased_in}
 use Rattle.branch_search.proofs.Leased.{OrLeased, all_leaves, leaves_replaced, grafted, stays_leased}
 
 -- a leaf is leased, and all others stand as in a search that is under way
@@ -55,15 +58,6 @@ all_ended (Refuted w) h = refl
 all_ended (Bounded w) h = refl
 all_ended (NotFitting e) h = absurd h
 all_ended (AtLimit bases) h = absurd h
-
-closed_not_leased : (leaf : Leaf) → IsThere (closed_node leaf) → lease_of leaf ≡ None
-closed_not_leased (Todo hint) h = absurd h
-closed_not_leased (Treated hint) h = absurd h
-closed_not_leased (Leased lease) h = absurd h
-closed_not_leased (Refuted w) h = refl
-closed_not_leased (Bounded w) h = refl
-closed_not_leased (NotFitting e) h = absurd h
-closed_not_leased (AtLimit bases) h = absurd h
 
 no_grant : (sum limit : ℕ) → min most_granted (limit - sum) ≡ 0 → limit ≤ sum
 no_grant sum limit h = omega (arith, h)
@@ -118,13 +112,37 @@ record IsFitting (b : Board) (best : Option Rational) (out : Bool) (lease : Leas
   balance : sum_of_leaves not_ended t ≤ made t * 2
   within : made t ≤ lease.grant
 
-fitting : (b : Board) (best : Option Rational) (out : Bool) (lease : Lease) (sides : List SideOf) (t : Tree) → IsOutcome lease t → IsFitting b best out lease sides t
-fitting b best out lease sides t (IsOutcome.closed leaf there e) =
-    let none : of_lease (λ (l : Lease). l.grant) (lease_of leaf) ≡ 0 = ap (of_lease (λ (l : Lease). l.grant)) (closed_not_leased leaf there) in
-    let here = all_ended leaf there in
-    subst (IsFitting b best out lease sides) (sym e) (record { leaves = inr (inl there); none_granted = none; balance = omega (arith, here); within = omega arith })
-fitting b best out lease sides t (IsOutcome.divided s low high grant e) =
-    subst (IsFitting b best out lease sides) (sym e) (record { leaves = (inl tt, inl tt); none_granted = refl; balance = omega arith; within = omega (arith, grant) })
+stands_in : (p : Problem) (ds : List Derived) (best : Option Rational) (out : Bool) (t : Tree) (sides : List SideOf) → AreTodoOrClosed t → AllLeaves (IsStanding p ds best out) sides t
+stands_in p ds best out (Divided s low high) sides h = (stands_in p ds best out low (LowOf s ∷ sides) h.0, stands_in p ds best out high (HighOf s ∷ sides) h.1)
+stands_in p ds best out (AtLeaf leaf) sides (inl h) = inl h
+stands_in p ds best out (AtLeaf leaf) sides (inr h) = inr (inl h)
+
+one_at_most : (leaf : Leaf) → not_ended leaf ≤ 1
+one_at_most (Todo hint) = omega arith
+one_at_most (Treated hint) = omega arith
+one_at_most (Leased lease) = omega arith
+one_at_most (Refuted w) = omega arith
+one_at_most (Bounded w) = omega arith
+one_at_most (NotFitting e) = omega arith
+one_at_most (AtLimit bases) = omega arith
+
+-- a tree has one leaf more than splits
+few_leaves : (t : Tree) → sum_of_leaves not_ended t ≤ made t + 1
+few_leaves (Divided s low high) = let a = few_leaves low in let b = few_leaves high in omega (arith, a, b)
+few_leaves (AtLeaf leaf) = one_at_most leaf
+
+-- a tree that is closed or split at its root has no more leaves that are not ended than twice its splits
+in_balance : (t : Tree) → IsSplitOrClosed t → sum_of_leaves not_ended t ≤ made t * 2
+in_balance (Divided s low high) h = let few = few_leaves (Divided s low high) in omega (arith, few)
+in_balance (AtLeaf leaf) h = let here = all_ended leaf h in omega (arith, here)
+
+fitting : (b : Board) (best : Option Rational) (out : Bool) (lease : Lease) (sides : List SideOf) (t : Tree) → IsOutcome lease.grant t → IsFitting b best out lease sides t
+fitting b best out lease sides t h = record {
+  leaves = stands_in b.problem b.cuts best out t sides h.leaves;
+  none_granted = none_leased (λ l. l.grant) t sides (none_leased_in t sides h.leaves);
+  balance = in_balance t h.root;
+  within = h.within;
+}
 
 less : (limit made more left new granted : ℕ) → more ≤ granted → made + granted ≤ limit → new ≤ more * 2 → (limit - (made + more)) * 2 + (left + new) ≤ (limit - made) * 2 + left
 less limit made more left new granted h k l = omega (arith, h, k, l)

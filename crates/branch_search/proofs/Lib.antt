@@ -1,6 +1,7 @@
 mod Floors
 mod Treating
 mod Leased
+pub mod Growth
 mod Standing
 mod Further
 mod Ends

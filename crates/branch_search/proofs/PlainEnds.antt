@@ -1,21 +1,17 @@
 -- The certificates of problems without integer columns.
-use Rattle.std.proofs.Common.{◌≡◌, ◌∙◌, ℕ, List, [], ◌∷◌, length, Bool, true, false, refl, sym, subst, option_map, Option, Some, None, IfSome, slice_get, Result, Ok, IfOk}
+use Rattle.std.proofs.Common.{◌≡◌, ◌∙◌, ℕ, List, [], length, Bool, true, false, refl, sym, subst, option_map, Option, Some, None, IfSome, slice_get, Result, IfOk}
 use Rattle.rational.specs.Rational.{Rational}
 use Rattle.fraction.specs.declared.frac.NoFit.{NoFit}
 use Rattle.milp.specs.Problem.{Column, Problem}
 use Rattle.milp.specs.Points.{Feasible, IsImprovingRay, objective_value}
-use Rattle.verdicts.specs.Certificate.{Two, Weights, Derived, TreeNode, Empty, Bound, Verdict, Optimal, Infeasible, Unbounded, Certificate}
+use Rattle.verdicts.specs.Certificate.{Two, Weights, Derived, TreeNode, Empty, Bound, Optimal, Infeasible, Unbounded, Certificate}
 use Rattle.verdicts.specs.Proves.{is_integer, node_passes}
 use Rattle.verdicts.proofs.Laws.{leaf_empty}
 use Rattle.certificate.specs.Written.{split_column}
-use Rattle.basis.specs.Node.{integer_at}
-use Rattle.basis.specs.Relaxation.{leaf_certificate, point_certificate}
-use Rattle.cert_check.specs.Parts.{node_answer}
-use Rattle.cert_check.specs.Outcome.{form_goal}
+use Rattle.basis.specs.Relaxation.{point_certificate}
 use Rattle.cert_check.proofs.Laws.{node_ok}
 use Rattle.search_tree.specs.declared.leaf.Leaf.TheVariants.{Todo, Treated, Leased, Refuted, Bounded, NotFitting, AtLimit}
 use Rattle.search_tree.specs.Tree.{Tree, Divided, AtLeaf, AllSplits, AllLeaves}
-use Rattle.search_tree.specs.Work.{node_setting}
 use Rattle.search_tree.specs.Nodes.{IsHonestSplit, NodePasses, KeepsLeaf}
 use Rattle.search_tree.specs.Board.{Board}
 use Rattle.search_tree.specs.Kept.{HasSums, IsKept, closed_node}

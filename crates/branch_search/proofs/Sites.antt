@@ -1,5 +1,5 @@
 -- Operations that do not fit at a node on an honest way are on its site numbers.
-use Rattle.std.proofs.Common.{◌≡◌, ℕ, List, [], refl, sym, subst}
+use Rattle.std.proofs.Common.{◌≡◌, ℕ, List, [], sym, subst}
 use Rattle.milp.specs.Problem.{Problem}
 use Rattle.instance.specs.WellFormed.{IsWellFormed}
 use Rattle.verdicts.specs.Certificate.{Derived}
@@ -20,5 +20,5 @@ stuck_at p ds splits site formed none way fault =
     record {
       way = way;
       fault = fault;
-      on_site = on_site_numbers p ds sides site.fault (over_columns p ds splits sides p ds refl refl none (S.over_columns p formed) way) (subst F (sym none) (forms_ascend_below p sides formed (honest_columns p ds sides way.splits))) fault;
+      on_site = on_site_numbers p ds sides site.fault (over_columns p ds sides none (S.over_columns p formed) way.splits) (subst F (sym none) (forms_ascend_below p sides formed (honest_columns p ds sides way.splits))) fault;
     }

@@ -1,31 +1,29 @@
 -- Trees that may be put in the place of a leased leaf.
-use Rattle.std.proofs.Common.{◌≡◌, ◌∙◌, ◌≤◌, List, [], cond, false, refl, sym, ap, subst, Option, Some, None, IfSome, option_map, Result, Ok, Err, IfOk, OnOk, is_err, arith}
+use Rattle.std.proofs.Common.{◌≡◌, ◌∙◌, ℕ, List, [], cond, false, refl, sym, ap, subst, Option, Some, None, IfSome, option_map, Result, Ok, Err, IfErr, IfOk, OnOk, is_err}
 use Rattle.std.specs.Result.{result_ok}
 use Rattle.std.proofs.lemmas.Option.{same_Some}
 use Rattle.rational.specs.Rational.{Rational}
 use Rattle.rational.proofs.Laws.{true_less}
 use Rattle.milp.specs.Problem.{Problem}
 use Rattle.milp.specs.Points.{objective_value}
-use Rattle.verdicts.specs.Certificate.{Side as SideOf}
+use Rattle.verdicts.specs.Certificate.{Side as SideOf, Derived}
 use Rattle.certificate.specs.declared.split.Side.{Side}
 use Rattle.search_tree.specs.declared.leaf.Lease.{Lease}
-use Rattle.search_tree.specs.declared.leaf.Leaf.{Leaf}
-use Rattle.search_tree.specs.declared.leaf.Leaf.TheVariants.{Todo, Treated, Leased, Refuted, Bounded, NotFitting, AtLimit}
-use Rattle.search_tree.specs.Tree.{Tree, Divided, AtLeaf, lease_of, at_place, sides_to}
-use Rattle.search_tree.specs.Nodes.{Beats, KeepsLeaf, IsTreated, IsWorthwhile}
+use Rattle.search_tree.specs.declared.leaf.Leaf.TheVariants.{Leased}
+use Rattle.search_tree.specs.Tree.{Tree, AtLeaf, at_place, sides_to}
+use Rattle.search_tree.specs.Nodes.{Beats, IsTreated}
 use Rattle.search_tree.specs.Board.{Board, value_of, IsTold, better_of}
-use Rattle.search_tree.specs.Finished.{IsThere}
-use Rattle.search_tree.specs.Kept.{closed_node}
-use Rattle.search_tree.specs.Steps.{IsOffer}
-use Rattle.branch_search.specs.declared.treatment.Found.{Found}
-use Rattle.branch_search.specs.declared.treatment.Fractional.{Fractional}
-use Rattle.branch_search.specs.Treatment.{IsFound, IsToSplit}
-use Rattle.branch_search.specs.Places.{MayStand, LeadTo, IsLeafOf}
-use Rattle.branch_search.specs.Settled.{seat}
-
-pub if_ok : {A E : Type 0} (r : Result A E) (P Q : A → Type 0) → ((x : A) → P x → Q x) → IfOk r P → IfOk r Q
-if_ok (Ok x) P Q f h = f x h
-if_ok (Err e) P Q f h = tt
+use Rattle.search_tree.specs.Steps.{IsOffer, MayGraft}
+use Rattle.tree_pool.specs.Places.{IsOpen}
+use Rattle.branch_search.specs.declared.fault.SearchFault.{SearchFault}
+use Rattle.branch_search.specs.declared.fragment.Fragment.{Fragment}
+use Rattle.branch_search.specs.declared.fragment.Grown.{Grown}
+use Rattle.branch_search.specs.declared.fragment.Grown.TheVariants.{Ready, Ungranted}
+use Rattle.branch_search.specs.Faults.{IsFault}
+use Rattle.branch_search.specs.Grown.{IsHonestTree, IsOutcome, IsBetterPoint, best_with, IsUngranted, IsGrown}
+use Rattle.branch_search.specs.Places.{LeadTo, GrowsAt, IsFragmentAt, MayStand}
+use Rattle.branch_search.specs.Settled.{seat, IsLeft}
+use Rattle.branch_search.proofs.Growth.{none_leased_in}
 
 pub value_of_ok : {A E : Type 0} (r : Result A E) (x : A) (P : A → Type 0) → result_ok r ≡ Some x → IfOk r P → P x
 value_of_ok (Ok y) x P e h = subst P (same_Some y x e) h
@@ -35,47 +33,52 @@ pub where_ok : {A E : Type 0} (r : Result A E) (P : Type 0) → is_err r ≡ fal
 where_ok (Ok x) P e h = h
 where_ok (Err f) P e h = cc
 
-pub not_leased : (leaf : Leaf) → IsThere (closed_node leaf) → lease_of leaf ≡ None
-not_leased (Todo hint) h = absurd h
-not_leased (Treated hint) h = absurd h
-not_leased (Leased lease) h = absurd h
-not_leased (Refuted w) h = refl
-not_leased (Bounded w) h = refl
-not_leased (NotFitting e) h = absurd h
-not_leased (AtLimit bases) h = absurd h
+-- a tree that stands against the best value, which was told, may be grafted
+pub may_graft : (b : Board) (lease : Lease) (best : Option Rational) (t : Tree) → IsOpen b.tree lease → MayStand b lease t → IsOutcome lease.grant t → best ≡ value_of b → IfSome best (λ v. IsTold v b.log) → (way : List Side) × MayGraft b way lease t
+may_graft b lease best t is_open may outcome value told =
+    let way = is_open.way in
+    let there = is_open.there in
+    let tree = may way there in
+    let T : Option Rational → Type 0 = λ o. IfSome o (λ v. IsTold v b.log) in (
+      way,
+      record {
+        is_leased = there;
+        sound = record { splits = tree.splits; goal = value_of b; is_told = subst T value told; leaves = tree.leaves; none_leased = none_leased_in t (sides_to b.tree way []) outcome.leaves };
+        within = outcome.within;
+        worthwhile = tree.worthwhile;
+      },
+    )
 
-pub leaf_stands : (b : Board) (lease : Lease) (sides : List SideOf) (leaf : Leaf) (best : Option Rational) (t : Tree) → LeadTo b lease sides → IsLeafOf b sides leaf → IsThere (closed_node leaf) → best ≡ value_of b → IfSome best (λ v. IsTold v b.log) → t ≡ AtLeaf leaf → MayStand b lease t
-leaf_stands b lease sides leaf best t lead h closed value told e = subst (MayStand b lease) (sym e) (λ way there.
-    let P : List SideOf → Type 0 = λ at. KeepsLeaf b.problem b.cuts b.pivot_limit (value_of b) at leaf in
-    let T : Option Rational → Type 0 = λ o. IfSome o (λ v. IsTold v b.log) in
+-- ---- what grows where a lease is open
+
+pub fragment_at : (b : Board) (lease : Lease) (grown : Grown) (fragment : Fragment) → GrowsAt b lease grown → grown ≡ Ready fragment → IsFragmentAt b lease fragment
+fragment_at b lease grown fragment h is way there = subst (λ (g : Grown). IsGrown b.problem b.cuts b.pivot_limit (sides_to b.tree way []) lease.best lease.grant g) is (h way there)
+
+pub left_leased : (b : Board) (lease : Lease) (grown : Grown) (hint : Unit {0}) → IsOpen b.tree lease → lease.best ≡ value_of b → GrowsAt b lease grown → grown ≡ Ungranted hint → IsLeft b lease b
+left_leased b lease grown hint is_open best h is =
+    let here : (way : List Side) → at_place b.tree way ≡ Some (AtLeaf (Leased lease)) → IsUngranted b.problem b.cuts (sides_to b.tree way []) lease.best lease.grant = λ way there. subst (λ (g : Grown). IsGrown b.problem b.cuts b.pivot_limit (sides_to b.tree way []) lease.best lease.grant g) is (h way there) in
     record {
-      is_leased = there;
-      sound = record { splits = tt; goal = value_of b; is_told = subst T value told; leaves = subst P (lead way there) h; none_leased = not_leased leaf closed };
-      within = omega arith;
-      worthwhile = tt;
-    })
+      same = refl;
+      grant = (here is_open.way is_open.there).none;
+      treated = λ way there. subst (λ (o : Option Rational). IsTreated b.problem b.cuts (sides_to b.tree way []) o) best (here way there).treated;
+    }
 
-pub split_stands : (b : Board) (lease : Lease) (sides : List SideOf) (f : Fractional) (low high : Unit {0}) (t : Tree) → LeadTo b lease sides → IsToSplit b.problem b.cuts sides (value_of b) f → lease.best ≡ value_of b → 1 ≤ lease.grant
-    → t ≡ Divided f.split (AtLeaf (Todo low)) (AtLeaf (Todo high)) → MayStand b lease t
-split_stands b lease sides f low high t lead h best grant e = subst (MayStand b lease) (sym e) (λ way there.
-    let P : List SideOf → Type 0 = λ at. IsToSplit b.problem b.cuts at (value_of b) f in
-    let here = subst P (lead way there) h in
-    let W : Option Rational → Type 0 = λ o. IsWorthwhile b.problem b.cuts o (sides_to b.tree way []) in
-    record {
-      is_leased = there;
-      sound = record { splits = (here.split, tt, tt); goal = None; is_told = tt; leaves = (tt, tt); none_leased = (refl, refl) };
-      within = omega (arith, grant);
-      worthwhile = (subst W (sym best) (record { point = here.treated.point; is_optimum = here.treated.is_optimum; beats = here.treated.beats }), tt, tt);
-    })
+-- where no point was found, the tree stands against the best value
+pub stands_at_once : (b : Board) (lease : Lease) (fragment : Fragment) → lease.best ≡ value_of b → IsFragmentAt b lease fragment → fragment.found ≡ None → MayStand b lease fragment.tree
+stands_at_once b lease fragment best h none way there =
+    let f = h way there in
+    subst (λ (goal : Option Rational). IsHonestTree b.problem b.cuts b.pivot_limit (sides_to b.tree way []) lease.best goal fragment.tree) (ap (best_with b.problem lease.best) none ∙ best) f.tree
 
--- ---- a leaf that stays leased
+pub outcome_at : (b : Board) (lease : Lease) (fragment : Fragment) → IsOpen b.tree lease → IsFragmentAt b lease fragment → IsOutcome lease.grant fragment.tree
+outcome_at b lease fragment is_open h = (h is_open.way is_open.there).outcome
 
-pub left_treated : (b : Board) (lease : Lease) (sides : List SideOf) (f : Fractional) → LeadTo b lease sides → IsToSplit b.problem b.cuts sides (value_of b) f → (way : List Side) → at_place b.tree way ≡ Some (AtLeaf (Leased lease)) → IsTreated b.problem b.cuts (sides_to b.tree way []) (value_of b)
-left_treated b lease sides f lead h way there =
-    let P : List SideOf → Type 0 = λ at. IsTreated b.problem b.cuts at (value_of b) in
-    subst P (lead way there) h.treated
+pub with_point : (b : Board) (lease : Lease) (fragment : Fragment) (x : List Rational) → IsFragmentAt b lease fragment → fragment.found ≡ Some x → IsFragmentAt b lease (record { tree = fragment.tree; found = Some x })
+with_point b lease fragment x h is = subst (λ (o : Option (List Rational)). IsFragmentAt b lease (record { tree = fragment.tree; found = o })) is h
 
 -- ---- after a point was offered
+
+pub point_at : (b : Board) (lease : Lease) (x : List Rational) (t : Tree) → IsOpen b.tree lease → IsFragmentAt b lease (record { tree = t; found = Some x }) → IsBetterPoint b.problem lease.best x
+point_at b lease x t is_open h = (h is_open.way is_open.there).found
 
 is_better : (p : Problem) (best : Option (List Rational)) (b : Option Rational) (x : List Rational) → b ≡ option_map (objective_value p) best → Beats p b x → objective_value p (better_of p best x) ≡ objective_value p x
 is_better p None b x e h = refl
@@ -83,9 +86,22 @@ is_better p (Some y) b x e h =
     let B : Option Rational → Type 0 = λ o. Beats p o x in
     ap (λ t. objective_value p (cond t x y)) (true_less _ _ (subst B e h))
 
-pub found_leaf : (b : Board) (sides : List SideOf) (f : Found) (best : Option Rational) (c : Board) → IsFound b.problem b.cuts b.pivot_limit sides (value_of b) f → IsOffer b seat f.point best c → IsLeafOf c sides (Bounded f.weights)
-found_leaf b sides f best c h o =
-    let P : Board → Type 0 = λ d. IsLeafOf d sides (Bounded f.weights) in
-    let K : Option Rational → Type 0 = λ goal. KeepsLeaf b.problem b.cuts b.pivot_limit goal sides (Bounded f.weights) in
-    let same : Some f.value ≡ Some (objective_value b.problem (better_of b.problem b.best f.point)) = ap Some (h.value ∙ sym (is_better b.problem b.best (value_of b) f.point refl h.beats)) in
-    subst P (sym o.new) (subst K same h.closed)
+-- the tree stands against the value of the point
+pub stands_then : (b : Board) (lease : Lease) (x : List Rational) (t : Tree) (best : Option Rational) (c : Board) → IsOpen b.tree lease → lease.best ≡ value_of b → IsFragmentAt b lease (record { tree = t; found = Some x }) → IsOffer b seat x best c → MayStand c lease t
+stands_then b lease x t best c is_open is_best h o =
+    let point = point_at b lease x t is_open h in
+    let value : Some (objective_value b.problem x) ≡ Some (objective_value b.problem (better_of b.problem b.best x)) = ap Some (sym (is_better b.problem b.best lease.best x is_best point.beats)) in
+    subst (λ (d : Board). MayStand d lease t) (sym o.new) (λ way there.
+    subst (λ (goal : Option Rational). IsHonestTree b.problem b.cuts b.pivot_limit (sides_to b.tree way []) lease.best goal t) value (h way there).tree)
+
+pub open_then : (b : Board) (lease : Lease) (x : List Rational) (best : Option Rational) (c : Board) → IsOpen b.tree lease → IsOffer b seat x best c → IsOpen c.tree lease
+open_then b lease x best c is_open o = subst (λ (d : Board). IsOpen d.tree lease) (sym o.new) is_open
+
+-- ---- faults
+
+pub fault_on : {A : Type 0} (r : Result A SearchFault) (b : Board) (p : Problem) (ds : List Derived) (pivots : ℕ) → p ≡ b.problem → ds ≡ b.cuts → b.pivot_limit ≡ pivots → IfErr r (IsFault p ds b.split_limit pivots) → IfErr r (IsFault b.problem b.cuts b.split_limit b.pivot_limit)
+fault_on r b p ds pivots problem cuts limit h =
+    let P : Problem → Type 0 = λ q. IfErr r (IsFault q ds b.split_limit pivots) in
+    let D : List Derived → Type 0 = λ cs. IfErr r (IsFault b.problem cs b.split_limit pivots) in
+    let L : ℕ → Type 0 = λ n. IfErr r (IsFault b.problem b.cuts b.split_limit n) in
+    subst L (sym limit) (subst D cuts (subst P problem h))

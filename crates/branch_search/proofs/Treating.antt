@@ -41,7 +41,7 @@ use Rattle.branch_search.specs.Tests.{IsTestFault, of_value, of_weights, of_poin
 use Rattle.branch_search.specs.declared.treatment.Fractional.{Fractional}
 use Rattle.branch_search.specs.declared.treatment.Treatment.{Treatment}
 use Rattle.branch_search.specs.declared.testing.Verdict.{Verdict}
-use Rattle.branch_search.specs.declared.testing.Verdict.TheVariants.{Passed, Failed, NotTold, NoFit}
+use Rattle.branch_search.specs.declared.testing.Verdict.TheVariants.{Passed, Failed, NoFit}
 use Rattle.branch_search.proofs.Floors.{lt-floor, floor-lt}
 
 -- ---- against the best value

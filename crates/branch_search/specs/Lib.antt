@@ -1,6 +1,7 @@
 pub mod Treatment
 pub mod Fractions
 pub mod Tests
+pub mod Grown
 pub mod Places
 pub mod Settled
 pub mod Underway

@@ -1,17 +1,14 @@
 -- What one round of a search makes of its board.
-use Rattle.std.specs.Prelude.{ℕ, ◌≡◌, ◌≤◌, List, [], Option, Some}
+use Rattle.std.specs.Prelude.{ℕ, ◌≡◌, List, [], Option, Some}
 use Rattle.rational.specs.Rational.{Rational}
-use Rattle.verdicts.specs.Certificate.{Split}
 use Rattle.certificate.specs.declared.split.Side.{Side}
 use Rattle.search_tree.specs.declared.leaf.Lease.{Lease}
-use Rattle.search_tree.specs.declared.leaf.Leaf.{Leaf}
-use Rattle.search_tree.specs.declared.leaf.Leaf.TheVariants.{Todo, Leased}
-use Rattle.search_tree.specs.Tree.{Tree, Divided, AtLeaf, at_place, sides_to}
+use Rattle.search_tree.specs.declared.leaf.Leaf.TheVariants.{Leased}
+use Rattle.search_tree.specs.Tree.{Tree, AtLeaf, at_place, sides_to}
 use Rattle.search_tree.specs.Nodes.{IsTreated}
 use Rattle.search_tree.specs.Board.{Board, value_of}
-use Rattle.search_tree.specs.Finished.{IsThere}
-use Rattle.search_tree.specs.Kept.{closed_node}
 use Rattle.search_tree.specs.Steps.{IsLease, IsIdle, IsGraft, IsOffer, IsReclaim}
+use Rattle.branch_search.specs.Grown.{IsOutcome}
 use Rattle.branch_search.specs.declared.settling.Round.{Round}
 use Rattle.branch_search.specs.declared.settling.Round.TheVariants.{Worked, Left, Idle}
 
@@ -19,19 +16,14 @@ use Rattle.branch_search.specs.declared.settling.Round.TheVariants.{Worked, Left
 abbrev pub seat : ℕ
 seat = 0
 
--- a closed leaf, or a split whose sides are to be worked on, where the lease grants one
-pub data IsOutcome (lease : Lease) (t : Tree) : Type 0 where
-  closed : (leaf : Leaf) → IsThere (closed_node leaf) → t ≡ AtLeaf leaf → IsOutcome lease t
-  divided : (s : Split) (low high : Unit {0}) → 1 ≤ lease.grant → t ≡ Divided s (AtLeaf (Todo low)) (AtLeaf (Todo high)) → IsOutcome lease t
-
--- the leased leaf becomes such a tree
+-- a tree is put in the place of the leased leaf
 pub record IsPut (b : Board) (lease : Lease) (c : Board) : Type 0 where
   pub tree : Tree
-  pub outcome : IsOutcome lease tree
+  pub outcome : IsOutcome lease.grant tree
   pub best : Option Rational
   pub graft : IsGraft b seat lease tree best c
 
--- a feasible point is offered, the leased leaf becomes such a tree, and leaves that are still leased are to be worked on again
+-- a feasible point is offered, a tree is put there, and leaves that are still leased are to be worked on again
 pub record IsOffered (b : Board) (lease : Lease) (c : Board) : Type 0 where
   pub point : List Rational
   pub best : Option Rational

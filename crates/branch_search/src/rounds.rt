@@ -1,21 +1,20 @@
 // One round of the search.
-ghost use Rattle.std.specs.Prelude.{◌≡◌, [], IfOk, IfErr};
+ghost use Rattle.std.specs.Prelude.{◌≡◌, ◌+◌, ◌≤◌, [], length, IfOk, IfErr};
 ghost use Rattle.search_node.specs.Sides.{sides_of};
 ghost use Rattle.search_tree.specs.Board.{value_of};
-ghost use Rattle.search_tree.specs.Honest.{IsHonestWay};
+ghost use Rattle.search_tree.specs.Honest.{AreHonest};
 ghost use Rattle.tree_pool.specs.Places.{IsOpen};
-ghost use Rattle.branch_search.specs.Treatment.{IsTreatment};
-ghost use Rattle.branch_search.specs.Places.{LeadTo};
+ghost use Rattle.branch_search.specs.Places.{LeadTo, GrowsAt};
 ghost use Rattle.branch_search.specs.Settled.{IsSettled, IsRound};
 ghost use Rattle.branch_search.specs.Faults.{IsFault};
 
 use crate::fault::SearchFault;
+use crate::fragment::Grown;
+use crate::grow;
 use crate::settling::{Round, settle};
-use crate::{Treatment, treat};
 use candidate::Proposer;
 use search_node::Node;
 use search_tree::{Hint, Lease, ways_of_boards};
-use simplex::root_is_over_columns;
 use std::alloc::{AllocError, Global};
 use tree_pool::{Board, LeaseAnswer};
 
@@ -39,7 +38,7 @@ pub(crate) fn round(
     }
 }
 
-// Settles the leaf that is leased.
+// Works on the leaf that is leased, and settles it.
 fn work(
     alloc: Global,
     board: &mut Board,
@@ -55,48 +54,48 @@ fn work(
     ensures ok { IfOk result (λ round. IsSettled board.old lease round board.new) }
     ensures fault { IfErr result (IsFault board.old.problem board.old.cuts board.old.split_limit board.old.pivot_limit) }
 {
-    let node = leased_node(alloc, board, &lease)?;
-    let treatment = treatment_of(alloc, board, &node, pivot_limit, &hint, proposer)?;
-    settle(alloc, board, lease, node, treatment)
+    let grown = grown_at(alloc, board, pivot_limit, &lease, &hint, proposer)?;
+    Ok(settle(alloc, board, lease, grown)?)
 }
 
-// The node of the leaf that is leased, which is on an honest way.
+// What grows at the leaf that is leased.
+fn grown_at(
+    alloc: Global,
+    board: &Board,
+    pivot_limit: u32,
+    lease: &Lease,
+    hint: &Hint,
+    proposer: &mut Proposer,
+) -> Result<Grown, SearchFault>
+    requires open { IsOpen board.now.tree lease.now }
+    requires cuts { board.now.cuts ≡ [] }
+    requires pivots { board.now.pivot_limit ≡ pivot_limit }
+    ensures grown { IfOk result (GrowsAt board.now lease.now) }
+    ensures fault { IfErr result (IsFault board.now.problem board.now.cuts board.now.split_limit board.now.pivot_limit) }
+{
+    let node = leased_node(alloc, board, lease)?;
+    let problem = board.problem();
+    let cuts = board.cuts();
+    grow(
+        alloc,
+        problem,
+        cuts,
+        lease,
+        node,
+        hint,
+        pivot_limit,
+        proposer,
+    )
+}
+
+// The node of the leaf that is leased. It is on an honest way, which leaves room for the splits of the lease.
 fn leased_node(alloc: Global, board: &Board, lease: &Lease) -> Result<Node, AllocError>
     requires { IsOpen board.now.tree lease.now }
     ensures leads { IfOk result (λ node. LeadTo board.now lease.now (sides_of node.splits)) }
-    ensures honest { IfOk result (λ node. IsHonestWay board.now.problem board.now.cuts board.now.split_limit (sides_of node.splits)) }
+    ensures honest { IfOk result (λ node. AreHonest board.now.problem board.now.cuts (sides_of node.splits)) }
+    ensures room { IfOk result (λ node. length (sides_of node.splits) + lease.now.grant ≤ board.now.split_limit) }
 {
     board.keeps_its_log();
     ways_of_boards();
     board.node(alloc, lease.copy())
-}
-
-// What becomes of a node, against the best value.
-fn treatment_of(
-    alloc: Global,
-    board: &Board,
-    node: &Node,
-    pivot_limit: u32,
-    hint: &Hint,
-    proposer: &mut Proposer,
-) -> Result<Treatment, AllocError>
-    requires honest { IsHonestWay board.now.problem board.now.cuts board.now.split_limit (sides_of node.now.splits) }
-    requires cuts { board.now.cuts ≡ [] }
-    requires pivots { board.now.pivot_limit ≡ pivot_limit }
-    ensures { IfOk result (IsTreatment board.now.problem board.now.cuts board.now.pivot_limit (sides_of node.now.splits) (value_of board.now)) }
-{
-    let problem = board.problem();
-    let cuts = board.cuts();
-    let best = board.best_value();
-    root_is_over_columns(problem);
-    treat(
-        alloc,
-        problem,
-        cuts,
-        node,
-        &best,
-        pivot_limit,
-        hint,
-        proposer,
-    )
 }

@@ -1,15 +1,14 @@
 -- The board with which workers end.
-use Rattle.std.proofs.Common.{◌≡◌, ◌∙◌, ℕ, ◌⊎◌, inl, inr, List, [], ◌∷◌, false, true, Option, Some, None, refl, sym, ap, subst}
+use Rattle.std.proofs.Common.{◌≡◌, ◌∙◌, inl, inr, List, [], ◌∷◌, false, true, Option, sym, subst}
 use Rattle.rational.specs.Rational.{Rational}
 use Rattle.milp.specs.Problem.{Problem}
 use Rattle.verdicts.specs.Certificate.{Side as SideOf, Low as LowOf, High as HighOf, Derived}
-use Rattle.search_tree.specs.declared.leaf.Leaf.{Leaf}
 use Rattle.search_tree.specs.declared.leaf.Leaf.TheVariants.{Todo, Treated, Leased, Refuted, Bounded, NotFitting, AtLimit}
 use Rattle.search_tree.specs.declared.event.Event.TheVariants.{Reclaiming}
 use Rattle.search_tree.specs.declared.event.Reply.TheVariants.{Done}
 use Rattle.search_tree.specs.Tree.{Tree, Divided, AtLeaf, AllLeaves, reclaimed}
 use Rattle.search_tree.specs.Board.{Board, value_of, after}
-use Rattle.search_tree.specs.Steps.{IsReclaim, IsReplay, opening}
+use Rattle.search_tree.specs.Steps.{IsReclaim}
 use Rattle.search_tree.proofs.Laws.{none_leased, reclaimed_none_leased}
 use Rattle.branch_search.specs.Underway.{IsStanding}
 use Rattle.board_pool.specs.Stuck.{NoneStuck}

@@ -1,11 +1,10 @@
--- Leaves that may be put where a leaf is leased to a pass.
-use Rattle.std.proofs.Common.{ℕ, ◌≡◌, ◌∙◌, ◌≤◌, List, [], ◌∷◌, ◌++◌, Option, Some, None, refl, sym, ap, subst, inl, inr}
+-- What may be put where a leaf is leased to a pass.
+use Rattle.std.proofs.Common.{ℕ, ◌≡◌, ◌+◌, ◌≤◌, ◌⊎◌, List, [], ◌∷◌, ◌++◌, length, Option, Some, None, refl, sym, ap, subst, inl, inr, ⊎_elim}
 use Rattle.std.specs.Option.{IfSome}
 use Rattle.rational.specs.Rational.{Rational}
 use Rattle.milp.specs.Problem.{Problem}
 use Rattle.milp.specs.Points.{objective_value}
-use Rattle.verdicts.specs.Certificate.{Split, Side as SideOf, Weights, Derived, Bound}
-use Rattle.turn_pool.specs.declared.view.View.{View}
+use Rattle.verdicts.specs.Certificate.{Side as SideOf, Derived}
 use Rattle.turn_pool.specs.Calls.{Called}
 use Rattle.search_node.specs.Sides.{sides_of}
 use Rattle.search_node.specs.declared.node.Node.{Node}
@@ -13,15 +12,17 @@ use Rattle.search_tree.specs.declared.leaf.Lease.{Lease}
 use Rattle.search_tree.specs.declared.leaf.Leaf.{Leaf}
 use Rattle.search_tree.specs.declared.leaf.Leaf.TheVariants.{Todo, Treated, Leased, Refuted, Bounded, NotFitting, AtLimit}
 use Rattle.search_tree.specs.declared.event.Entry.{Entry}
-use Rattle.search_tree.specs.Tree.{Tree, Divided, AtLeaf, IsNotLeased}
-use Rattle.search_tree.specs.Nodes.{KeepsLeaf, NodePasses, IsTreated, IsWorthwhile, IsHonestSplit}
+use Rattle.search_tree.specs.Tree.{Tree, Divided, AtLeaf, IsTodo, IsNotLeased, AllSplits, AllLeaves, made}
+use Rattle.search_tree.specs.Nodes.{KeepsLeaf, IsTreated, IsWorthwhile, IsHonestSplit}
 use Rattle.search_tree.specs.Board.{Board, IsTold, value_told}
-use Rattle.search_tree.specs.Kept.{IsNoBetter, closed_node}
+use Rattle.search_tree.specs.Kept.{closed_node}
 use Rattle.search_tree.specs.Finished.{IsThere}
-use Rattle.search_tree.specs.Honest.{IsHonestWay}
-use Rattle.branch_search.specs.Treatment.{IsTreatment, IsFound, IsToSplit}
-use Rattle.branch_search.specs.declared.treatment.Found.{Found}
-use Rattle.branch_search.specs.declared.treatment.Fractional.{Fractional}
+use Rattle.search_tree.specs.Honest.{AreHonest, IsHonestWay}
+use Rattle.branch_search.specs.declared.fragment.Fragment.{Fragment}
+use Rattle.branch_search.specs.declared.fragment.Grown.{Grown}
+use Rattle.branch_search.specs.declared.fragment.Grown.TheVariants.{Ready, Ungranted}
+use Rattle.branch_search.specs.Grown.{IsHonestTree, AreTodoOrClosed, IsOutcome, best_with, IsUngranted, IsGrown}
+use Rattle.branch_search.proofs.Growth.{BoundedStays, leaves_as_good, none_leased_in}
 use Rattle.board_pool.specs.declared.asked.LeasedLeaf.{LeasedLeaf}
 use Rattle.board_pool.specs.declared.asked.Asked.{Asked}
 use Rattle.board_pool.specs.declared.asked.Asked.TheVariants as answers
@@ -29,19 +30,21 @@ use Rattle.board_pool.specs.Asks.{IsAsked}
 use Rattle.board_pool.specs.Touched.{touched}
 use Rattle.board_pool.specs.Searches.{log_of, IsOfSearch}
 use Rattle.board_pool.specs.OpenLeases.{IsLeasedBelow, lease_to}
-use Rattle.board_pool.specs.Stuck.{IsNotStuck}
+use Rattle.board_pool.specs.Stuck.{IsNotStuck, NoneStuck}
 use Rattle.board_pool.specs.Grafts.{MayBePut}
 use Rattle.shared_search.specs.declared.task.Task.{Task}
 use Rattle.shared_search.specs.Holders.{first_of, IsTaskOf, IsSameHolder}
-use Rattle.shared_search.specs.Leaves.{IsOpenFor, IsHeld, IsGiven, IsToldLeaf, IsLeafFor, IsOffered}
+use Rattle.shared_search.specs.Leaves.{IsOpenFor, IsHeld, IsGiven, IsToldLeaf, IsLeafFor, IsGrownFor, IsFragmentFor, IsOffered}
 use Rattle.shared_search.proofs.Views.{BoardView}
 
 -- ---- a leaf that was asked for
 
--- a lease that a pass was given is open for it, on an honest way, and the node that was told is that of the leaf
+-- a lease that a pass was given is open for it, on an honest way, the node that was told is that of the leaf, and the limit leaves
+-- room for the splits that are granted
 abbrev pub GivenIsOpen : Type 0
 GivenIsOpen = (v w : BoardView) (leaf : LeasedLeaf) → Called touched log_of IsOfSearch (λ seat b (asked : Asked) c. IsAsked b seat asked c) v (answers.Leased leaf) w
     → (sides : List SideOf) × IsLeasedBelow v.key.first.value w.spans w.seen leaf.lease sides × IsHonestWay v.key.first.value.problem v.key.first.value.cuts v.key.first.value.split_limit sides × IfSome leaf.node (λ node. sides_of node.splits ≡ sides)
+    × (length sides + leaf.lease.grant ≤ v.key.first.value.split_limit)
 
 pub told_leaf : GivenIsOpen → (v w : BoardView) (asked : Asked) → Called touched log_of IsOfSearch (λ seat b (a : Asked) c. IsAsked b seat a c) v asked w → IsToldLeaf w asked
 told_leaf given v w (answers.Idle count) c = tt
@@ -53,6 +56,7 @@ told_leaf given v w (answers.Leased leaf) c =
       held = record {
         is_open = subst (λ (first : Board). IsLeasedBelow first w.spans w.seen leaf.lease g.0) (sym same) g.1;
         way = subst (λ (first : Board). IsHonestWay first.problem first.cuts first.split_limit g.0) (sym same) g.2;
+        room = subst (λ (first : Board). length g.0 + leaf.lease.grant ≤ first.split_limit) (sym same) g.4;
       };
       node = g.3;
     }
@@ -79,44 +83,13 @@ told_by_lease v lease sides l =
     let P : List Entry → Type 0 = λ log. IfSome lease.best (λ u. IsTold u log) in
     subst P (sym o.is_log) (all_told o.before o.since (lease_to o.seat l.way lease) lease.best refl)
 
--- ---- what a node comes to
-
-pub closed_not_leased : (leaf : Leaf) → IsThere (closed_node leaf) → IsNotLeased leaf
-closed_not_leased (Todo hint) h = absurd h
-closed_not_leased (Treated hint) h = absurd h
-closed_not_leased (Leased lease) h = absurd h
-closed_not_leased (Refuted w) h = refl
-closed_not_leased (Bounded w) h = refl
-closed_not_leased (NotFitting e) h = absurd h
-closed_not_leased (AtLimit bases) h = absurd h
-
-pub closed_not_stuck : (leaf : Leaf) → IsThere (closed_node leaf) → IsNotStuck leaf
-closed_not_stuck (Todo hint) h = absurd h
-closed_not_stuck (Treated hint) h = absurd h
-closed_not_stuck (Leased lease) h = absurd h
-closed_not_stuck (Refuted w) h = tt
-closed_not_stuck (Bounded w) h = tt
-closed_not_stuck (NotFitting e) h = absurd h
-closed_not_stuck (AtLimit bases) h = absurd h
-
--- a leaf that is closed against the value that the lease told
-pub closed_leaf : (v : BoardView) (task : Task) (lease : Lease) (sides : List SideOf) (leaf : Leaf) → IsTaskOf (first_of v) task → IsHeld v lease sides → KeepsLeaf task.problem task.cuts task.pivot_limit lease.best sides leaf → IsThere (closed_node leaf)
-    → IsLeafFor v lease leaf
-closed_leaf v task lease sides leaf of held keeps closed = record {
-  sides = sides;
-  is_open = held.is_open;
-  goal = lease.best;
-  is_told = told_by_lease v lease sides held.is_open;
-  keeps = rw (sym of.problem, sym of.cuts, sym of.pivot_limit) keeps;
-  not_leased = closed_not_leased leaf closed;
-  not_stuck = closed_not_stuck leaf closed;
-}
+-- ---- what grows at a leaf
 
 -- a leaf that is given back, treated
-pub treated_leaf : (v : BoardView) (lease : Lease) (sides : List SideOf) (hint : Unit {0}) → IsHeld v lease sides → IsTreated (first_of v).problem (first_of v).cuts sides None → IsLeafFor v lease (Treated hint)
-treated_leaf v lease sides hint held treated = record {
+pub treated_leaf : (v : BoardView) (lease : Lease) (sides : List SideOf) (hint : Unit {0}) → IsOpenFor v lease sides → IsTreated (first_of v).problem (first_of v).cuts sides None → IsLeafFor v lease (Treated hint)
+treated_leaf v lease sides hint is_open treated = record {
   sides = sides;
-  is_open = held.is_open;
+  is_open = is_open;
   goal = None;
   is_told = tt;
   keeps = treated;
@@ -124,53 +97,73 @@ treated_leaf v lease sides hint held treated = record {
   not_stuck = tt;
 }
 
--- a leaf that is bounded stays so where a better best value is found
-abbrev pub BoundedStays : Type 0
-BoundedStays = (p : Problem) (ds : List Derived) (sides : List SideOf) (w : Weights) (goal best : Option Rational) → IfSome goal (IsNoBetter p best) → NodePasses p goal ds sides (Bound w) → NodePasses p best ds sides (Bound w)
+abbrev pub TreatedStays : Type 0
+TreatedStays = (p : Problem) (ds : List Derived) (sides : List SideOf) (best : Option Rational) → IsTreated p ds sides best → IsTreated p ds sides None
 
-bounded_by : BoundedStays → (u v : BoardView) (lease : Lease) (sides : List SideOf) (f : Found) (best : Option Rational) → first_of v ≡ first_of u → IsOpenFor v lease sides → IfSome best (λ value. IsTold value v.seen)
-    → KeepsLeaf (first_of u).problem (first_of u).cuts (first_of u).pivot_limit best sides (Bounded f.weights) → IsLeafFor v lease (Bounded f.weights)
-bounded_by stays u v lease sides f best same is_open told keeps = record {
-  sides = sides;
-  is_open = is_open;
-  goal = best;
-  is_told = told;
-  keeps = subst (λ (first : Board). KeepsLeaf first.problem first.cuts first.pivot_limit best sides (Bounded f.weights)) (sym same) keeps;
-  not_leased = refl;
-  not_stuck = tt;
-}
-
--- after the point that was found is offered, the leaf is closed against the best value
-pub found_leaf : BoundedStays → (v w : BoardView) (lease : Lease) (sides : List SideOf) (f : Found) (best : Option Rational) → IsHeld v lease sides → IsFound (first_of v).problem (first_of v).cuts (first_of v).pivot_limit sides lease.best f
-    → IsOffered v f.point best w → IsSameHolder v w → IsLeafFor w lease (Bounded f.weights)
-found_leaf stays v w lease sides f best held found offered same =
-    let p = (first_of v).problem in
-    let no_worse : IsNoBetter p best f.value = subst (IsNoBetter p best) (sym found.value) offered.no_worse in
-    bounded_by stays v w lease sides f best (ap (λ key. key.first.value) same.key) (offered.leases lease sides held.is_open) offered.is_told
-    (stays p (first_of v).cuts sides f.weights (Some f.value) best no_worse found.closed)
-
--- ---- a split
-
-abbrev pub SplitMayBePut : Type 0
-SplitMayBePut = (first : Board) (spans : List (ℕ × ℕ)) (log : List Entry) (lease : Lease) (sides : List SideOf) (s : Split) → IsLeasedBelow first spans log lease sides → IsHonestSplit first.problem first.cuts sides s
-    → IsWorthwhile first.problem first.cuts lease.best sides → 1 ≤ lease.grant → MayBePut first spans log lease (Divided s (AtLeaf (Todo tt)) (AtLeaf (Todo tt)))
-
-abbrev pub TreatedIsWorthwhile : Type 0
-TreatedIsWorthwhile = (p : Problem) (ds : List Derived) (sides : List SideOf) (best : Option Rational) → IsTreated p ds sides best → IsWorthwhile p ds best sides
-
-pub split_put : SplitMayBePut → TreatedIsWorthwhile → (v : BoardView) (lease : Lease) (sides : List SideOf) (f : Fractional) (t : Tree) → IsHeld v lease sides → IsToSplit (first_of v).problem (first_of v).cuts sides lease.best f → 1 ≤ lease.grant
-    → t ≡ Divided f.split (AtLeaf (Todo tt)) (AtLeaf (Todo tt)) → MayBePut (first_of v) v.spans v.seen lease t
-split_put may worthwhile v lease sides f t held h grant is =
+-- a leaf that is to be split, where no split is granted
+pub ungranted_leaf : TreatedStays → (v : BoardView) (lease : Lease) (grown : Grown) (hint : Unit {0}) → IsGrownFor v lease grown → grown ≡ Ungranted hint → IsLeafFor v lease (Treated hint)
+ungranted_leaf treated_stays v lease grown hint h is =
     let first = first_of v in
-    subst (λ (x : Tree). MayBePut first v.spans v.seen lease x) (sym is) (may first v.spans v.seen lease sides f.split held.is_open h.split (worthwhile first.problem first.cuts sides lease.best h.treated) grant)
+    let u : IsUngranted first.problem first.cuts h.sides lease.best lease.grant = subst (IsGrown first.problem first.cuts first.pivot_limit h.sides lease.best lease.grant) is h.grown in
+    treated_leaf v lease h.sides hint h.is_open (treated_stays first.problem first.cuts h.sides lease.best u.treated)
+
+pub fragment_for : (v : BoardView) (lease : Lease) (grown : Grown) (f : Fragment) → IsGrownFor v lease grown → grown ≡ Ready f → IsFragmentFor v lease f
+fragment_for v lease grown f h is =
+    let first = first_of v in
+    record { sides = h.sides; is_open = h.is_open; fragment = subst (IsGrown first.problem first.cuts first.pivot_limit h.sides lease.best lease.grant) is h.grown }
+
+pub with_point : (v : BoardView) (lease : Lease) (f : Fragment) (x : List Rational) → IsFragmentFor v lease f → f.found ≡ Some x → IsFragmentFor v lease (record { tree = f.tree; found = Some x })
+with_point v lease f x h is = subst (λ (o : Option (List Rational)). IsFragmentFor v lease (record { tree = f.tree; found = o })) is h
+
+-- ---- a tree that is put
+
+not_stuck : (leaf : Leaf) → IsTodo leaf ⊎ IsThere (closed_node leaf) → IsNotStuck leaf
+not_stuck (Todo hint) h = tt
+not_stuck (Treated hint) h = tt
+not_stuck (Leased lease) h = tt
+not_stuck (Refuted w) h = tt
+not_stuck (Bounded w) h = tt
+not_stuck (NotFitting e) h = ⊎_elim (λ (never : ⊥). never) (λ (never : ⊥). never) h
+not_stuck (AtLimit bases) h = ⊎_elim (λ (never : ⊥). never) (λ (never : ⊥). never) h
+
+none_stuck_in : (t : Tree) → AreTodoOrClosed t → NoneStuck t
+none_stuck_in (Divided s low high) h = (none_stuck_in low h.0, none_stuck_in high h.1)
+none_stuck_in (AtLeaf leaf) h = not_stuck leaf h
+
+abbrev pub TreeMayBePut : Type 0
+TreeMayBePut = (first : Board) (spans : List (ℕ × ℕ)) (log : List Entry) (lease : Lease) (sides : List SideOf) (goal : Option Rational) (t : Tree) → IsLeasedBelow first spans log lease sides → IfSome goal (λ v. IsTold v log)
+    → AllSplits (IsHonestSplit first.problem first.cuts) sides t → AllSplits (λ at s. IsWorthwhile first.problem first.cuts lease.best at) sides t
+    → AllLeaves (KeepsLeaf first.problem first.cuts first.pivot_limit goal) sides t → AllLeaves (λ at leaf. IsNotLeased leaf) sides t → NoneStuck t → made t ≤ lease.grant → MayBePut first spans log lease t
+
+-- a tree that is closed against a value that was told
+tree_put : TreeMayBePut → (first : Board) (spans : List (ℕ × ℕ)) (log : List Entry) (lease : Lease) (sides : List SideOf) (goal : Option Rational) (t : Tree) → IsLeasedBelow first spans log lease sides → IfSome goal (λ v. IsTold v log)
+    → IsHonestTree first.problem first.cuts first.pivot_limit sides lease.best goal t → IsOutcome lease.grant t → MayBePut first spans log lease t
+tree_put may first spans log lease sides goal t is_open told tree outcome =
+    may first spans log lease sides goal t is_open told tree.splits tree.worthwhile tree.leaves (none_leased_in t sides outcome.leaves) (none_stuck_in t outcome.leaves) outcome.within
+
+-- where no point was found, it is closed against the value that the lease told
+pub put_at_once : TreeMayBePut → (v : BoardView) (lease : Lease) (f : Fragment) → IsFragmentFor v lease f → f.found ≡ None → MayBePut (first_of v) v.spans v.seen lease f.tree
+put_at_once may v lease f h none =
+    let first = first_of v in
+    let tree = subst (λ (goal : Option Rational). IsHonestTree first.problem first.cuts first.pivot_limit h.sides lease.best goal f.tree) (ap (best_with first.problem lease.best) none) h.fragment.tree in
+    tree_put may first v.spans v.seen lease h.sides lease.best f.tree h.is_open (told_by_lease v lease h.sides h.is_open) tree h.fragment.outcome
+
+-- after the point that was found is offered, the tree is closed against the best value
+pub put_then : BoundedStays → TreeMayBePut → (v w : BoardView) (lease : Lease) (x : List Rational) (t : Tree) (best : Option Rational) → IsFragmentFor v lease (record { tree = t; found = Some x }) → IsOffered v x best w → IsSameHolder v w
+    → MayBePut (first_of w) w.spans w.seen lease t
+put_then law may v w lease x t best h offered same =
+    let first = first_of v in
+    let same_first : first_of w ≡ first = ap (λ key. key.first.value) same.key in
+    let tree = h.fragment.tree in
+    let leaves = leaves_as_good law first.problem first.cuts first.pivot_limit (Some (objective_value first.problem x)) best offered.no_worse h.sides t tree.leaves in
+    let is_open = subst (λ (b : Board). IsLeasedBelow b w.spans w.seen lease h.sides) same_first (offered.leases lease h.sides h.is_open) in
+    subst (λ (b : Board). MayBePut b w.spans w.seen lease t) (sym same_first)
+    (tree_put may first w.spans w.seen lease h.sides best t is_open offered.is_told (record { splits = tree.splits; worthwhile = tree.worthwhile; leaves = leaves }) h.fragment.outcome)
 
 -- ---- the task
 
-pub way_of_task : (first : Board) (task : Task) (sides : List SideOf) → IsTaskOf first task → IsHonestWay first.problem first.cuts first.split_limit sides → IsHonestWay task.problem task.cuts first.split_limit sides
-way_of_task first task sides of way = rw (of.problem, of.cuts) way
+pub honest_of_task : (first : Board) (task : Task) (sides : List SideOf) → IsTaskOf first task → IsHonestWay first.problem first.cuts first.split_limit sides → AreHonest task.problem task.cuts sides
+honest_of_task first task sides of way = rw (of.problem, of.cuts) way.splits
 
-pub found_of_task : (first : Board) (task : Task) (sides : List SideOf) (best : Option Rational) (f : Found) → IsTaskOf first task → IsFound task.problem task.cuts task.pivot_limit sides best f → IsFound first.problem first.cuts first.pivot_limit sides best f
-found_of_task first task sides best f of h = rw (sym of.problem, sym of.cuts, sym of.pivot_limit) h
-
-pub to_split_of_task : (first : Board) (task : Task) (sides : List SideOf) (best : Option Rational) (f : Fractional) → IsTaskOf first task → IsToSplit task.problem task.cuts sides best f → IsToSplit first.problem first.cuts sides best f
-to_split_of_task first task sides best f of h = rw (sym of.problem, sym of.cuts) h
+pub grown_of_task : (v : BoardView) (task : Task) (lease : Lease) (sides : List SideOf) (grown : Grown) → IsTaskOf (first_of v) task → IsHeld v lease sides → IsGrown task.problem task.cuts task.pivot_limit sides lease.best lease.grant grown → IsGrownFor v lease grown
+grown_of_task v task lease sides grown of held h = record { sides = sides; is_open = held.is_open; grown = rw (sym of.problem, sym of.cuts, sym of.pivot_limit) h }

@@ -4,4 +4,3 @@ pub mod Faults
 pub mod Views
 pub mod LeavesPut
 pub mod Offers
-pub mod Sites

@@ -1,32 +1,24 @@
 // The work on a leaf that is leased.
-ghost use Rattle.std.specs.Prelude.{ℕ, ◌≡◌, ◌≤◌, List, [], IfOk, IfErr};
-ghost use Rattle.verdicts.specs.Certificate.{Side as SideOf};
+ghost use Rattle.std.specs.Prelude.{Some, IfErr};
 ghost use Rattle.search_node.specs.Sides.{sides_of};
-ghost use Rattle.search_tree.specs.Tree.{Divided, AtLeaf};
-ghost use Rattle.search_tree.specs.declared.leaf.Leaf.TheVariants.{Todo};
-ghost use Rattle.search_tree.specs.Honest.{IsHonestWay};
-ghost use Rattle.search_tree.specs.Work.{IsWorkFault};
 ghost use Rattle.turn_pool.specs.Passes.{view_of, IsPassOf, IsSamePool};
-ghost use Rattle.branch_search.specs.Faults.{IsFault};
-ghost use Rattle.branch_search.specs.Treatment.{IsTreatment, IsFound, IsToSplit};
 ghost use Rattle.shared_search.specs.Holders.{first_of, IsTaskOf, IsFaultOf, IsSameHolder};
-ghost use Rattle.shared_search.specs.Leaves.{IsGiven, IsHeld};
+ghost use Rattle.shared_search.specs.Leaves.{IsGiven, IsHeld, IsGrownFor, IsFragmentFor};
 
 use crate::task::Task;
 use crate::turns::{offer, put, put_leaf};
 use crate::worker::Step;
 use board_pool::{LeasedLeaf, SharedBoard, trees_of_leases};
-use branch_search::{EndlessAt, Found, Fractional, SearchFault, Treatment, treat};
+use branch_search::{Fragment, Grown, SearchFault, grow};
 use candidate::Proposer;
-use fraction::NoFit;
-use search_node::{Node, Site};
+use instance::Point;
+use search_node::Node;
 use search_tree::{Hint, Leaf, Lease, Subtree, bounded_leaves, treated_nodes};
-use simplex::root_is_over_columns;
 use std::alloc::{AllocError, Global};
 use turn_pool::{Pass, Pool};
 
-/// Treats a leaf that is leased, and puts what its node comes to in its place; or tells why the search ends there. At want of
-/// memory the leaf stays leased.
+/// Works on a leaf that is leased, and puts what grows there in its place; or tells why the search ends there. At want of memory
+/// the leaf stays leased.
 pub(crate) fn at_leaf(
     alloc: Global,
     pool: &Pool<SharedBoard>,
@@ -67,155 +59,95 @@ fn at_node(
     ensures same { IsSameHolder (view_of pass.old) (view_of pass.new) }
     ensures fault { IfErr result (IsFaultOf (first_of (view_of pass.old))) }
 {
-    let treatment = treatment_of(alloc, task, &lease, &node, hint, proposer)?;
-    settle(alloc, pool, task, pass, lease, node, treatment)
-}
-
-// What becomes of a node, against the value that the lease told.
-fn treatment_of(
-    alloc: Global,
-    task: &Task,
-    lease: &Lease,
-    node: &Node,
-    hint: &Hint,
-    proposer: &mut Proposer,
-) -> Result<Treatment, AllocError>
-    requires cuts { task.now.cuts ≡ [] }
-    requires honest { (splits : ℕ) × IsHonestWay task.now.problem task.now.cuts splits (sides_of node.now.splits) }
-    ensures { IfOk result (IsTreatment task.now.problem task.now.cuts task.now.pivot_limit (sides_of node.now.splits) lease.now.best) }
-{
-    let best = lease.best;
-    root_is_over_columns(&task.problem);
-    treat(
+    let grown = grow(
         alloc,
         &task.problem,
         &task.cuts,
+        &lease,
         node,
-        &best,
-        task.pivot_limit,
         hint,
+        task.pivot_limit,
         proposer,
-    )
+    )?;
+    Ok(settle(alloc, pool, pass, lease, grown)?)
 }
 
-// Puts what becomes of a node in the place of its leaf.
+// Puts what grew in the place of the leaf. Where the leaf is to be split and no split is granted, it is given back as one that was
+// treated, and the worker ends.
 fn settle(
     alloc: Global,
     pool: &Pool<SharedBoard>,
-    task: &Task,
     pass: &mut Pass<SharedBoard>,
     lease: Lease,
-    node: Node,
-    treatment: Treatment,
-) -> Result<Step, SearchFault>
-    requires pool { IsPassOf pool.now pass.old }
-    requires task { IsTaskOf (first_of (view_of pass.old)) task.now }
-    requires held { IsHeld (view_of pass.old) lease (sides_of node.splits) }
-    requires treatment { IsTreatment task.now.problem task.now.cuts task.now.pivot_limit (sides_of node.splits) lease.best treatment }
-    ensures pool { IsSamePool pass.old pass.new }
-    ensures same { IsSameHolder (view_of pass.old) (view_of pass.new) }
-    ensures fault { IfErr result (IsFaultOf (first_of (view_of pass.old))) }
-{
-    match treatment {
-        Treatment::Refuted(weights) => {
-            put_leaf(alloc, pool, pass, lease, Leaf::Refuted(weights))?;
-            Ok(Step::Closed)
-        }
-        Treatment::Bounded(weights) => {
-            put_leaf(alloc, pool, pass, lease, Leaf::Bounded(weights))?;
-            Ok(Step::Closed)
-        }
-        Treatment::Feasible(found) => Ok(offered(alloc, pool, pass, lease, found)?),
-        Treatment::ToSplit(fractional) => Ok(divided(alloc, pool, pass, lease, fractional)?),
-        Treatment::Unbounded(endless) => Err(SearchFault::Unbounded(EndlessAt { node, endless })),
-        Treatment::NotFitting(fault) => Err(stuck(task, node, fault)),
-        Treatment::AtLimit(bases) => Err(SearchFault::PivotLimit(bases)),
-    }
-}
-
-// An operation of the work at the node does not fit.
-fn stuck(task: &Task, node: Node, fault: NoFit) -> SearchFault
-    requires cuts { task.now.cuts ≡ [] }
-    requires fault { IsWorkFault task.now.problem task.now.cuts (sides_of node.splits) fault }
-    ensures { (splits pivots : ℕ) → IsHonestWay task.now.problem task.now.cuts splits (sides_of node.splits) → IsFault task.now.problem task.now.cuts splits pivots result }
-{
-    task.problem.keeps_its_limits();
-    SearchFault::NoFit(Site { node, fault })
-}
-
-// The point that was found is offered, and then the leaf is closed against the best value.
-fn offered(
-    alloc: Global,
-    pool: &Pool<SharedBoard>,
-    pass: &mut Pass<SharedBoard>,
-    lease: Lease,
-    found: Found,
+    grown: Grown,
 ) -> Result<Step, AllocError>
     requires pool { IsPassOf pool.now pass.old }
-    requires found { (sides : List SideOf) × IsHeld (view_of pass.old) lease sides × IsFound (first_of (view_of pass.old)).problem (first_of (view_of pass.old)).cuts (first_of (view_of pass.old)).pivot_limit sides lease.best found }
-    ensures pool { IsSamePool pass.old pass.new }
-    ensures same { IsSameHolder (view_of pass.old) (view_of pass.new) }
-{
-    bounded_leaves();
-    let Found {
-        point,
-        value: _,
-        weights,
-    } = found;
-    let _best = offer(alloc, pool, pass, point)?;
-    put_leaf(alloc, pool, pass, lease, Leaf::Bounded(weights))?;
-    Ok(Step::Closed)
-}
-
-// The leaf is split, where a split is granted; else it is given back as one that was treated, and the worker ends.
-fn divided(
-    alloc: Global,
-    pool: &Pool<SharedBoard>,
-    pass: &mut Pass<SharedBoard>,
-    lease: Lease,
-    fractional: Fractional,
-) -> Result<Step, AllocError>
-    requires pool { IsPassOf pool.now pass.old }
-    requires to_split { (sides : List SideOf) × IsHeld (view_of pass.old) lease sides × IsToSplit (first_of (view_of pass.old)).problem (first_of (view_of pass.old)).cuts sides lease.best fractional }
+    requires grown { IsGrownFor (view_of pass.old) lease grown }
     ensures pool { IsSamePool pass.old pass.new }
     ensures same { IsSameHolder (view_of pass.old) (view_of pass.new) }
 {
     treated_nodes();
-    if lease.grant == 0 {
-        let hint = Hint::new(Some(fractional.basis), Some(fractional.value));
-        put_leaf(alloc, pool, pass, lease, Leaf::Treated(hint))?;
-        return Ok(Step::Ended);
+    match grown {
+        Grown::Ready(fragment) => {
+            let step = step_behind(&fragment.tree, lease.grant);
+            put_fragment(alloc, pool, pass, lease, fragment)?;
+            Ok(step)
+        }
+        Grown::Ungranted(hint) => {
+            put_leaf(alloc, pool, pass, lease, Leaf::Treated(hint))?;
+            Ok(Step::Ended)
+        }
     }
-    split(alloc, pool, pass, lease, fractional)?;
-    Ok(Step::Split)
 }
 
-// The leaf is split.
-fn split(
+// How the worker goes on behind a tree. Where all splits that were granted are made, the tree has leaves that are to be worked on, and
+// none otherwise.
+fn step_behind(tree: &Subtree, grant: usize) -> Step {
+    let splits = tree.splits();
+    if splits > 0 && splits == grant {
+        Step::Split
+    } else {
+        Step::Closed
+    }
+}
+
+// The tree is put in the place of the leaf, behind an offer of the point, if one was found.
+fn put_fragment(
     alloc: Global,
     pool: &Pool<SharedBoard>,
     pass: &mut Pass<SharedBoard>,
     lease: Lease,
-    fractional: Fractional,
+    fragment: Fragment,
 ) -> Result<(), AllocError>
     requires pool { IsPassOf pool.now pass.old }
-    requires grant { 1 ≤ lease.grant }
-    requires to_split { (sides : List SideOf) × IsHeld (view_of pass.old) lease sides × IsToSplit (first_of (view_of pass.old)).problem (first_of (view_of pass.old)).cuts sides lease.best fractional }
+    requires fragment { IsFragmentFor (view_of pass.old) lease fragment }
     ensures pool { IsSamePool pass.old pass.new }
     ensures same { IsSameHolder (view_of pass.old) (view_of pass.new) }
 {
     trees_of_leases();
-    treated_nodes();
-    let tree = split_tree(alloc, fractional)?;
-    put(alloc, pool, pass, lease, tree)
+    let Fragment { tree, found } = fragment;
+    match found {
+        None => put(alloc, pool, pass, lease, tree),
+        Some(point) => put_with(alloc, pool, pass, lease, tree, point),
+    }
 }
 
-// The split, with hints for its sides.
-fn split_tree(alloc: Global, fractional: Fractional) -> Result<Subtree, AllocError>
-    ensures { IfOk result (λ t. t ≡ Divided fractional.split (AtLeaf (Todo tt)) (AtLeaf (Todo tt))) }
+// The point that was found is offered, and then the tree is put in the place of the leaf, against the best value.
+fn put_with(
+    alloc: Global,
+    pool: &Pool<SharedBoard>,
+    pass: &mut Pass<SharedBoard>,
+    lease: Lease,
+    tree: Subtree,
+    point: Point,
+) -> Result<(), AllocError>
+    requires pool { IsPassOf pool.now pass.old }
+    requires fragment { IsFragmentFor (view_of pass.old) lease (record { tree = tree; found = Some point }) }
+    ensures pool { IsSamePool pass.old pass.new }
+    ensures same { IsSameHolder (view_of pass.old) (view_of pass.new) }
 {
-    let basis = fractional.basis.copy(alloc)?;
-    let low = Hint::new(Some(basis), Some(fractional.value));
-    let high = Hint::new(Some(fractional.basis), Some(fractional.value));
-    Subtree::split(alloc, fractional.split, low, high)
+    trees_of_leases();
+    bounded_leaves();
+    let _best = offer(alloc, pool, pass, point)?;
+    put(alloc, pool, pass, lease, tree)
 }

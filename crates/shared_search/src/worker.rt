@@ -15,9 +15,9 @@ pub struct Worker {
 /// How a worker goes on.
 #[derive(Clone, Copy, Drop)]
 pub enum Step {
-    /// A leaf was closed: with the next one.
+    /// All below a leaf was closed: with the next one.
     Closed,
-    /// A leaf was split: with the next one, and there is one more for who waits.
+    /// As many splits were made as were granted: with the next leaf, and there are more for who waits.
     Split,
     /// It is another's turn, or no leaf is to be worked on while others work: it tries again.
     Waits,

@@ -1,6 +1,9 @@
 use Rattle.std.proofs.Common.{◌∙◌, sym}
-use Rattle.branch_search.proofs.Standing.{value_of_ok}
+use Rattle.branch_search.proofs.Standing.{value_of_ok, may_graft}
 use Rattle.branch_search.proofs.settling.graft.Goals as goal
+
+pub graft-requires : goal.graft-requires
+graft-requires c = may_graft c.args.board.now c.args.lease c.best_value.result c.args.tree c.requires.open c.requires.may c.requires.outcome c.best_value.ensures.value c.best_value.ensures.told
 
 pub returns-in-Some : goal.returns-in-Some
 returns-in-Some c = record {

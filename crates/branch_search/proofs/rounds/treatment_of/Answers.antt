@@ -1,8 +1,0 @@
-use Rattle.search_node.specs.Sides.{sides_of}
-use Rattle.branch_search.proofs.Ends.{over_columns}
-use Rattle.branch_search.proofs.rounds.treatment_of.Goals as goal
-
-pub treat-requires : goal.treat-requires
-treat-requires c =
-    let b = c.args.board.now in
-    record { columns = over_columns b.problem b.cuts b.split_limit (sides_of c.args.node.now.splits) c.problem-problem.result.now c.cuts-cuts.result.now c.problem-problem.ensures c.cuts-cuts.ensures c.requires.cuts c.root_is_over_columns.ensures c.requires.honest }
