@@ -1,5 +1,5 @@
 // The work at a leased leaf: at its node, and at nodes below it, while splits of its grant are left.
-ghost use Rattle.std.specs.Prelude.{ℕ, ◌≡◌, ◌+◌, ◌≤◌, [], ◌∷◌, length, None, Some, IfOk, IfErr};
+ghost use Rattle.std.specs.Prelude.{ℕ, true, ◌≡◌, ◌+◌, ◌≤◌, [], ◌∷◌, length, None, Some, IfOk, IfErr};
 ghost use Rattle.certificate.specs.Ways.{side_of};
 ghost use Rattle.search_node.specs.Sides.{sides_of};
 ghost use Rattle.search_tree.specs.declared.leaf.Leaf.TheVariants.{Bounded};
@@ -23,13 +23,14 @@ use search_tree::{Hint, Leaf, Lease, Subtree, bounded_leaves, treated_nodes};
 use simplex::root_is_over_columns;
 use std::alloc::{AllocError, Global};
 
-/// How far the work at a leased leaf has come: how many splits of its grant are left, the best value, and the point that has
-/// this value, if it was found here.
+/// How far the work at a leased leaf has come: how many splits of its grant are left, the best value, the point that has this
+/// value, if it was found here, and the value by which the leaf was chosen, if it is known: that of the node above it.
 #[derive(Drop)]
 pub(crate) struct Progress {
     left: usize,
     best: Option<Frac>,
     found: Option<Point>,
+    bound: Option<Frac>,
 }
 
 /// What is decided of a node.
@@ -42,8 +43,8 @@ pub(crate) enum Decided {
 }
 
 /// The work at a leased leaf, as its lease tells. The node is treated; where it is to be split and a split is granted, its sides
-/// are worked on in the same way, the high side first, so that the work goes depth first. Where no split is left, nodes stay as leaves
-/// that no one has worked on. Each node is treated against the best value that the lease told, or that of the best point that was found
+/// are worked on in the same way, the high side first, so that the work goes depth first. Where no split is left, and where the board
+/// is to choose what comes next, nodes stay as leaves that no one has worked on. Each node is treated against the best value that the lease told, or that of the best point that was found
 /// here.
 pub fn grow(
     alloc: Global,
@@ -64,6 +65,7 @@ pub fn grow(
         left: lease.grant,
         best: lease.best,
         found: None,
+        bound: hint.bound(),
     };
     let grown = grow_with(
         alloc,
@@ -232,7 +234,7 @@ fn grow_side(
     ensures fault { (splits : ℕ) → length (sides_of node.now.splits) + 1 + progress.old.left ≤ splits → IfErr result (IsFault problem.now cuts.now splits pivot_limit) }
 {
     let hint = hint_of(alloc, fractional)?;
-    if progress.left == 0 {
+    if !goes_on(progress, fractional.value) {
         return Ok(Subtree::leaf(alloc, Leaf::Todo(hint))?);
     }
     let below = node_below(alloc, node, fractional.split, side)?;
@@ -257,6 +259,21 @@ fn grow_side(
             progress,
             proposer,
         ),
+    }
+}
+
+// Whether a side is worked on, of which the node above has this value. As long as no point is known the newest leaf comes first on
+// the board, too. Once one is known the leaf with the best value does: then a side is left to the board unless its value is that by
+// which the leased leaf was chosen.
+fn goes_on(progress: &Progress, value: Frac) -> bool
+    ensures { result ≡ true → 1 ≤ progress.now.left }
+{
+    if progress.left == 0 {
+        return false;
+    }
+    match progress.best {
+        None => true,
+        Some(_) => progress.found.is_none() && progress.bound == Some(value),
     }
 }
 
@@ -321,7 +338,7 @@ fn decide(
 // The point is the best one that was found, and closes its node.
 fn keep(progress: &mut Progress, found: Found) -> Leaf
     ensures leaf { result ≡ Bounded found.weights }
-    ensures progress { progress.new ≡ record { left = progress.old.left; best = Some found.value; found = Some found.point } }
+    ensures progress { progress.new ≡ record progress.old { best = Some found.value; found = Some found.point } }
 {
     let Found {
         point,

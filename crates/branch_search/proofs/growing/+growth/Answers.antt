@@ -43,5 +43,5 @@ grow_split-returns-in_err-low-clause-fault t c = λ splits room.
 pub grow_split-returns-clause-grown : goal.grow_split-returns-clause-grown
 grow_split-returns-clause-grown t c =
     let old = c.args.progress.now in
-    split_grown c.bounded_leaves.ensures c.treated_nodes.ensures.worthwhile c.args.problem.now c.args.cuts.now c.args.pivot_limit (sides_of c.args.node.now.splits) c.args.fractional.now old (record { left = old.left - 1; best = old.best; found = old.found })
+    split_grown c.bounded_leaves.ensures c.treated_nodes.ensures.worthwhile c.args.problem.now c.args.cuts.now c.args.pivot_limit (sides_of c.args.node.now.splits) c.args.fractional.now old (record old { left = old.left - 1 })
     c.grow_side.new.progress c.grow_side-2.new.progress c.in_ok-low.low c.in_ok-high.high c.in_ok-divided.field-0 c.requires.left refl refl refl c.requires.to_split c.in_ok-high.ensures.grown c.in_ok-low.ensures.grown c.in_ok-divided.ensures
