@@ -26,9 +26,9 @@ ghost use Rattle.board_pool.specs.Grafts.{MayBePut};
 
 use search_tree::ways_of_boards;
 
-/// A lease that a pass was given is open for it, its leaf stands on an honest way, the node that was told is that of the
-/// leaf, and the limit leaves room below it for the splits that are granted. It stays open while the log goes on without the pass's numbers (so when another pass makes an event, or a pass is
-/// split or joined), and behind an offer of its own.
+/// A lease that a pass was given is open for it, its leaf stands on an honest way, the node that was told is that of the leaf,
+/// and the limit leaves room below it for the splits that are granted. It stays open while the log goes on without the pass's
+/// numbers (so when another pass makes an event, or a pass is split or joined), and behind an offer of its own.
 pub fn leases_stay_open()
     ensures given { (v w : View Board Entry) (leaf : LeasedLeaf) →
         Called touched log_of IsOfSearch (λ seat b (asked : Asked) c. IsAsked b seat asked c) v (Leased leaf) w →
@@ -47,8 +47,8 @@ pub fn leases_stay_open()
 }
 
 /// In the place of a leaf that is leased a leaf may be put that says what holds of its node, against a value that was told,
-/// where the work at it is not stuck; and so may a tree, whose splits are honest, no more than are granted, and each at a node that
-/// beats the value that the lease told.
+/// where the work at it is not stuck; and a tree of such leaves, with honest splits, no more than are granted, each at a node
+/// that beats the value that the lease told.
 pub fn trees_of_leases()
     ensures leaf { (first : Board) (spans : List (ℕ × ℕ)) (log : List Entry) (lease : Lease) (sides : List SideOf) (goal : Option Rational)
         (leaf : Leaf) → IsLeasedBelow first spans log lease sides → IfSome goal (λ v. IsTold v log) →

@@ -21,8 +21,8 @@ use Rattle.branch_search.specs.declared.growing.Decided.TheVariants.{Closed, ToS
 
 -- ---- trees for the place of a leased leaf
 
--- Below these splits, the latest first: each split is honest, and at a node that beats the value `told`; and each leaf says what holds
--- of its node, bounded ones against the value `goal`.
+-- Below these splits, the latest first: each split is honest, and at a node that beats the value `told`; and each leaf says what
+-- holds of its node, bounded ones against the value `goal`.
 pub record IsHonestTree (p : Problem) (ds : List Derived) (limit : ℕ) (sides : List Side) (told goal : Option Rational) (t : Tree) : Type 0 where
   pub splits : AllSplits (IsHonestSplit p ds) sides t
   pub worthwhile : AllSplits (λ at s. IsWorthwhile p ds told at) sides t

@@ -42,10 +42,10 @@ pub(crate) enum Decided {
     ToSplit(Node, Fractional),
 }
 
-/// The work at a leased leaf, as its lease tells. The node is treated; where it is to be split and a split is granted, its sides
-/// are worked on in the same way, the high side first, so that the work goes depth first. Where no split is left, and where the board
-/// is to choose what comes next, nodes stay as leaves that no one has worked on. Each node is treated against the best value that the lease told, or that of the best point that was found
-/// here.
+/// What grows at a leased leaf. Its node is treated, and where it is to be split and a split is granted, so are its sides, and so
+/// on: depth first, the high side first. Where no split is left, and where the board is to choose what comes next, nodes stay as
+/// leaves on which no one has worked. A node is treated against the best value that the lease told, or that of the best point that
+/// was found since.
 pub fn grow(
     alloc: Global,
     problem: &Instance,

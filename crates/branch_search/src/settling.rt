@@ -62,8 +62,8 @@ fn put(alloc: Global, board: &mut Board, lease: Lease, fragment: Fragment) -> Re
     }
 }
 
-// The point is offered, and then the tree is put in the place of the leaf. Leaves that were left are to be worked on again, since
-// they may be closed against the point's value, too.
+// The point is offered, and then the tree is put in the place of the leaf. Leaves that were left are to be worked on again,
+// since they may be closed against the point's value, too.
 fn put_with(
     alloc: Global,
     board: &mut Board,

@@ -17,8 +17,8 @@ use search_tree::{Hint, Leaf, Lease, Subtree, bounded_leaves, treated_nodes};
 use std::alloc::{AllocError, Global};
 use turn_pool::{Pass, Pool};
 
-/// Works on a leaf that is leased, and puts what grows there in its place; or tells why the search ends there. At want of memory
-/// the leaf stays leased.
+/// Works on a leaf that is leased, and puts what grows there in its place; or tells why the search ends there. At a fault the
+/// leaf stays leased.
 pub(crate) fn at_leaf(
     alloc: Global,
     pool: &Pool<SharedBoard>,
@@ -72,8 +72,8 @@ fn at_node(
     Ok(settle(alloc, pool, pass, lease, grown)?)
 }
 
-// Puts what grew in the place of the leaf. Where the leaf is to be split and no split is granted, it is given back as one that was
-// treated, and the worker ends.
+// Puts what grew in the place of the leaf. Where the leaf is to be split and no split is granted, it is given back as one that
+// was treated, and the worker ends.
 fn settle(
     alloc: Global,
     pool: &Pool<SharedBoard>,
@@ -100,8 +100,8 @@ fn settle(
     }
 }
 
-// How the worker goes on behind a tree. Where all splits that were granted are made, the tree has leaves that are to be worked on, and
-// none otherwise.
+// How the worker goes on behind a tree. Where all splits that were granted are made, the tree has leaves that are to be worked
+// on, and else none.
 fn step_behind(tree: &Subtree, grant: usize) -> Step {
     let splits = tree.splits();
     if splits > 0 && splits == grant {
