@@ -13,7 +13,7 @@ use branch_search::{Fragment, Grown, SearchFault, grow};
 use candidate::Proposer;
 use instance::Point;
 use search_node::Node;
-use search_tree::{Hint, Leaf, Lease, Subtree, bounded_leaves, treated_nodes};
+use search_tree::{Hint, Leaf, Lease, Slot, Subtree, bounded_leaves, treated_nodes};
 use std::alloc::{AllocError, Global};
 use turn_pool::{Pass, Pool};
 
@@ -89,7 +89,7 @@ fn settle(
     treated_nodes();
     match grown {
         Grown::Ready(fragment) => {
-            let step = step_behind(&fragment.tree, lease.grant);
+            let step = step_behind(&fragment.tree);
             put_fragment(alloc, pool, pass, lease, fragment)?;
             Ok(step)
         }
@@ -100,15 +100,23 @@ fn settle(
     }
 }
 
-// How the worker goes on behind a tree. Where all splits that were granted are made, the tree has leaves that are to be worked
-// on, and else none.
-fn step_behind(tree: &Subtree, grant: usize) -> Step {
-    let splits = tree.splits();
-    if splits > 0 && splits == grant {
+// How the worker goes on behind a tree.
+fn step_behind(tree: &Subtree) -> Step {
+    if has_work(tree) {
         Step::Split
     } else {
         Step::Closed
     }
+}
+
+// Whether a leaf of the tree is to be worked on.
+fn has_work(tree: &Subtree) -> bool {
+    for slot in tree.as_slice() {
+        if let Slot::Leaf(Leaf::Todo(_)) = slot {
+            return true;
+        }
+    }
+    false
 }
 
 // The tree is put in the place of the leaf, behind an offer of the point, if one was found.

@@ -17,7 +17,7 @@ pub struct Worker {
 pub enum Step {
     /// All below a leaf was closed: with the next one.
     Closed,
-    /// As many splits were made as were granted: with the next leaf, and there are more for who waits.
+    /// A leaf was split, and there are more now for who waits: with the next one.
     Split,
     /// It is another's turn, or no leaf is to be worked on while others work: it tries again.
     Waits,
