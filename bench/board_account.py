@@ -5,7 +5,8 @@ usage: bench/board_account.py [FILE]
 
 The account is kept by the board's rules alone: a list of leaves by their names, what was granted, the number of events, and the best
 value. Which leaf is leased is a preference, so it takes the leaf that a reply names, and judges whether it may be named; which splits are
-honest and which leaves may be closed it does not judge, so it takes it that the board refuses some. A row's number is that in its table.
+honest and which leaves may be closed it does not judge, so it takes it that the board refuses some. Rows in which trees grow it passes over.
+A row's number is that in its table.
 The status is 1 where a row is not followed.
 """
 import os
@@ -121,7 +122,7 @@ def main():
             kind = line[2:]
         elif line and not line.startswith("#:"):
             number += 1
-            if not kind.startswith("board "):
+            if not kind.startswith("board ") or "; grow " in line:
                 continue
             try:
                 follow_row(kind[len("board "):], line)

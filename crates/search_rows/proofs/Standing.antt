@@ -1,5 +1,5 @@
 -- Trees that may be put in the place of a leased leaf, and nodes that are over the problem's columns.
-use Rattle.std.proofs.Common.{◌≡◌, ◌∙◌, ℕ, zero, suc, ◌<◌, ◌≤◌, List, [], ◌∷◌, length, true, refl, sym, subst, Some, None, IfSome, slice_get, Result, Ok, Err, IfOk, arith}
+use Rattle.std.proofs.Common.{◌≡◌, ◌∙◌, ℕ, zero, suc, ◌<◌, ◌≤◌, ◌⊎◌, ⊎_elim, List, [], ◌∷◌, length, true, refl, sym, ap, subst, Option, Some, None, IfSome, slice_get, Result, Ok, Err, IfOk, arith}
 use Rattle.milp.specs.Form.{Entry}
 use Rattle.milp.specs.Problem.{Column, Problem}
 use Rattle.verdicts.specs.WeightedSums.{AllBelow}
@@ -9,13 +9,19 @@ use Rattle.certificate.specs.Written.{column_form, split_column}
 use Rattle.basis.specs.Node.{IsOverColumns, split_form, integer_at}
 use Rattle.search_tree.specs.declared.leaf.Lease.{Lease}
 use Rattle.search_tree.specs.declared.leaf.Leaf.{Leaf}
-use Rattle.search_tree.specs.declared.leaf.Leaf.TheVariants.{Todo}
-use Rattle.search_tree.specs.Tree.{Tree, Divided, AtLeaf, sides_to}
+use Rattle.search_tree.specs.declared.leaf.Leaf.TheVariants.{Todo, Treated, Leased, Refuted, Bounded, NotFitting, AtLimit}
+use Rattle.search_tree.specs.Tree.{Tree, Divided, AtLeaf, IsTodo, AllLeaves, sides_to}
 use Rattle.search_tree.specs.Nodes.{KeepsLeaf}
 use Rattle.search_tree.specs.Board.{Board, value_of, IsTold}
 use Rattle.search_tree.specs.Honest.{AreHonest, IsHonestWay}
+use Rattle.search_tree.specs.Finished.{IsThere}
+use Rattle.search_tree.specs.Kept.{closed_node}
 use Rattle.branch_search.specs.declared.treatment.Fractional.{Fractional}
+use Rattle.branch_search.specs.declared.fragment.Fragment.{Fragment}
 use Rattle.branch_search.specs.Treatment.{IsToSplit}
+use Rattle.branch_search.specs.Grown.{IsFragment, AreTodoOrClosed, best_with}
+use Rattle.branch_search.proofs.Growth.{none_leased_in}
+use Rattle.rational.specs.Rational.{Rational}
 use Rattle.search_rows.specs.Trees.{MayStand, LeadTo, IsLeafOf}
 
 pub if_ok : {A E : Type 0} (r : Result A E) (P Q : A → Type 0) → ((x : A) → P x → Q x) → IfOk r P → IfOk r Q
@@ -76,3 +82,43 @@ split_stands b lease sides f low high t lead h grant e = subst (MayStand b lease
       within = omega (arith, grant);
       worthwhile = (record { point = here.treated.point; is_optimum = here.treated.is_optimum; beats = here.treated.beats }, tt, tt);
     })
+
+-- a leaf that is to be worked on, or closed, says the same whatever the limit of steps
+of_any_limit : (p : Problem) (ds : List Derived) (one other : ℕ) (goal : Option Rational) (sides : List SideOf) (leaf : Leaf) → IsTodo leaf ⊎ IsThere (closed_node leaf) → KeepsLeaf p ds one goal sides leaf → KeepsLeaf p ds other goal sides leaf
+of_any_limit p ds one other goal sides (Todo hint) h k = tt
+of_any_limit p ds one other goal sides (Treated hint) h k = k
+of_any_limit p ds one other goal sides (Leased lease) h k = tt
+of_any_limit p ds one other goal sides (Refuted w) h k = k
+of_any_limit p ds one other goal sides (Bounded w) h k = k
+of_any_limit p ds one other goal sides (NotFitting e) h k = k
+of_any_limit p ds one other goal sides (AtLimit bases) h k = absurd (⊎_elim (λ a. a) (λ b. b) h)
+
+of_tree : (p : Problem) (ds : List Derived) (one other : ℕ) (goal : Option Rational) (sides : List SideOf) (t : Tree) → AreTodoOrClosed t → AllLeaves (KeepsLeaf p ds one goal) sides t → AllLeaves (KeepsLeaf p ds other goal) sides t
+of_tree p ds one other goal sides (Divided s low high) h k = (of_tree p ds one other goal (LowOf s ∷ sides) low h.0 k.0, of_tree p ds one other goal (HighOf s ∷ sides) high h.1 k.1)
+of_tree p ds one other goal sides (AtLeaf leaf) h k = of_any_limit p ds one other goal sides leaf h k
+
+fragment_stands : (b : Board) (lease : Lease) (sides : List SideOf) (f : Fragment) → LeadTo b lease sides → IsFragment b.problem b.cuts 100 sides lease.best lease.grant f → lease.best ≡ None → f.found ≡ None → MayStand b lease f.tree
+fragment_stands b lease sides f lead h none alone = λ way there.
+    let R : List SideOf → Type 0 = λ at. IsFragment b.problem b.cuts 100 at lease.best lease.grant f in
+    let here = subst R (lead way there) h in
+    let goal : best_with b.problem lease.best f.found ≡ None = ap (best_with b.problem lease.best) alone ∙ none in
+    let L : Option Rational → Type 0 = λ g. AllLeaves (KeepsLeaf b.problem b.cuts 100 g) (sides_to b.tree way []) f.tree in
+    record {
+      is_leased = there;
+      sound = record {
+        splits = here.tree.splits;
+        goal = None;
+        is_told = tt;
+        leaves = of_tree b.problem b.cuts 100 b.pivot_limit None (sides_to b.tree way []) f.tree here.outcome.leaves (subst L goal here.tree.leaves);
+        none_leased = none_leased_in f.tree (sides_to b.tree way []) here.outcome.leaves;
+      };
+      within = here.outcome.within;
+      worthwhile = here.tree.worthwhile;
+    }
+
+pub grown_stands : (b : Board) (lease : Lease) (sides : List SideOf) (found : Option Fragment) (f : Fragment) (alone : Option Tree) → LeadTo b lease sides → found ≡ Some f → IfSome found (IsFragment b.problem b.cuts 100 sides lease.best lease.grant) → lease.best ≡ None
+    → IfSome alone (λ t. (f.found ≡ None) × (f.tree ≡ t)) → IfSome alone (MayStand b lease)
+grown_stands b lease sides found f None lead is h none alone = tt
+grown_stands b lease sides found f (Some t) lead is h none alone =
+    let P : Option Fragment → Type 0 = λ o. IfSome o (IsFragment b.problem b.cuts 100 sides lease.best lease.grant) in
+    subst (MayStand b lease) alone.1 (fragment_stands b lease sides f lead (subst P is h) none alone.0)

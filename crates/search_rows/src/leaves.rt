@@ -1,13 +1,14 @@
 // The trees that are put in the place of leased leaves.
-ghost use Rattle.std.specs.Prelude.{◌≡◌, ◌≤◌, [], true, IfOk, IfSome};
+ghost use Rattle.std.specs.Prelude.{◌≡◌, ◌≤◌, ◌×◌, [], true, None, IfOk, IfSome};
 ghost use Rattle.search_node.specs.Sides.{sides_of};
 ghost use Rattle.search_tree.specs.Board.{value_of};
 ghost use Rattle.search_tree.specs.Honest.{IsHonestWay};
 ghost use Rattle.tree_pool.specs.Places.{IsOpen};
 ghost use Rattle.branch_search.specs.Treatment.{IsTreatment, IsToSplit};
+ghost use Rattle.branch_search.specs.Grown.{IsFragment};
 ghost use Rattle.search_rows.specs.Trees.{MayStand, LeadTo, IsLeafOf};
 
-use branch_search::{Fractional, Treatment, treat};
+use branch_search::{Fractional, Fragment, Grown, Treatment, grow, treat};
 use candidate::Proposer;
 use certificate::{ColumnSplit, DerivedRows};
 use fraction::Frac;
@@ -32,6 +33,7 @@ pub(crate) fn tree_for(
     match event {
         "split" => split_tree(alloc, board, lease, &node, words),
         "close" => closed_tree(alloc, board, lease, &node),
+        "grow" => grown_tree(alloc, board, lease, &node),
         _ => untouched(alloc, board, lease),
     }
 }
@@ -85,6 +87,71 @@ fn untouched(alloc: Global, board: &Board, lease: &Lease) -> Result<Option<Subtr
     ensures { IfOk result (λ tree. IfSome tree (MayStand board.now lease.now)) }
 {
     Ok(Some(Subtree::leaf(alloc, Leaf::Todo(no_hint()))?))
+}
+
+// The tree that grows at the leaf, where no point is known and none is found.
+fn grown_tree(
+    alloc: Global,
+    board: &Board,
+    lease: &Lease,
+    node: &Node,
+) -> Result<Option<Subtree>, AllocError>
+    requires leads { LeadTo board.now lease.now (sides_of node.now.splits) }
+    requires honest { IsHonestWay board.now.problem board.now.cuts board.now.split_limit (sides_of node.now.splits) }
+    ensures { IfOk result (λ tree. IfSome tree (MayStand board.now lease.now)) }
+{
+    if lease.best.is_some() {
+        return Ok(None);
+    }
+    match growth_at(alloc, board, lease, node)? {
+        Some(fragment) => Ok(tree_alone(fragment)),
+        None => Ok(None),
+    }
+}
+
+// What grows at the leaf, where a split is granted if one is wanted.
+fn growth_at(
+    alloc: Global,
+    board: &Board,
+    lease: &Lease,
+    node: &Node,
+) -> Result<Option<Fragment>, AllocError>
+    requires { IsHonestWay board.now.problem board.now.cuts board.now.split_limit (sides_of node.now.splits) }
+    ensures { IfOk result (λ f. IfSome f (IsFragment board.now.problem board.now.cuts 100 (sides_of node.now.splits) lease.now.best lease.now.grant)) }
+{
+    let cuts = board.cuts();
+    if !are_none(cuts) {
+        return Ok(None);
+    }
+    let node = node.copy(alloc)?;
+    let hint = no_hint();
+    let mut proposer = Proposer::new(alloc, 100, 0);
+    let grown = grow(
+        alloc,
+        board.problem(),
+        cuts,
+        lease,
+        node,
+        &hint,
+        100,
+        &mut proposer,
+    );
+    std::mem::drop(hint);
+    std::mem::drop(proposer);
+    match grown {
+        Ok(Grown::Ready(fragment)) => Ok(Some(fragment)),
+        _ => Ok(None),
+    }
+}
+
+// The tree, where no point was found.
+fn tree_alone(fragment: Fragment) -> Option<Subtree>
+    ensures { IfSome result (λ tree. (fragment.found ≡ None) × (fragment.tree ≡ tree)) }
+{
+    match fragment.found {
+        None => Some(fragment.tree),
+        Some(_) => None,
+    }
 }
 
 // The leaf closed against the best value, where it is.
