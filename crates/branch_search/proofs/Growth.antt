@@ -5,31 +5,26 @@ use Rattle.rational.specs.Rational.{Rational, ◌*ℚ◌}
 use Rattle.rational.proofs.Laws as Q
 use Rattle.milp.specs.Problem.{Problem}
 use Rattle.milp.specs.Points.{objective_value, sign_of}
-use Rattle.verdicts.specs.Certificate.{Split, Side as SideOf, Low as LowOf, High as HighOf, Weights, Derived, Bound}
+use Rattle.verdicts.specs.Certificate.{Side as SideOf, Low as LowOf, High as HighOf, Weights, Derived, Bound}
 use Rattle.certificate.specs.Ways.{side_of}
-use Rattle.certificate.specs.declared.split.Side.{Side}
-use Rattle.certificate.specs.declared.split.Side.TheVariants.{Low, High}
 use Rattle.search_node.specs.Sides.{sides_of}
 use Rattle.search_node.specs.declared.node.SplitTaken.{SplitTaken}
 use Rattle.search_node.specs.declared.node.Node.{Node}
 use Rattle.search_tree.specs.declared.leaf.Leaf.{Leaf}
 use Rattle.search_tree.specs.declared.leaf.Leaf.TheVariants.{Todo, Treated, Leased, Refuted, Bounded, NotFitting, AtLimit}
 use Rattle.search_tree.specs.Tree.{Tree, Divided, AtLeaf, IsTodo, IsNotLeased, AllSplits, AllLeaves}
-use Rattle.search_tree.specs.Nodes.{IsHonestSplit, IsWorthwhile, IsTreated, Beats, NodePasses, KeepsLeaf}
-use Rattle.search_tree.specs.Honest.{AreHonest}
+use Rattle.search_tree.specs.Nodes.{IsWorthwhile, IsTreated, Beats, NodePasses, KeepsLeaf}
 use Rattle.search_tree.proofs.Laws.{todo_not_leased}
 use Rattle.search_tree.specs.Kept.{IsNoBetter, closed_node}
 use Rattle.search_tree.specs.Finished.{IsThere}
 use Rattle.branch_search.specs.declared.treatment.Found.{Found}
 use Rattle.branch_search.specs.declared.treatment.Fractional.{Fractional}
 use Rattle.branch_search.specs.declared.fault.SearchFault.{SearchFault}
-use Rattle.branch_search.specs.declared.fragment.Grown.{Grown}
-use Rattle.branch_search.specs.declared.fragment.Grown.TheVariants.{Ready}
 use Rattle.branch_search.specs.declared.growing.Progress.{Progress}
 use Rattle.branch_search.specs.declared.growing.Decided.{Decided}
 use Rattle.branch_search.specs.declared.growing.Decided.TheVariants.{Closed, ToSplit}
 use Rattle.branch_search.specs.Treatment.{IsFound, IsToSplit}
-use Rattle.branch_search.specs.Grown.{IsHonestTree, AreTodoOrClosed, IsSplitOrClosed, IsBetterPoint, best_with, IsGrown, IsOnward, unchanged, better, IsGrowth, IsClosed, IsDecided}
+use Rattle.branch_search.specs.Grown.{AreTodoOrClosed, IsOnward, unchanged, better, IsGrowth, IsClosed, IsDecided}
 
 -- ---- values that get better
 

@@ -6,7 +6,7 @@ use Rattle.rational.specs.Rational.{Rational}
 use Rattle.rational.proofs.Laws.{true_less}
 use Rattle.milp.specs.Problem.{Problem}
 use Rattle.milp.specs.Points.{objective_value}
-use Rattle.verdicts.specs.Certificate.{Side as SideOf, Derived}
+use Rattle.verdicts.specs.Certificate.{Derived}
 use Rattle.certificate.specs.declared.split.Side.{Side}
 use Rattle.search_tree.specs.declared.leaf.Lease.{Lease}
 use Rattle.search_tree.specs.declared.leaf.Leaf.TheVariants.{Leased}
@@ -21,7 +21,7 @@ use Rattle.branch_search.specs.declared.fragment.Grown.{Grown}
 use Rattle.branch_search.specs.declared.fragment.Grown.TheVariants.{Ready, Ungranted}
 use Rattle.branch_search.specs.Faults.{IsFault}
 use Rattle.branch_search.specs.Grown.{IsHonestTree, IsOutcome, IsBetterPoint, best_with, IsUngranted, IsGrown}
-use Rattle.branch_search.specs.Places.{LeadTo, GrowsAt, IsFragmentAt, MayStand}
+use Rattle.branch_search.specs.Places.{GrowsAt, IsFragmentAt, MayStand}
 use Rattle.branch_search.specs.Settled.{seat, IsLeft}
 use Rattle.branch_search.proofs.Growth.{none_leased_in}
 
