@@ -1,5 +1,5 @@
 -- Trees that may be put in the place of a leased leaf, and nodes that are over the problem's columns.
-use Rattle.std.proofs.Common.{◌≡◌, ◌∙◌, ℕ, zero, suc, ◌<◌, ◌≤◌, ◌⊎◌, ⊎_elim, List, [], ◌∷◌, length, true, refl, sym, ap, subst, Option, Some, None, IfSome, slice_get, Result, Ok, Err, IfOk, arith}
+use Rattle.std.proofs.Common.{◌≡◌, ◌∙◌, ℕ, zero, suc, ◌<◌, ◌≤◌, ◌⊎◌, ⊎_elim, List, [], ◌∷◌, length, Bool, true, false, is_some, refl, sym, ap, subst, Option, Some, None, IfSome, slice_get, Result, Ok, Err, IfOk, arith}
 use Rattle.milp.specs.Form.{Entry}
 use Rattle.milp.specs.Problem.{Column, Problem}
 use Rattle.verdicts.specs.WeightedSums.{AllBelow}
@@ -82,6 +82,12 @@ split_stands b lease sides f low high t lead h grant e = subst (MayStand b lease
       within = omega (arith, grant);
       worthwhile = (record { point = here.treated.point; is_optimum = here.treated.is_optimum; beats = here.treated.beats }, tt, tt);
     })
+
+-- ---- trees that grow
+
+pub none_there : (best : Option Rational) (t : Bool) → t ≡ is_some best → t ≡ false → best ≡ None
+none_there None t e h = refl
+none_there (Some v) t e h = cc
 
 -- a leaf that is to be worked on, or closed, says the same whatever the limit of steps
 of_any_limit : (p : Problem) (ds : List Derived) (one other : ℕ) (goal : Option Rational) (sides : List SideOf) (leaf : Leaf) → IsTodo leaf ⊎ IsThere (closed_node leaf) → KeepsLeaf p ds one goal sides leaf → KeepsLeaf p ds other goal sides leaf

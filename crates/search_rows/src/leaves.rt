@@ -1,5 +1,5 @@
 // The trees that are put in the place of leased leaves.
-ghost use Rattle.std.specs.Prelude.{◌≡◌, ◌≤◌, ◌×◌, [], true, None, IfOk, IfSome};
+ghost use Rattle.std.specs.Prelude.{◌≡◌, ◌≤◌, [], true, None, IfOk, IfSome};
 ghost use Rattle.search_node.specs.Sides.{sides_of};
 ghost use Rattle.search_tree.specs.Board.{value_of};
 ghost use Rattle.search_tree.specs.Honest.{IsHonestWay};
