@@ -58,7 +58,8 @@ fn certificates_of_several_workers_are_accepted(rt: HostRuntime) -> Result<(), F
     check(&rt, rt.alloc(), &Subject::RoundTrips, BY_WORKERS)
 }
 
-// Made problems. The objectives are those of GLPK and, for 200 columns, the best of esolver's over the whole numbers of the first six.
+// Made problems. The objectives are those of GLPK and, from 200 columns on, the best of esolver's over the whole numbers of the first
+// six.
 const MADE: &str = "\
 0 OPTIMAL$objective 0$rows 3$columns 1$ <- --demo 1
 0 OPTIMAL$objective 4$rows 3$columns 3$ <- --demo 3
@@ -67,6 +68,7 @@ const MADE: &str = "\
 0 OPTIMAL$objective 54156/71$rows 3$columns 200$ <- --demo 200
 0 OPTIMAL$objective 54156/71$rows 3$columns 200$ <- --demo 200 --workers 2
 0 OPTIMAL$objective 54156/71$rows 3$columns 200$ <- --demo 200 --workers 4
+0 OPTIMAL$objective 2860874/379$rows 3$columns 2000$ <- --demo 2000
 1 usage: <- --demo 3 --cert c
 ";
 

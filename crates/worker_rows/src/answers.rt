@@ -1,7 +1,7 @@
 // What comes of a row.
 ghost use Rattle.std.specs.Prelude.{◌≡◌};
 
-use crate::gates::NoneStays;
+use crate::gates::{NoneStays, OneHeld};
 use branch_search::SearchFault;
 use certificate::{Certificate, Verdict};
 use cplex_lp_reader::read_lp;
@@ -25,7 +25,8 @@ struct Crew<'a> {
 }
 
 /// What a crew finds of a problem: `WORKERS GATE SPLITS TEXT`, where the text is of a CPLEX LP file with `$` for line feeds. At the
-/// gate `away` the workers are sent away and one goes on alone; at `board` they are sent away too, and what they leave is told.
+/// gate `away` the workers are sent away and one goes on alone; at `board` they are sent away too, and what they leave is told. At
+/// `first` and at `second` this one of two workers is held in its first turn until the other is asked whether it stays.
 pub(crate) fn answer<R: Threads + Sync>(
     rt: &R,
     alloc: Global,
@@ -64,13 +65,50 @@ fn found<R: Threads + Sync>(
     if crew.gate == "board" {
         return left_word(rt, alloc, problem, crew).to_string(alloc);
     }
+    if crew.gate == "first" || crew.gate == "second" {
+        return held(rt, alloc, problem, crew);
+    }
     let verdict = searched(rt, alloc, problem, crew);
-    let words = match &verdict {
-        Ok(certificate) => verdict_words(alloc, certificate),
-        Err(fault) => fault_word(fault).to_string(alloc),
-    };
+    let words = words_of(alloc, &verdict);
     std::mem::drop(verdict);
     words
+}
+
+// What is found where one worker is held, and whether it went on since the other was asked.
+fn held<R: Threads + Sync>(
+    rt: &R,
+    alloc: Global,
+    problem: &Instance,
+    crew: Crew,
+) -> Result<String, AllocError>
+    requires { ¬ (crew.workers ≡ 0) }
+{
+    let gate = OneHeld::new(crew.gate == "first");
+    let verdict = search_with_workers(
+        rt,
+        alloc,
+        problem,
+        0,
+        crew.splits,
+        STEPS,
+        crew.workers,
+        &gate,
+    );
+    let words = words_of(alloc, &verdict);
+    std::mem::drop(verdict);
+    let asked = if gate.went_on() { "asked" } else { "not asked" };
+    let words = words?;
+    format!(in alloc; "{words}, the other was {asked}")
+}
+
+fn words_of(
+    alloc: Global,
+    verdict: &Result<Certificate, SearchFault>,
+) -> Result<String, AllocError> {
+    match verdict {
+        Ok(certificate) => verdict_words(alloc, certificate),
+        Err(fault) => fault_word(fault).to_string(alloc),
+    }
 }
 
 fn searched<R: Threads + Sync>(
