@@ -109,19 +109,23 @@ fn broken_bound(state: &State, v: usize) -> Result<Broken, Stop> {
 
 // ---- what enters
 
-// The same on the entries as they are, without their scale, where a number does not fit.
+// The same with prices as fractions where a number does not fit, and then on the entries as they are, without their scale.
 fn robust_choice(
     state: &mut State,
     alloc: Global,
     broken: &Broken,
 ) -> Result<Option<Entering>, Stop> {
     match choice(state, alloc, broken) {
-        Err(Stop::NoFit) => {
-            state.unscale()?;
-            choice(state, alloc, broken)
-        }
-        outcome => outcome,
+        Err(Stop::NoFit) => {}
+        outcome => return outcome,
     }
+    state.split_prices()?;
+    match choice(state, alloc, broken) {
+        Err(Stop::NoFit) => {}
+        outcome => return outcome,
+    }
+    state.unscale()?;
+    choice(state, alloc, broken)
 }
 
 /// How much a step brings at least that takes the variable of the row that was found so far, down or up: none, where nothing can
@@ -137,7 +141,7 @@ pub(crate) fn step_gain(
         Some(best) => best,
         None => return Ok(None),
     };
-    let length = product(best.ratio, state.scale)?;
+    let length = product(best.ratio, quotient(state.scale, state.price_scale())?)?;
     Ok(Some(product(length, far)?))
 }
 
@@ -189,7 +193,7 @@ fn may_help(state: &State, v: usize, entry: Frac, above: bool) -> bool {
 }
 
 fn offered(state: &State, v: usize, entry: Frac) -> Offer {
-    let price = state.price_of(v);
+    let price = state.scaled_price_of(v);
     let (size, ratio) = if price.is_zero() {
         (i32::MIN, Some(price))
     } else {
@@ -223,7 +227,7 @@ fn weigh(state: &State, open: &mut [Offer]) -> Result<(), Stop> {
 }
 
 fn ratio_of(state: &State, v: usize) -> Result<Frac, Stop> {
-    let ratio = quotient(state.price_of(v), number_at(&state.entries, v))?;
+    let ratio = quotient(state.scaled_price_of(v), number_at(&state.entries, v))?;
     Ok(ratio.abs())
 }
 
@@ -314,7 +318,7 @@ fn enter(
     let column = state.solved_column(alloc, q)?;
     state.count_step()?;
     flip_first(state, alloc, &entering.flips)?;
-    state.count_stall(state.price_of(q).is_zero());
+    state.count_stall(state.scaled_price_of(q).is_zero());
     let out = state.variable_at(slot);
     let far = difference(state.value_of(out), broken.bound)?;
     let t = quotient(far, column.at(slot))?;

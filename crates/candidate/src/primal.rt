@@ -53,7 +53,7 @@ fn entering_variable(state: &State, weights: &[i32]) -> Option<usize> {
     let careful = state.is_careful();
     let mut best = None;
     let mut most = i64::MIN;
-    for v in 0..state.prices.len() {
+    for v in 0..state.values.len() {
         if state.should_move(v) {
             let score = if careful {
                 least_first(v)
@@ -70,7 +70,7 @@ fn entering_variable(state: &State, weights: &[i32]) -> Option<usize> {
 }
 
 fn entering_score(state: &State, v: usize, weights: &[i32]) -> i64 {
-    let size = log(state.price_of(v)).saturating_add(state.unit_of(v));
+    let size = log(state.scaled_price_of(v)).saturating_add(state.unit_of(v));
     i64::from(size.saturating_mul(2)) - i64::from(at(weights, v, 0))
 }
 

@@ -100,7 +100,7 @@ fn finish(state: &mut State, alloc: Global) -> Result<End, Stop> {
 // The variables whose prices are wrong where they rest.
 fn wrong_prices(state: &State, alloc: Global) -> Result<Vec<usize>, Stop> {
     let mut wrong = Vec::new(alloc);
-    for v in 0..state.prices.len() {
+    for v in 0..state.values.len() {
         if state.should_move(v) {
             add(&mut wrong, v)?;
         }
@@ -131,7 +131,7 @@ fn shift_costs(state: &mut State, wrong: &[usize]) -> Result<(), Stop> {
     for v in wrong {
         let cost = difference(number_at(&state.costs, *v), state.price_of(*v))?;
         put(&mut state.costs, *v, cost);
-        put(&mut state.prices, *v, Frac::zero());
+        state.clear_price(*v)?;
     }
     Ok(())
 }
@@ -197,6 +197,7 @@ fn sum_of_costs(state: &State) -> Result<Frac, Stop> {
 }
 
 fn primal_phase(state: &mut State, alloc: Global) -> Result<End, Stop> {
+    state.split_prices()?;
     let mut weights = filled(alloc, state.values.len(), 0)?;
     for _ in 0..u64::from(state.steps_left) + 1 {
         match primal_step(state, alloc, &mut weights)? {

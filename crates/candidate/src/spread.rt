@@ -7,7 +7,7 @@ use tableau::State;
 /// 127.
 pub(crate) fn spread_costs(state: &mut State) -> Result<(), Stop> {
     state.costs_are_shifted = true;
-    for v in 0..state.prices.len() {
+    for v in 0..state.values.len() {
         if may_move(state, v) {
             let small = whole(spread(v).saturating_add(64))?;
             let small = if state.rests_above(v) {
@@ -16,9 +16,8 @@ pub(crate) fn spread_costs(state: &mut State) -> Result<(), Stop> {
                 small
             };
             let cost = sum(number_at(&state.costs, v), small)?;
-            let price = sum(state.price_of(v), small)?;
             put(&mut state.costs, v, cost);
-            put(&mut state.prices, v, price);
+            state.add_to_price(v, small)?;
         }
     }
     Ok(())

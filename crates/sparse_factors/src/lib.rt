@@ -20,7 +20,8 @@ pub use fractions::Fractions;
 pub use lists::{Entry, Lists, entries_of, number_in};
 pub use matrix::Matrix;
 pub use numbers::{
-    difference, digits, fused, fused_by_word, log, product, quotient, sum, whole, word,
+    difference, digits, fused, fused_by_word, log, plus_product, product, quotient, sum, whole,
+    whole_part, word,
 };
 pub use scaled::Scaled;
 pub use stop::Stop;

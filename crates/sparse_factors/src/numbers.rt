@@ -69,12 +69,35 @@ fn whole_fused(t: Frac, a: Frac, b: Frac) -> Option<Frac> {
     }
 }
 
+/// The number, where it is whole.
+#[inline]
+pub fn whole_part(a: Frac) -> Result<i128, Stop> {
+    let (numerator, denominator) = a.parts();
+    if denominator == 1 {
+        Ok(numerator)
+    } else {
+        Err(Stop::NoFit)
+    }
+}
+
 /// A whole number that is a word.
 pub fn word(a: Frac) -> Option<i64> {
     if a.is_whole() {
         i64::try_from(a.parts().0).ok()
     } else {
         None
+    }
+}
+
+/// t a + b for whole numbers, where it fits: at once where t and a are words.
+#[inline]
+pub fn plus_product(b: i128, t: i128, a: i128) -> Result<i128, Stop> {
+    match checked_times(t, a) {
+        Some(product) => match b.checked_add(product) {
+            Some(sum) => Ok(sum),
+            None => Err(Stop::NoFit),
+        },
+        None => Err(Stop::NoFit),
     }
 }
 
@@ -112,7 +135,19 @@ pub fn sum(a: Frac, b: Frac) -> Result<Frac, Stop> {
     if b.is_zero() {
         return Ok(a);
     }
-    fused(Frac::one(), a, b)
+    match whole_sum(a, b) {
+        Some(c) => Ok(c),
+        None => fraction_fused(Frac::one(), a, b),
+    }
+}
+
+// The sum of two whole numbers, where it fits.
+fn whole_sum(a: Frac, b: Frac) -> Option<Frac> {
+    if a.is_whole() && b.is_whole() {
+        whole(a.parts().0.checked_add(b.parts().0)?).ok()
+    } else {
+        None
+    }
 }
 
 /// a - b, exact where the value fits.

@@ -13,15 +13,17 @@ use std::alloc::Global;
 pub struct Scaled {
     numbers: Vec<i128>,
     scale: i128,
-    // above it what all numbers have in common is looked for
+    // above it what all numbers have in common is looked for, and how much the scale may grow until that is done again
     room: i128,
+    growth: i128,
     // the places that may have a number other than 0, each of them once, how many they are, and whether a place is one of them
     touched: Vec<usize>,
     known: usize,
     is_touched: Vec<bool>,
 }
 
-// The scale above which what all numbers have in common is looked for, and how much it grows until that is done again.
+// The scale above which what all numbers have in common is looked for, and how much it grows until that is done again, where numbers
+// fit.
 const ROOM: i128 = 1 << 40;
 
 impl Scaled {
@@ -31,6 +33,7 @@ impl Scaled {
             numbers: filled(alloc, count, 0)?,
             scale: 1,
             room: ROOM,
+            growth: ROOM,
             touched: filled(alloc, count, 0)?,
             known: 0,
             is_touched: filled(alloc, count, false)?,
@@ -42,9 +45,9 @@ impl Scaled {
         self.scale
     }
 
-    // The number at a place, times the scale.
+    /// The number at a place, times the scale.
     #[inline]
-    fn number(&self, place: usize) -> i128 {
+    pub fn number(&self, place: usize) -> i128 {
         at(&self.numbers, place, 0)
     }
 
@@ -84,11 +87,18 @@ impl Scaled {
         self.known = 0;
         self.scale = scale;
         self.room = ROOM;
+        self.growth = ROOM;
     }
 
-    // Sets the number at a place, times the scale.
+    /// Takes out what all numbers have in common wherever the scale has grown, so that they fit more often.
+    pub fn save_room(&mut self) {
+        self.room = 1;
+        self.growth = 1;
+    }
+
+    /// Sets the number at a place, times the scale.
     #[inline]
-    fn write(&mut self, place: usize, number: i128) {
+    pub fn write(&mut self, place: usize, number: i128) {
         if self.number(place) == 0 {
             self.touch(place);
         }
@@ -180,9 +190,9 @@ impl Scaled {
         Ok(entries)
     }
 
-    // The number at a place, divided; all are scaled where it is not whole.
+    /// The number at a place, divided, times the scale; all are scaled where it is not whole.
     #[inline]
-    fn divided(&mut self, place: usize, divisor: i128) -> Result<i128, Stop> {
+    pub fn divided(&mut self, place: usize, divisor: i128) -> Result<i128, Stop> {
         if divisor == 1 {
             Ok(self.number(place))
         } else {
@@ -227,7 +237,7 @@ impl Scaled {
                 }
             }
         }
-        self.room = self.scale.saturating_mul(ROOM);
+        self.room = self.scale.saturating_mul(self.growth);
         Ok(())
     }
 
@@ -238,7 +248,7 @@ impl Scaled {
                 return Ok(1);
             }
             let number = self.number(at(&self.touched, i, 0));
-            if number != 0 {
+            if number.checked_rem(common) != Some(0) {
                 let (_, other) = quotient(whole(number)?, whole(common)?)?.parts();
                 common /= other;
             }
@@ -252,6 +262,13 @@ impl Scaled {
         let share = self.divided(place, denominator)?;
         let rest = less(self.number(from), times(share, numerator)?)?;
         self.write(from, rest);
+        Ok(())
+    }
+
+    /// Takes a product off the number at a place, times the scale.
+    pub fn take_off(&mut self, place: usize, a: i128, b: i128) -> Result<(), Stop> {
+        let rest = less(self.number(place), times(a, b)?)?;
+        self.write(place, rest);
         Ok(())
     }
 }

@@ -6,6 +6,7 @@
 
 mod model;
 mod moving;
+mod prices;
 mod ranking;
 mod scaling;
 mod start;

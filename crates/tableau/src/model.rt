@@ -45,6 +45,8 @@ pub struct Model {
     pub bounds: Vec<Bounds>,
     pub costs: Vec<Frac>,
     pub units: Vec<i32>,
+    // all entries of the matrix are whole
+    pub(crate) is_whole: bool,
 }
 
 impl Model {
@@ -112,6 +114,7 @@ pub fn model_of(alloc: Global, problem: &Instance) -> Result<Model, Stop> {
     );
     let units = units_of(alloc, &matrix)?;
     Ok(Model {
+        is_whole: are_whole(problem.rows()),
         matrix,
         bounds,
         costs,
@@ -138,6 +141,24 @@ fn forms(alloc: Global, rows: &[Row]) -> Result<Lists, Stop> {
         add_form(&mut lists, row.entries().as_slice())?;
     }
     Ok(lists)
+}
+
+fn are_whole(rows: &[Row]) -> bool {
+    for row in rows {
+        if !is_whole(row.entries().as_slice()) {
+            return false;
+        }
+    }
+    true
+}
+
+fn is_whole(form: &[FormEntry]) -> bool {
+    for entry in form {
+        if !entry.coefficient.is_whole() {
+            return false;
+        }
+    }
+    true
 }
 
 // One more row, without the zeros in it.

@@ -1,11 +1,13 @@
 // Values, prices and the basis, as steps change them.
 use crate::model::Model;
+use crate::prices::{Exchange, price_factor};
 use crate::state::{Mark, State};
 use fraction::Frac;
 use lifted_systems::{lifted_columns, lifted_rows};
 use sparse_factors::{
-    Entry, Fractions, Scaled, Stop, add, at, copied, difference, entries_of, fused, fused_by_word,
-    number_at, number_in, product, put, quotient, sum, whole, word, zeros,
+    Entry, Factors, Fractions, Scaled, Stop, add, at, copied, difference, entries_of, fused,
+    fused_by_word, number_at, number_in, plus_product, product, put, quotient, sum, whole,
+    whole_part, word, zeros,
 };
 use std::alloc::Global;
 
@@ -84,6 +86,7 @@ pub fn prices_at(
 }
 
 // Whether the variable may have a number in the row, which is noted.
+#[inline]
 fn is_open(v: usize, marks: &mut [Mark], touched: &mut Vec<usize>) -> Result<bool, Stop> {
     match at(marks, v, Mark::Closed) {
         Mark::Closed => Ok(false),
@@ -93,6 +96,72 @@ fn is_open(v: usize, marks: &mut [Mark], touched: &mut Vec<usize>) -> Result<boo
             add(touched, v)?;
             Ok(true)
         }
+    }
+}
+
+// The right side of a system.
+#[derive(Clone, Copy)]
+enum Given<'a> {
+    // 1 at a place
+    Unit(usize),
+    Entries(&'a [Entry]),
+    Numbers(&'a [Frac]),
+}
+
+impl Given<'_> {
+    fn load(self, work: &mut Scaled) -> Result<(), Stop> {
+        match self {
+            Given::Unit(place) => {
+                work.become_unit(place);
+                Ok(())
+            }
+            Given::Entries(entries) => work.become_entries(entries),
+            Given::Numbers(numbers) => work.become_numbers(numbers),
+        }
+    }
+
+    // Solves B x = a over one denominator; where that does not fit, once more in less room.
+    fn solve_columns(self, factors: &Factors, work: &mut Scaled) -> Result<(), Stop> {
+        self.load(work)?;
+        match factors.solve_columns(work) {
+            Err(Stop::NoFit) => {}
+            outcome => return outcome,
+        }
+        self.load(work)?;
+        work.save_room();
+        factors.solve_columns(work)
+    }
+
+    // Solves y B = c in the same way.
+    fn solve_rows(self, factors: &Factors, work: &mut Scaled) -> Result<(), Stop> {
+        self.load(work)?;
+        match factors.solve_rows(work) {
+            Err(Stop::NoFit) => {}
+            outcome => return outcome,
+        }
+        self.load(work)?;
+        work.save_room();
+        factors.solve_rows(work)
+    }
+}
+
+// A variable's column.
+fn column_of(model: &Model, v: usize) -> Given<'_> {
+    match model.matrix.row_of(v) {
+        Some(row) => Given::Unit(row),
+        None => Given::Entries(model.matrix.by_column.list(v)),
+    }
+}
+
+// The sum with a product, where the word of its first factor is there if it is one.
+#[inline(always)]
+fn plus_multiple(sum: i128, y: i128, word: Option<i64>, a: i128) -> Result<i128, Stop> {
+    match (word, i64::try_from(a)) {
+        (Some(y), Ok(a)) => match sum.checked_add(i128::from(y) * i128::from(a)) {
+            Some(sum) => Ok(sum),
+            None => Err(Stop::NoFit),
+        },
+        _ => plus_product(sum, y, a),
     }
 }
 
@@ -109,8 +178,7 @@ impl State {
 
     fn columns_over_one(&mut self, alloc: Global, a: &[Frac]) -> Result<Vec<Entry>, Stop> {
         let State { factors, work, .. } = self;
-        work.become_numbers(a)?;
-        factors.solve_columns(work)?;
+        Given::Numbers(a).solve_columns(factors, work)?;
         work.entries(alloc)
     }
 
@@ -135,8 +203,7 @@ impl State {
 
     fn rows_over_one(&self, alloc: Global, c: &[Frac]) -> Result<Vec<Frac>, Stop> {
         let mut y = Scaled::zeros(alloc, c.len())?;
-        y.become_numbers(c)?;
-        self.factors.solve_rows(&mut y)?;
+        Given::Numbers(c).solve_rows(&self.factors, &mut y)?;
         y.fractions(alloc)
     }
 
@@ -188,17 +255,23 @@ impl State {
         self.solve_rows(alloc, &y)
     }
 
-    /// Finds the prices of all variables anew.
+    /// Finds the prices of all variables anew, but for those of fixed ones.
     pub fn find_prices(&mut self, alloc: Global) -> Result<(), Stop> {
         let y = self.row_weights(alloc, &self.costs)?;
-        for v in 0..self.prices.len() {
-            self.prices[v] = if self.is_basic(v) {
-                Frac::zero()
-            } else {
-                reduced(&self.model, &y, v, number_at(&self.costs, v))?
-            };
+        let mut prices = zeros(alloc, self.costs.len())?;
+        for v in 0..self.costs.len() {
+            if !self.is_basic(v) && !self.is_fixed(v) {
+                let price = reduced(&self.model, &y, v, number_at(&self.costs, v))?;
+                put(&mut prices, v, price);
+            }
         }
+        self.prices.become_plain(prices);
         Ok(())
+    }
+
+    /// Keeps the prices as fractions from now on, so that their sizes are told as those of fractions.
+    pub fn split_prices(&mut self) -> Result<(), Stop> {
+        self.prices.stay_plain()
     }
 
     /// The prices of the variables that rest, and 0 for the others, at these weights of rows and for these costs.
@@ -224,7 +297,7 @@ impl State {
         if self.costs_are_shifted {
             return self.resting_prices(alloc, &y, &self.model.costs);
         }
-        let mut prices = copied(alloc, &self.prices)?;
+        let mut prices = self.prices.fractions(alloc)?;
         for v in 0..prices.len() {
             if self.is_fixed(v) && !self.is_basic(v) {
                 prices[v] = reduced(&self.model, &y, v, self.model.cost_of(v))?;
@@ -250,11 +323,7 @@ impl State {
             work,
             ..
         } = self;
-        match model.matrix.row_of(v) {
-            Some(row) => work.become_unit(row),
-            None => work.become_entries(model.matrix.by_column.list(v))?,
-        }
-        factors.solve_columns(work)?;
+        column_of(model, v).solve_columns(factors, work)?;
         let entries = work.entries(alloc)?;
         Ok(Solved { entries })
     }
@@ -283,8 +352,7 @@ impl State {
 
     fn solve_unit_row(&mut self, slot: usize) -> Result<(), Stop> {
         let State { factors, work, .. } = self;
-        work.become_unit(slot);
-        factors.solve_rows(work)
+        Given::Unit(slot).solve_rows(factors, work)
     }
 
     // Of the row in the work vector.
@@ -324,6 +392,12 @@ impl State {
     }
 
     fn find_entries(&mut self, row: &Row) -> Result<(), Stop> {
+        if self.model.is_whole {
+            match self.find_whole_entries(row) {
+                Err(Stop::NoFit) => {}
+                outcome => return outcome,
+            }
+        }
         self.clear_entries();
         self.scale = row.scale;
         for entry in &row.entries {
@@ -332,10 +406,51 @@ impl State {
         Ok(())
     }
 
+    // As whole numbers, where the matrix has no others.
+    fn find_whole_entries(&mut self, row: &Row) -> Result<(), Stop> {
+        self.clear_entries();
+        self.scale = row.scale;
+        for entry in &row.entries {
+            self.touch_whole_row(entry.at, whole_part(entry.number)?)?;
+        }
+        self.take_sums()
+    }
+
+    fn touch_whole_row(&mut self, row: usize, y: i128) -> Result<(), Stop> {
+        let State {
+            model,
+            sums,
+            touched,
+            marks,
+            ..
+        } = self;
+        let word = i64::try_from(y).ok();
+        let own = model.matrix.variable_of(row);
+        if is_open(own, marks, touched)? {
+            put(sums, own, y);
+        }
+        for entry in model.matrix.by_row.list(row) {
+            let v = entry.at;
+            if v < sums.len() && is_open(v, marks, touched)? {
+                sums[v] = plus_multiple(sums[v], y, word, entry.number.parts().0)?;
+            }
+        }
+        Ok(())
+    }
+
+    fn take_sums(&mut self) -> Result<(), Stop> {
+        for i in 0..self.touched.len() {
+            let v = at(&self.touched, i, 0);
+            put(&mut self.entries, v, whole(at(&self.sums, v, 0))?);
+        }
+        Ok(())
+    }
+
     fn clear_entries(&mut self) {
         for i in 0..self.touched.len() {
             let v = at(&self.touched, i, 0);
             put(&mut self.entries, v, Frac::zero());
+            put(&mut self.sums, v, 0);
             if at(&self.marks, v, Mark::Closed) == Mark::Touched {
                 put(&mut self.marks, v, Mark::Open);
             }
@@ -393,43 +508,55 @@ impl State {
         };
     }
 
-    /// Changes the prices where q becomes basic and the variable `out` rests.
+    /// Changes the prices where q becomes basic and the variable `out` rests: over one denominator, else in fractions. Where a factor
+    /// of these does not fit, the row is taken without its scale.
     pub fn update_prices(&mut self, q: usize, out: usize) -> Result<(), Stop> {
-        let price = self.price_of(q);
-        if price.is_zero() {
-            put(&mut self.prices, out, Frac::zero());
+        let leaves = if self.is_fixed(out) { None } else { Some(out) };
+        if self.update_over_one(q, leaves)? {
             return Ok(());
         }
-        let factor = self.price_factor(price, q)?;
-        for i in 0..self.touched.len() {
-            let v = at(&self.touched, i, 0);
-            let entry = number_at(&self.entries, v);
-            if v != q && !entry.is_zero() {
-                let changed = fused(factor, entry, self.price_of(v))?;
-                put(&mut self.prices, v, changed);
-            }
+        if !self.has_factor(q) {
+            self.unscale()?;
         }
-        put(&mut self.prices, out, product(factor, self.scale)?);
-        put(&mut self.prices, q, Frac::zero());
-        Ok(())
+        self.update_fractions(q, leaves)
     }
 
-    // Minus the price by the entry: how the prices change with the entries. Where it does not fit, nor the leaving
-    // variable's price, the entries are taken as they are, without the scale.
-    fn price_factor(&mut self, price: Frac, q: usize) -> Result<Frac, Stop> {
-        match self.scaled_factor(price, q) {
-            Err(Stop::NoFit) => {
-                self.unscale()?;
-                self.scaled_factor(price, q)
-            }
-            outcome => outcome,
-        }
+    fn update_over_one(&mut self, q: usize, leaves: Option<usize>) -> Result<bool, Stop> {
+        let State {
+            prices,
+            touched,
+            entries,
+            scale,
+            ..
+        } = self;
+        prices.exchange_over_one(&Exchange {
+            enters: q,
+            leaves,
+            touched,
+            entries,
+            scale: *scale,
+        })
     }
 
-    fn scaled_factor(&self, price: Frac, q: usize) -> Result<Frac, Stop> {
-        let factor = quotient(price, number_at(&self.entries, q))?.neg();
-        product(factor, self.scale)?;
-        Ok(factor)
+    fn update_fractions(&mut self, q: usize, leaves: Option<usize>) -> Result<(), Stop> {
+        let State {
+            prices,
+            touched,
+            entries,
+            scale,
+            ..
+        } = self;
+        prices.exchange_plain(&Exchange {
+            enters: q,
+            leaves,
+            touched,
+            entries,
+            scale: *scale,
+        })
+    }
+
+    fn has_factor(&self, q: usize) -> bool {
+        price_factor(self.price_of(q), number_at(&self.entries, q), self.scale).is_ok()
     }
 
     /// Takes the scale off the numbers of the row.
@@ -464,6 +591,7 @@ impl State {
         if self.is_worn() {
             self.try_to_refactor(alloc)?;
             self.look_at_all()?;
+            self.prices.join();
         }
         Ok(())
     }

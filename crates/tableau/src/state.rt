@@ -1,5 +1,6 @@
 // The state of a search: a basis with its factors, the values and prices of all variables, and what guides the choices.
 use crate::model::{Bounds, Model};
+use crate::prices::Prices;
 use crate::ranking::{Ranked, Ranking};
 use crate::start::Start;
 use fraction::Frac;
@@ -57,7 +58,7 @@ pub struct State {
     pub is_fixed: Vec<bool>,
     pub costs: Vec<Frac>,
     pub values: Vec<Frac>,
-    pub prices: Vec<Frac>,
+    pub(crate) prices: Prices,
     // how far the variable of a slot is beyond a bound, as a logarithm
     pub gaps: Vec<Option<i32>>,
     pub weights: Vec<i32>,
@@ -66,6 +67,8 @@ pub struct State {
     pub scale: Frac,
     pub entries: Vec<Frac>,
     pub touched: Vec<usize>,
+    // the same numbers, while they are summed up as whole ones
+    pub(crate) sums: Vec<i128>,
     pub(crate) marks: Vec<Mark>,
     // where systems are solved
     pub(crate) work: Scaled,
@@ -93,12 +96,13 @@ impl State {
             is_fixed: filled(alloc, size, false)?,
             costs: copied(alloc, &model.costs)?,
             values: zeros(alloc, size)?,
-            prices: zeros(alloc, size)?,
+            prices: Prices::zeros(alloc, size)?,
             gaps: filled(alloc, model.matrix.rows, None)?,
             weights: filled(alloc, model.matrix.rows, 0)?,
             ranking: Ranking::new(alloc),
             scale: Frac::one(),
             entries: zeros(alloc, size)?,
+            sums: filled(alloc, size, 0)?,
             touched: Vec::new(alloc),
             marks: filled(alloc, size, Mark::Closed)?,
             work: Scaled::zeros(alloc, model.matrix.rows)?,
@@ -155,9 +159,29 @@ impl State {
         number_at(&self.values, v)
     }
 
-    #[inline]
     pub fn price_of(&self, v: usize) -> Frac {
-        number_at(&self.prices, v)
+        self.prices.get(v)
+    }
+
+    /// A price times the scale of all prices: a whole number, while they are over one denominator.
+    #[inline(always)]
+    pub fn scaled_price_of(&self, v: usize) -> Frac {
+        self.prices.scaled(v)
+    }
+
+    /// What scaled prices are multiplied with.
+    pub fn price_scale(&self) -> Frac {
+        self.prices.scale()
+    }
+
+    /// Sets a price to 0.
+    pub fn clear_price(&mut self, v: usize) -> Result<(), Stop> {
+        self.prices.clear(v)
+    }
+
+    /// Adds a number to a price.
+    pub fn add_to_price(&mut self, v: usize, number: Frac) -> Result<(), Stop> {
+        self.prices.add(v, number)
     }
 
     #[inline]
@@ -179,8 +203,8 @@ impl State {
 
     /// The resting variable's price is wrong where it rests: it should move.
     pub fn should_move(&self, v: usize) -> bool {
-        let price = self.price_of(v);
-        if price.is_zero() || self.is_basic(v) || self.is_fixed(v) {
+        let price = self.scaled_price_of(v);
+        if price.is_zero() || at(&self.marks, v, Mark::Closed) == Mark::Closed {
             return false;
         }
         let bounds = self.model.bounds_of(v);
