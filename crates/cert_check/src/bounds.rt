@@ -11,9 +11,9 @@ use certificate::{Side, Split, Tree, WholeNumber};
 use fraction::{Frac, NoFit, whole_numbers};
 use instance::{Entry, Instance, greater, lesser};
 
-/// The lower bound of a column at a place: the greatest of its own and of the sums P + 1 on the way, or the first of these
-/// from the place back that does not fit.
-pub fn lower_at(
+// The lower bound of a column at a place: the greatest of its own and of the sums P + 1 on the way, or the first of these
+// from the place back that does not fit.
+pub(crate) fn lower_at(
     problem: &Instance,
     tree: &Tree,
     place: usize,
@@ -31,8 +31,8 @@ pub fn lower_at(
     Ok(over_own(found, problem, column))
 }
 
-/// The upper bound of a column at a place: the least of its own and of the numbers P on the way.
-pub fn upper_at(problem: &Instance, tree: &Tree, place: usize, column: u32) -> Option<Frac>
+// The upper bound of a column at a place: the least of its own and of the numbers P on the way.
+pub(crate) fn upper_at(problem: &Instance, tree: &Tree, place: usize, column: u32) -> Option<Frac>
     requires { place ≤ length tree.now }
     ensures { result ≡ upper_under problem.now (way tree.now place) column }
 {

@@ -20,7 +20,6 @@ mod totals;
 mod turns;
 mod way;
 
-pub use bounds::{lower_at, upper_at};
 pub use checking::check;
 pub use leaves::{makes_column, shows_no_point, shows_none_better};
 pub use part::{CheckFault, Checked, Part};

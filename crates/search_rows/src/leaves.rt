@@ -271,7 +271,9 @@ fn divided(
 {
     let split = fractional.split;
     if is_asked(&split, words) {
-        Ok(Some(Subtree::split(alloc, split, no_hint(), no_hint())?))
+        let low = Subtree::leaf(alloc, Leaf::Todo(no_hint()))?;
+        let high = Subtree::leaf(alloc, Leaf::Todo(no_hint()))?;
+        Ok(Some(Subtree::divided(alloc, split, low, high)?))
     } else {
         Ok(None)
     }

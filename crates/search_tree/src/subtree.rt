@@ -2,9 +2,8 @@
 ghost use Rattle.std.specs.Prelude.{◌≡◌, length, IfOk};
 ghost use Rattle.search_tree.specs.Tree.{Divided, AtLeaf, made};
 ghost use Rattle.search_tree.specs.Slots.{slots_of};
-ghost use Rattle.search_tree.specs.declared.leaf.Leaf.TheVariants.{Todo};
 
-use crate::{Hint, Leaf, Slot};
+use crate::{Leaf, Slot};
 use certificate::ColumnSplit;
 use std::alloc::{AllocError, Global};
 use std::marker::Model;
@@ -35,22 +34,6 @@ impl Subtree {
     {
         let mut slots = Vec::with_capacity(alloc, 1)?;
         slots.push_reserved(Slot::Leaf(leaf));
-        Ok(Subtree { slots })
-    }
-
-    /// The tree of one split, whose sides no one has worked on, with hints for them.
-    pub fn split(
-        alloc: Global,
-        split: ColumnSplit,
-        low: Hint,
-        high: Hint,
-    ) -> Result<Self, AllocError>
-        ensures { IfOk result (λ t. t ≡ Divided split (AtLeaf (Todo low)) (AtLeaf (Todo high))) }
-    {
-        let mut slots = Vec::with_capacity(alloc, 3)?;
-        slots.push_reserved(Slot::Divided(split));
-        slots.push_reserved(Slot::Leaf(Leaf::Todo(low)));
-        slots.push_reserved(Slot::Leaf(Leaf::Todo(high)));
         Ok(Subtree { slots })
     }
 

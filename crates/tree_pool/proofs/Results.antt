@@ -1,13 +1,9 @@
 -- What holds of results and options.
-use Rattle.std.proofs.Common.{◌≡◌, Result, Ok, Err, is_err, true, false, OnOk, OnErr, IfOk, Option, Some, None, IfSome}
+use Rattle.std.proofs.Common.{◌≡◌, Result, Ok, Err, is_err, false, OnOk, IfOk, Option, Some, None, IfSome}
 
 pub where_ok : {A E : Type 0} (r : Result A E) (P : Type 0) → is_err r ≡ false → OnOk r P → P
 where_ok (Ok x) P e h = h
 where_ok (Err x) P e h = cc
-
-pub where_err : {A E : Type 0} (r : Result A E) (P : Type 0) → is_err r ≡ true → OnErr r P → P
-where_err (Ok x) P e h = cc
-where_err (Err x) P e h = h
 
 pub if_ok : {A E : Type 0} (r : Result A E) (P Q : A → Type 0) → ((x : A) → P x → Q x) → IfOk r P → IfOk r Q
 if_ok (Ok x) P Q f h = f x h
