@@ -1,0 +1,3 @@
+mod SettledPlaces
+mod RootPoint
+mod MadeRootCuts

@@ -1,0 +1,2 @@
+pub mod RootBasis
+pub mod RootCuts
