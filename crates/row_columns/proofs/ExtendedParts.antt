@@ -7,12 +7,12 @@ use Rattle.milp.specs.Form.{Entry}
 use Rattle.milp.specs.Problem.{Column, Row, Problem}
 use Rattle.row_columns.specs.Extended.{moved_row, IsFormColumn, AreFormColumns, IsTyingRow, AreTyingRows, IsExtended}
 
-get_front : {T : Type 0} (xs ys : List T) (k : ℕ) → k < length xs → slice_get (xs ++ ys) k ≡ slice_get xs k
+pub get_front : {T : Type 0} (xs ys : List T) (k : ℕ) → k < length xs → slice_get (xs ++ ys) k ≡ slice_get xs k
 get_front [] ys k h = absurd (omega arith)
 get_front (x ∷ xs) ys zero h = refl
 get_front (x ∷ xs) ys (suc k) h = get_front xs ys k (omega arith)
 
-get_behind : {T : Type 0} (xs ys : List T) (k : ℕ) → length xs ≤ k → slice_get (xs ++ ys) k ≡ slice_get ys (k - length xs)
+pub get_behind : {T : Type 0} (xs ys : List T) (k : ℕ) → length xs ≤ k → slice_get (xs ++ ys) k ≡ slice_get ys (k - length xs)
 get_behind [] ys k h = let e : k ≡ k - 0 = omega arith in ap (slice_get ys) e
 get_behind (x ∷ xs) ys zero h = absurd (omega arith)
 get_behind (x ∷ xs) ys (suc k) h = let e : k - length xs ≡ suc k - suc (length xs) = omega arith in get_behind xs ys k (omega arith) ∙ ap (slice_get ys) e

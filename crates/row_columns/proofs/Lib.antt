@@ -1,16 +1,19 @@
 mod FormValues
-mod SameForms
-mod ExtendedParts
+pub mod SameForms
+pub mod ExtendedParts
+pub mod RestoredSums
 mod RestoredTerms
+pub mod Parts
 mod RestoredNodes
 mod RestoredPoints
 mod RestoredCertificates
 mod ExtendedPoints
 pub mod KeptItems
+pub mod RemadeTrees
 pub mod RestoredTree
 mod ScalingLemmas
 mod RowLemmas
-mod Adding
-mod NewNames
+pub mod Adding
+pub mod NewNames
 mod MovedEntries
 mod Extensions

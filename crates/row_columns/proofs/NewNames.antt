@@ -95,7 +95,7 @@ taken_later : (prefix : List ℕ) (j : ℕ) (name : List ℕ) → IsTaken prefix
 taken_later prefix j name (inl short) = inl short
 taken_later prefix j name (inr (k, lt, is)) = inr (k, omega arith, is)
 
-abbrev new_names : List ℕ → ℕ → List (List Entry) → List (List ℕ)
+abbrev pub new_names : List ℕ → ℕ → List (List Entry) → List (List ℕ)
 new_names prefix j [] = []
 new_names prefix j (form ∷ forms) = new_name prefix j ∷ new_names prefix (j + 1) forms
 
@@ -139,9 +139,12 @@ columns_apart prefix forms columns h within apart =
 pub moved_rows_apart : (count : ℕ) (rows : List Row) → are_distinct_rows [] rows ≡ true → are_distinct_rows [] (map (moved_row count) rows) ≡ true
 moved_rows_apart count rows h = distinct_rows [] (map (moved_row count) rows) ∙ ap (are_distinct []) (moved_named count rows) ∙ sym (distinct_rows [] rows) ∙ h
 
-pub tying_rows_apart : (prefix : List ℕ) (count : ℕ) (forms : List (List Entry)) (rows : List Row) → length forms ≤ 2 ^ 32 → AreWithin (length prefix) (row_names rows) → are_distinct_rows (map (moved_row count) rows) (tying_rows prefix count 0 forms) ≡ true
-tying_rows_apart prefix count forms rows h within =
-    distinct_rows (map (moved_row count) rows) (tying_rows prefix count 0 forms)
-    ∙ ap (λ ns. are_distinct ns (row_names (tying_rows prefix count 0 forms))) (moved_named count rows)
-    ∙ ap (are_distinct (row_names rows)) (rows_named prefix count 0 forms)
+-- rows with new names are apart from those whose names are no longer than the prefix
+pub new_rows_apart : (prefix : List ℕ) (forms : List (List Entry)) (rows new : List Row) → length forms ≤ 2 ^ 32 → row_names new ≡ new_names prefix 0 forms → AreWithin (length prefix) (row_names rows) → are_distinct_rows rows new ≡ true
+new_rows_apart prefix forms rows new h named within =
+    distinct_rows rows new
+    ∙ ap (are_distinct (row_names rows)) named
     ∙ new_distinct prefix 0 forms (row_names rows) (omega arith) (all_weaker (λ name. length name ≤ length prefix) (IsTaken prefix 0) (λ name short. inl short) (row_names rows) within)
+
+pub tying_rows_apart : (prefix : List ℕ) (count : ℕ) (forms : List (List Entry)) (rows : List Row) → length forms ≤ 2 ^ 32 → AreWithin (length prefix) (row_names rows) → are_distinct_rows (map (moved_row count) rows) (tying_rows prefix count 0 forms) ≡ true
+tying_rows_apart prefix count forms rows h within = new_rows_apart prefix forms (map (moved_row count) rows) (tying_rows prefix count 0 forms) h (rows_named prefix count 0 forms) (subst (AreWithin (length prefix)) (sym (moved_named count rows)) within)

@@ -4,112 +4,52 @@ use Rattle.std.specs.Prelude.{negsuc, nat_lt, option_map, get_or}
 use Rattle.std.specs.List.{AllByRecursion}
 use Rattle.std.proofs.lemmas.Bool.{ltb-true, ltb-false}
 use Rattle.std.proofs.lemmas.List.{length-map}
-use mathlib.Core.Path.{ap₂}
-use Rattle.rational.specs.Rational.{Rational, ◌+ℚ◌, ◌*ℚ◌, zero_ℚ, whole}
+use Rattle.rational.specs.Rational.{Rational, ◌*ℚ◌, zero_ℚ, whole}
 use Rattle.rational.specs.Compare.{is_less}
 use Rattle.rational.proofs.Laws as Q
 use Rattle.milp.specs.Form.{Entry, value_at}
 use Rattle.milp.specs.Problem.{Column, Row, Problem}
 use Rattle.certificate.specs.Written.{column_form, split_column}
-use Rattle.verdicts.specs.WeightedSums.{scaled, Weighted, combined, combined_bound}
+use Rattle.verdicts.specs.WeightedSums.{scaled, Weighted}
 use Rattle.verdicts.specs.Certificate.{Item, Weights, Split, Side, Low, High}
 use Rattle.verdicts.specs.Proves.{side_form, side_bound, way_get, term, bound_used, lower_under, upper_under, row_term, column_term, derived_term, split_term, joined, gathered, terms}
 use Rattle.verdicts.specs.SplitRows.{split_of, first_items}
-use Rattle.verdicts.proofs.Laws.{value-append, value-scaled}
+use Rattle.verdicts.proofs.Laws.{value-scaled}
 use Rattle.row_columns.specs.Extended.{moved, moved_row, IsFormColumn, IsExtended}
 use Rattle.row_columns.specs.Restored.{restored_split, items_behind, restored_weights}
 use Rattle.row_columns.proofs.FormValues.{with_values, column_value, column_behind, moved_value, tied_value}
 use Rattle.row_columns.proofs.ExtendedParts.{Ties, column_of_form, column_of_problem, row_of_problem, row_of_form}
-
--- ---- lists of terms with the same sums
-
--- u adds at each point what t adds at the point with the forms' values
-pub record IsRestoredTerm (forms : List (List Entry)) (t u : Weighted) : Type 0 where
-  pub value : (y : ℕ → Rational) → u.weight *ℚ value_at y u.form ≡ t.weight *ℚ value_at (with_values forms y) t.form
-  pub bound : u.weight *ℚ u.bound ≡ t.weight *ℚ t.bound
-
-pub record IsRestoredSum (forms : List (List Entry)) (ts us : List Weighted) : Type 0 where
-  pub value : (y : ℕ → Rational) → value_at y (combined us) ≡ value_at (with_values forms y) (combined ts)
-  pub bound : combined_bound us ≡ combined_bound ts
-
--- t adds nothing
-pub record AddsNothing (forms : List (List Entry)) (t : Weighted) : Type 0 where
-  pub value : (y : ℕ → Rational) → t.weight *ℚ value_at (with_values forms y) t.form ≡ zero_ℚ
-  pub bound : t.weight *ℚ t.bound ≡ zero_ℚ
-
-abbrev pub TermRestores : List (List Entry) → Option Weighted → Option Weighted → Type 0
-TermRestores forms None u = Unit {0}
-TermRestores forms (Some t) None = ⊥
-TermRestores forms (Some t) (Some u) = IsRestoredTerm forms t u
-
-abbrev pub Restores : List (List Entry) → Option (List Weighted) → Option (List Weighted) → Type 0
-Restores forms None r = Unit {0}
-Restores forms (Some ts) None = ⊥
-Restores forms (Some ts) (Some us) = IsRestoredSum forms ts us
-
-combined_value : (y : ℕ → Rational) (t : Weighted) (ts : List Weighted) → value_at y (combined (t ∷ ts)) ≡ t.weight *ℚ value_at y t.form +ℚ value_at y (combined ts)
-combined_value y t ts = value-append y (scaled t.weight t.form) (combined ts) ∙ ap (λ v. v +ℚ value_at y (combined ts)) (value-scaled y t.weight t.form)
-
-sum_more : (forms : List (List Entry)) (t u : Weighted) (ts us : List Weighted) → IsRestoredTerm forms t u → IsRestoredSum forms ts us → IsRestoredSum forms (t ∷ ts) (u ∷ us)
-sum_more forms t u ts us h k = record {
-  value = λ y. combined_value y u us ∙ ap₂ ◌+ℚ◌ (h.value y) (k.value y) ∙ sym (combined_value (with_values forms y) t ts);
-  bound = ap₂ ◌+ℚ◌ h.bound k.bound;
-}
-
-joined_restored : (forms : List (List Entry)) (t u : Option Weighted) (o r : Option (List Weighted)) → TermRestores forms t u → Restores forms o r → Restores forms (joined t o) (joined u r)
-joined_restored forms None u o r h k = tt
-joined_restored forms (Some t) u None r h k = tt
-joined_restored forms (Some t) None (Some ts) r h k = absurd h
-joined_restored forms (Some t) (Some u) (Some ts) None h k = k
-joined_restored forms (Some t) (Some u) (Some ts) (Some us) h k = sum_more forms t u ts us h k
-
-joined_nothing : (forms : List (List Entry)) (t : Option Weighted) (o r : Option (List Weighted)) → IfSome t (AddsNothing forms) → Restores forms o r → Restores forms (joined t o) r
-joined_nothing forms None o r h k = tt
-joined_nothing forms (Some t) None r h k = tt
-joined_nothing forms (Some t) (Some ts) None h k = k
-joined_nothing forms (Some t) (Some ts) (Some us) h k = record {
-  value = λ y. k.value y ∙ sym (combined_value (with_values forms y) t ts ∙ ap (λ v. v +ℚ value_at (with_values forms y) (combined ts)) (h.value y) ∙ Q.zero-add _);
-  bound = k.bound ∙ sym (ap (λ v. v +ℚ combined_bound ts) h.bound ∙ Q.zero-add _);
-}
-
-gathered_restored : (forms : List (List Entry)) (f g : Item → Option Weighted) (is : List Item) (o r : Option (List Weighted)) → ((i : Item) → TermRestores forms (f i) (g i)) → Restores forms o r → Restores forms (gathered f is o) (gathered g is r)
-gathered_restored forms f g [] o r h k = k
-gathered_restored forms f g (i ∷ is) o r h k = joined_restored forms (f i) (g i) (gathered f is o) (gathered g is r) (h i) (gathered_restored forms f g is o r h k)
-
--- one form with the other's values
-same_term : (forms : List (List Entry)) (w : Rational) (f g : List Entry) (bound : Option Rational) → ((y : ℕ → Rational) → value_at y g ≡ value_at (with_values forms y) f) → TermRestores forms (term w f bound) (term w g bound)
-same_term forms w f g None h = tt
-same_term forms w f g (Some b) h = record { value = λ y. ap (λ v. w *ℚ v) (h y); bound = refl }
+use Rattle.row_columns.proofs.RestoredSums.{AddsNothing, TermRestores, Restores, joined_restored, joined_nothing, gathered_restored, same_term}
 
 -- ---- rows
 
-row_before : (p q : Problem) (forms : List (List Entry)) → IsExtended p forms q → (i : Item) → i.index < length p.rows → TermRestores forms (row_term q i) (row_term p i)
+row_before : (p q : Problem) (forms : List (List Entry)) → IsExtended p forms q → (i : Item) → i.index < length p.rows → TermRestores (with_values forms) (row_term q i) (row_term p i)
 row_before p q forms h i k = rw (row_of_problem p q forms h i.index k) (go (slice_get p.rows i.index))
   where
-    go : (o : Option Row) → TermRestores forms (option_and_then (λ (r : Row). term i.weight r.entries (bound_used i.weight r.lower r.upper)) (option_map (moved_row (length forms)) o)) (option_and_then (λ (r : Row). term i.weight r.entries (bound_used i.weight r.lower r.upper)) o)
+    go : (o : Option Row) → TermRestores (with_values forms) (option_and_then (λ (r : Row). term i.weight r.entries (bound_used i.weight r.lower r.upper)) (option_map (moved_row (length forms)) o)) (option_and_then (λ (r : Row). term i.weight r.entries (bound_used i.weight r.lower r.upper)) o)
     go None = tt
-    go (Some r) = same_term forms i.weight (moved (length forms) r.entries) r.entries (bound_used i.weight r.lower r.upper) (λ y. sym (moved_value forms y r.entries))
+    go (Some r) = same_term (with_values forms) i.weight (moved (length forms) r.entries) r.entries (bound_used i.weight r.lower r.upper) (λ y. sym (moved_value forms y r.entries))
 
-row_behind : (p q : Problem) (forms : List (List Entry)) → IsExtended p forms q → (i : Item) → length p.rows ≤ i.index → IfSome (row_term q i) (AddsNothing forms)
+row_behind : (p q : Problem) (forms : List (List Entry)) → IsExtended p forms q → (i : Item) → length p.rows ≤ i.index → IfSome (row_term q i) (AddsNothing (with_values forms))
 row_behind p q forms h i k = go (slice_get q.rows i.index) (row_of_form p q forms h i.index k)
   where
-    nothing : (form : List Entry) (b : Bool) → ((y : ℕ → Rational) → value_at (with_values forms y) form ≡ zero_ℚ) → IfSome (term i.weight form (if b then Some zero_ℚ else Some zero_ℚ)) (AddsNothing forms)
+    nothing : (form : List Entry) (b : Bool) → ((y : ℕ → Rational) → value_at (with_values forms y) form ≡ zero_ℚ) → IfSome (term i.weight form (if b then Some zero_ℚ else Some zero_ℚ)) (AddsNothing (with_values forms))
     nothing form true e = record { value = λ y. ap (λ v. i.weight *ℚ v) (e y) ∙ Q.mul-zero i.weight; bound = Q.mul-zero i.weight }
     nothing form false e = record { value = λ y. ap (λ v. i.weight *ℚ v) (e y) ∙ Q.mul-zero i.weight; bound = Q.mul-zero i.weight }
 
-    go : (o : Option Row) → IfSome o (λ r. Ties forms (i.index - length p.rows) r) → IfSome (option_and_then (λ (r : Row). term i.weight r.entries (bound_used i.weight r.lower r.upper)) o) (AddsNothing forms)
+    go : (o : Option Row) → IfSome o (λ r. Ties forms (i.index - length p.rows) r) → IfSome (option_and_then (λ (r : Row). term i.weight r.entries (bound_used i.weight r.lower r.upper)) o) (AddsNothing (with_values forms))
     go None t = tt
     go (Some r) t =
         let j = i.index - length p.rows in
         rw (t.tying.lower, t.tying.upper) (nothing r.entries (is_less zero_ℚ i.weight) (λ y. ap (value_at (with_values forms y)) t.tying.entries ∙ tied_value forms y j (get_or forms j []) t.within refl))
 
-rows_restored : (p q : Problem) (forms : List (List Entry)) → IsExtended p forms q → (is : List Item) (o r : Option (List Weighted)) → Restores forms o r → Restores forms (gathered (row_term q) is o) (gathered (row_term p) (first_items (length p.rows) is) r)
+rows_restored : (p q : Problem) (forms : List (List Entry)) → IsExtended p forms q → (is : List Item) (o r : Option (List Weighted)) → Restores (with_values forms) o r → Restores (with_values forms) (gathered (row_term q) is o) (gathered (row_term p) (first_items (length p.rows) is) r)
 rows_restored p q forms h [] o r k = k
 rows_restored p q forms h (i ∷ is) o r k = go (nat_lt i.index (length p.rows)) refl (rows_restored p q forms h is o r k)
   where
-    go : (b : Bool) → nat_lt i.index (length p.rows) ≡ b → Restores forms (gathered (row_term q) is o) (gathered (row_term p) (first_items (length p.rows) is) r) → Restores forms (joined (row_term q i) (gathered (row_term q) is o)) (gathered (row_term p) (if b then i ∷ first_items (length p.rows) is else first_items (length p.rows) is) r)
-    go true e t = joined_restored forms (row_term q i) (row_term p i) _ _ (row_before p q forms h i (ltb-true _ _ e)) t
-    go false e t = joined_nothing forms (row_term q i) _ _ (row_behind p q forms h i (ltb-false _ _ e)) t
+    go : (b : Bool) → nat_lt i.index (length p.rows) ≡ b → Restores (with_values forms) (gathered (row_term q) is o) (gathered (row_term p) (first_items (length p.rows) is) r) → Restores (with_values forms) (joined (row_term q i) (gathered (row_term q) is o)) (gathered (row_term p) (if b then i ∷ first_items (length p.rows) is else first_items (length p.rows) is) r)
+    go true e t = joined_restored (with_values forms) (row_term q i) (row_term p i) _ _ (row_before p q forms h i (ltb-true _ _ e)) t
+    go false e t = joined_nothing (with_values forms) (row_term q i) _ _ (row_behind p q forms h i (ltb-false _ _ e)) t
 
 -- ---- columns
 
@@ -125,19 +65,19 @@ column_before p q forms h i k = go (slice_get q.columns i.index) (is_less zero_�
     go (Some c) true t = let e = t.lower in rw e refl
     go (Some c) false t = let e = t.upper in rw e refl
 
-column_later : (p q : Problem) (forms : List (List Entry)) → IsExtended p forms q → (i : Item) → length forms ≤ i.index → TermRestores forms (column_term q [] i) (column_term p [] (record { index = i.index - length forms; weight = i.weight }))
+column_later : (p q : Problem) (forms : List (List Entry)) → IsExtended p forms q → (i : Item) → length forms ≤ i.index → TermRestores (with_values forms) (column_term q [] i) (column_term p [] (record { index = i.index - length forms; weight = i.weight }))
 column_later p q forms h i k =
     let there : Item = record { index = i.index - length forms; weight = i.weight } in
     rw (column_of_problem p q forms h i.index k)
-    (same_term forms i.weight (column_form i.index) (column_form (i.index - length forms)) (bound_of p there) (λ y. sym (column_value (with_values forms y) i.index ∙ ap (value_at y) (column_behind forms i.index k))))
+    (same_term (with_values forms) i.weight (column_form i.index) (column_form (i.index - length forms)) (bound_of p there) (λ y. sym (column_value (with_values forms y) i.index ∙ ap (value_at y) (column_behind forms i.index k))))
 
-columns_restored : (p q : Problem) (forms : List (List Entry)) → IsExtended p forms q → (is : List Item) (o r : Option (List Weighted)) → Restores forms o r → Restores forms (gathered (column_term q []) is o) (gathered (column_term p []) (items_behind (length forms) is) r)
+columns_restored : (p q : Problem) (forms : List (List Entry)) → IsExtended p forms q → (is : List Item) (o r : Option (List Weighted)) → Restores (with_values forms) o r → Restores (with_values forms) (gathered (column_term q []) is o) (gathered (column_term p []) (items_behind (length forms) is) r)
 columns_restored p q forms h [] o r k = k
 columns_restored p q forms h (i ∷ is) o r k = go (nat_lt i.index (length forms)) refl (columns_restored p q forms h is o r k)
   where
-    go : (b : Bool) → nat_lt i.index (length forms) ≡ b → Restores forms (gathered (column_term q []) is o) (gathered (column_term p []) (items_behind (length forms) is) r) → Restores forms (joined (column_term q [] i) (gathered (column_term q []) is o)) (gathered (column_term p []) (if b then items_behind (length forms) is else record { index = i.index - length forms; weight = i.weight } ∷ items_behind (length forms) is) r)
+    go : (b : Bool) → nat_lt i.index (length forms) ≡ b → Restores (with_values forms) (gathered (column_term q []) is o) (gathered (column_term p []) (items_behind (length forms) is) r) → Restores (with_values forms) (joined (column_term q [] i) (gathered (column_term q []) is o)) (gathered (column_term p []) (if b then items_behind (length forms) is else record { index = i.index - length forms; weight = i.weight } ∷ items_behind (length forms) is) r)
     go true e t = rw (column_before p q forms h i (ltb-true _ _ e)) tt
-    go false e t = joined_restored forms (column_term q [] i) (column_term p [] (record { index = i.index - length forms; weight = i.weight })) _ _ (column_later p q forms h i (ltb-false _ _ e)) t
+    go false e t = joined_restored (with_values forms) (column_term q [] i) (column_term p [] (record { index = i.index - length forms; weight = i.weight })) _ _ (column_later p q forms h i (ltb-false _ _ e)) t
 
 -- ---- splits
 
@@ -152,9 +92,9 @@ restored_side forms (High s) = High (restored_split forms s)
 split_value : (forms : List (List Entry)) (s : Split) → s.form ≡ column_form (split_column s) → (y : ℕ → Rational) → value_at y (restored_split forms s).form ≡ value_at (with_values forms y) s.form
 split_value forms s h y = sym (ap (value_at (with_values forms y)) h ∙ column_value (with_values forms y) (split_column s))
 
-side_term_restored : (forms : List (List Entry)) (w : Rational) (s : Side) → IsOfColumn s → TermRestores forms (term w (side_form s) (Some (side_bound s))) (term w (side_form (restored_side forms s)) (Some (side_bound (restored_side forms s))))
-side_term_restored forms w (Low s) h = same_term forms w (scaled (whole (negsuc 0)) s.form) (scaled (whole (negsuc 0)) (restored_split forms s).form) (Some (side_bound (Low s))) (λ y. value-scaled y (whole (negsuc 0)) (restored_split forms s).form ∙ ap (λ v. whole (negsuc 0) *ℚ v) (split_value forms s h y) ∙ sym (value-scaled (with_values forms y) (whole (negsuc 0)) s.form))
-side_term_restored forms w (High s) h = same_term forms w s.form (restored_split forms s).form (Some (side_bound (High s))) (split_value forms s h)
+side_term_restored : (forms : List (List Entry)) (w : Rational) (s : Side) → IsOfColumn s → TermRestores (with_values forms) (term w (side_form s) (Some (side_bound s))) (term w (side_form (restored_side forms s)) (Some (side_bound (restored_side forms s))))
+side_term_restored forms w (Low s) h = same_term (with_values forms) w (scaled (whole (negsuc 0)) s.form) (scaled (whole (negsuc 0)) (restored_split forms s).form) (Some (side_bound (Low s))) (λ y. value-scaled y (whole (negsuc 0)) (restored_split forms s).form ∙ ap (λ v. whole (negsuc 0) *ℚ v) (split_value forms s h y) ∙ sym (value-scaled (with_values forms y) (whole (negsuc 0)) s.form))
+side_term_restored forms w (High s) h = same_term (with_values forms) w s.form (restored_split forms s).form (Some (side_bound (High s))) (split_value forms s h)
 
 way_restored : (forms : List (List Entry)) (sides : List Side) (i : ℕ) → way_get (map (restored_side forms) sides) i ≡ option_map (restored_side forms) (way_get sides i)
 way_restored forms [] i = refl
@@ -172,27 +112,27 @@ way_of_column (s ∷ sides) h i = go (i == length sides) (way_of_column sides h.
     go true k = h.0
     go false k = k
 
-split_restored : (forms : List (List Entry)) (sides : List Side) → AllByRecursion IsOfColumn sides → (i : Item) → TermRestores forms (split_term sides i) (split_term (map (restored_side forms) sides) i)
+split_restored : (forms : List (List Entry)) (sides : List Side) → AllByRecursion IsOfColumn sides → (i : Item) → TermRestores (with_values forms) (split_term sides i) (split_term (map (restored_side forms) sides) i)
 split_restored forms sides h i = rw (way_restored forms sides i.index) (go (is_less zero_ℚ i.weight) (way_get sides i.index) (way_of_column sides h i.index))
   where
-    go : (b : Bool) (o : Option Side) → IfSome o IsOfColumn → TermRestores forms (if b then option_and_then (λ s. term i.weight (side_form s) (Some (side_bound s))) o else None) (if b then option_and_then (λ s. term i.weight (side_form s) (Some (side_bound s))) (option_map (restored_side forms) o) else None)
+    go : (b : Bool) (o : Option Side) → IfSome o IsOfColumn → TermRestores (with_values forms) (if b then option_and_then (λ s. term i.weight (side_form s) (Some (side_bound s))) o else None) (if b then option_and_then (λ s. term i.weight (side_form s) (Some (side_bound s))) (option_map (restored_side forms) o) else None)
     go true None k = tt
     go true (Some s) k = side_term_restored forms i.weight s k
     go false o k = tt
 
 -- ---- all weights of a leaf
 
-no_derived : (forms : List (List Entry)) (i : Item) → TermRestores forms (derived_term [] i) (derived_term [] i)
+no_derived : (forms : List (List Entry)) (i : Item) → TermRestores (with_values forms) (derived_term [] i) (derived_term [] i)
 no_derived forms i = go (is_less zero_ℚ i.weight)
   where
-    go : (b : Bool) → TermRestores forms (if b then None else None) (if b then None else None)
+    go : (b : Bool) → TermRestores (with_values forms) (if b then None else None) (if b then None else None)
     go true = tt
     go false = tt
 
-pub terms_restored : (p q : Problem) (forms : List (List Entry)) → IsExtended p forms q → (sides : List Side) → AllByRecursion IsOfColumn sides → (w : Weights) → Restores forms (terms q [] [] sides w) (terms p [] [] (map (restored_side forms) sides) (restored_weights p forms w))
+pub terms_restored : (p q : Problem) (forms : List (List Entry)) → IsExtended p forms q → (sides : List Side) → AllByRecursion IsOfColumn sides → (w : Weights) → Restores (with_values forms) (terms q [] [] sides w) (terms p [] [] (map (restored_side forms) sides) (restored_weights p forms w))
 terms_restored p q forms h sides k w =
     rows_restored p q forms h w.rows _ _
     (columns_restored p q forms h w.columns _ _
-    (gathered_restored forms (derived_term []) (derived_term []) w.derived _ _ (no_derived forms)
-    (gathered_restored forms (split_term sides) (split_term (map (restored_side forms) sides)) w.splits (Some []) (Some []) (split_restored forms sides k)
+    (gathered_restored (with_values forms) (derived_term []) (derived_term []) w.derived _ _ (no_derived forms)
+    (gathered_restored (with_values forms) (split_term sides) (split_term (map (restored_side forms) sides)) w.splits (Some []) (Some []) (split_restored forms sides k)
     (record { value = λ y. refl; bound = refl }))))

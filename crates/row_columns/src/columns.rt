@@ -63,8 +63,8 @@ pub(crate) fn add_form_columns(
     Ok(())
 }
 
-/// These columns, behind those that are there.
-pub(crate) fn add_columns(
+/// These columns, behind those that are there. Where there would be more than a problem may have, memory counts as wanting.
+pub fn add_columns(
     alloc: Global,
     builder: &mut Builder,
     columns: &[Column],

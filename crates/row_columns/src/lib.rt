@@ -15,7 +15,10 @@ mod rows;
 mod scaling;
 mod weights;
 
+pub use columns::add_columns;
 pub use extending::{Extension, with_row_columns};
 pub use forms::Forms;
 pub use laws::{points_extend, restored_prove};
+pub use names::{new_name, prefix};
 pub use restoring::restore;
+pub use weights::{first_items, items_behind};

@@ -46,7 +46,7 @@ fn run(alloc: Global, count: usize) -> Result<String, AllocError>
 }
 
 /// A text that is as long as the longest name of a column or row.
-pub(crate) fn prefix(alloc: Global, problem: &Instance) -> Result<String, AllocError>
+pub fn prefix(alloc: Global, problem: &Instance) -> Result<String, AllocError>
     ensures columns { IfOk result (λ text. AreWithin (length (string_bytes text)) (column_names problem.now.columns)) }
     ensures rows { IfOk result (λ text. AreWithin (length (string_bytes text)) (row_names problem.now.rows)) }
 {
@@ -55,8 +55,8 @@ pub(crate) fn prefix(alloc: Global, problem: &Instance) -> Result<String, AllocE
     run(alloc, larger(columns, rows))
 }
 
-/// The name of the column at this place, and of the row that ties it.
-pub(crate) fn new_name(alloc: Global, prefix: &str, place: usize) -> Result<Name, AllocError>
+/// The name of the new column or row at this place: with such a prefix it is longer than all names of the problem.
+pub fn new_name(alloc: Global, prefix: &str, place: usize) -> Result<Name, AllocError>
     ensures { IfOk result (λ name. name ≡ new_name prefix.now place) }
 {
     let text = format!(in alloc; "{prefix}{place}")?;

@@ -26,8 +26,8 @@ pub(crate) fn restored_weights(
     Ok(LeafWeights::new(Weights::new(rows, columns, derived), splits))
 }
 
-// The weights of indices below `count`.
-fn first_items(alloc: Global, count: usize, items: &Items) -> Result<Items, AllocError>
+/// The weights of indices below `count`.
+pub fn first_items(alloc: Global, count: usize, items: &Items) -> Result<Items, AllocError>
     ensures { IfOk result (λ made. made ≡ first_items count items.now) }
 {
     let mut made = Items::new(alloc);
@@ -50,8 +50,8 @@ fn add_first(made: &mut Items, count: usize, item: Item) -> Result<(), AllocErro
     }
 }
 
-// The weights of indices from `count` on, which count from there.
-fn items_behind(alloc: Global, count: usize, items: &Items) -> Result<Items, AllocError>
+/// The weights of indices from `count` on, which count from there.
+pub fn items_behind(alloc: Global, count: usize, items: &Items) -> Result<Items, AllocError>
     ensures { IfOk result (λ made. made ≡ items_behind count items.now) }
 {
     let mut made = Items::new(alloc);

@@ -1,7 +1,8 @@
 use Rattle.std.proofs.Common.{◌≤◌, List, length, arith}
-use Rattle.verdicts.specs.Certificate.{TreeNode}
 use Rattle.certificate.specs.declared.tree.TreeNode.{TreeNode as Node}
-use Rattle.row_columns.proofs.RestoredTree.{tree_again, of_columns, all_made}
+use Rattle.row_columns.specs.Restored.{restored_node}
+use Rattle.row_columns.proofs.RemadeTrees.{tree_made}
+use Rattle.row_columns.proofs.RestoredTree.{of_columns, same_opened}
 use Rattle.row_columns.proofs.nodes.restored_tree.Goals as goal
 
 pub restored_node-requires : goal.restored_node-requires
@@ -9,7 +10,6 @@ restored_node-requires c = of_columns c.args.tree.now c.as_slice-nodes.result.no
 
 pub returns-clause-whole : goal.returns-clause-whole
 returns-clause-whole c =
-    let tree : List TreeNode = c.args.tree.now in
     let nodes : List Node = c.as_slice-nodes.result.now in
     let all : length nodes ≤ c.loop-node.node-index = omega (arith, c.loop-node-test.false) in
-    tree_again c.args.problem.now c.args.forms.now tree c.loop-node.made c.requires.whole (all_made c.args.problem.now c.args.forms.now tree nodes c.loop-node.node-index c.loop-node.made c.as_slice-nodes.ensures.nodes all c.loop-node.invariant)
+    tree_made (restored_node c.args.problem.now c.args.forms.now) (same_opened c.args.problem.now c.args.forms.now) c.args.tree.now nodes c.loop-node.node-index c.loop-node.made c.as_slice-nodes.ensures.nodes all c.loop-node.invariant c.requires.whole

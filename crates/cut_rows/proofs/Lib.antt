@@ -1,0 +1,6 @@
+mod CutRows
+mod CutParts
+mod CutPoints
+mod ShownCuts
+mod RestoredLeaves
+mod RestoredCertificates

@@ -1,0 +1,3 @@
+pub mod CutProblem
+pub mod Cutting
+pub mod Restored
