@@ -12,7 +12,7 @@ use Rattle.command_line.specs.declared.settings.Settings.{Settings}
 use Rattle.command_line.specs.declared.settings.Task.TheVariants.{Solve}
 
 abbrev pub plain_settings : Settings
-plain_settings = record { language = FreeMps; model = Some (codes "model"); data_files = []; display = None; direction = None; relaxed = false; split_limit = 10000; pivot_limit = 100000; workers = 1; task = Solve (record { report = None; solution = None; certificate = None; subset = false; row_splits = false; ranges = None; summary = false }) }
+plain_settings = record { language = FreeMps; model = Some (codes "model"); data_files = []; display = None; direction = None; relaxed = false; split_limit = 10000; pivot_limit = 100000; workers = 1; task = Solve (record { report = None; solution = None; certificate = None; subset = false; row_splits = false; cuts = false; ranges = None; summary = false }) }
 
 pub plain_words : settings_of (codes "--freemps" ∷ codes "model" ∷ []) ≡ Some plain_settings
 unfolding is_taken given command walk_fault walked defaults_fault

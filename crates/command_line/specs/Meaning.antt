@@ -73,8 +73,8 @@ direction_by false false = Some None
 abbrev pub direction_in : List Row → Option (Option Direction)
 direction_in rows = direction_by (stands (codes "min") rows) (stands (codes "max") rows)
 
--- the files to be written, that of the ranges among them, whether a subset is to be found, whether the search may split on rows, and
--- whether the report is a summary
+-- the files to be written, that of the ranges among them, whether a subset is to be found, whether the search may split on rows and use
+-- cuts, and whether the report is a summary
 abbrev pub outputs_in : List Row → Outputs
 outputs_in rows = record {
   report = first_of (codes "output") rows;
@@ -82,13 +82,14 @@ outputs_in rows = record {
   certificate = first_of (codes "cert") rows;
   subset = stands (codes "iis") rows;
   row_splits = stands (codes "rowsplit") rows;
+  cuts = stands (codes "gomory") rows;
   ranges = first_of (codes "ranges-exact") rows;
   summary = is_some (first_of (codes "demo") rows);
 }
 
 -- the task, where no report, no solution, no ranges, no subset and no search is asked for
 abbrev pub unsolved : Outputs → Task → Option Task
-unsolved outputs task = option_map_or (λ _. None) outputs.report (option_map_or (λ _. None) outputs.solution (option_map_or (λ _. None) outputs.ranges (if outputs.subset || outputs.row_splits then None else Some task)))
+unsolved outputs task = option_map_or (λ _. None) outputs.report (option_map_or (λ _. None) outputs.solution (option_map_or (λ _. None) outputs.ranges (if (outputs.subset || outputs.row_splits) || outputs.cuts then None else Some task)))
 
 -- the task, where no file is to be written, no subset to be found, and no search to be made
 abbrev pub alone : Outputs → Task → Option Task
@@ -104,8 +105,8 @@ task_by false (Some file) outputs = checking file outputs
 task_by true None outputs = alone outputs Translate
 task_by true (Some file) outputs = None
 
--- `--check` stands with no file to be written, `--checkcert` with that of `--cert` alone, both without `--iis` and `--rowsplit`,
--- and not together
+-- `--check` stands with no file to be written, `--checkcert` with that of `--cert` alone, both without `--iis`, `--rowsplit`
+-- and `--gomory`, and not together
 abbrev pub task_in : List Row → Option Task
 task_in rows = task_by (stands (codes "check") rows) (first_of (codes "checkcert") rows) (outputs_in rows)
 

@@ -50,6 +50,7 @@ rules = file_rule
     ∷ option_rule (codes "demo")
     ∷ flag_rule (codes "iis")
     ∷ flag_rule (codes "rowsplit")
+    ∷ flag_rule (codes "gomory")
     ∷ option_rule (codes "ranges-exact")
     ∷ []
 

@@ -50,6 +50,7 @@ fn command<'a>(alloc: Global) -> Result<Command<'a>, AllocError>
         .arg(option(alloc, "demo"))?
         .arg(flag(alloc, "iis"))?
         .arg(flag(alloc, "rowsplit"))?
+        .arg(flag(alloc, "gomory"))?
         .arg(option(alloc, "ranges-exact"))
 }
 

@@ -249,7 +249,7 @@ fn alone(outputs: Outputs, task: Task) -> Option<Task>
         outputs.solution,
         outputs.certificate,
         outputs.ranges,
-        outputs.subset || outputs.row_splits,
+        outputs.subset || outputs.row_splits || outputs.cuts,
     ) {
         (None, None, None, None, false) => Some(task),
         _ => None,
@@ -265,7 +265,7 @@ fn checking(certificate: Name, outputs: Outputs) -> Option<Task>
         outputs.report,
         outputs.solution,
         outputs.ranges,
-        outputs.subset || outputs.row_splits,
+        outputs.subset || outputs.row_splits || outputs.cuts,
     ) {
         (None, None, None, false) => Some(Task::CheckCertificate {
             certificate,
@@ -362,6 +362,7 @@ fn outputs_in(alloc: Global, matches: &ArgMatches<'_>) -> Result<Outputs, AllocE
         certificate: name_in(alloc, matches, "cert")?,
         subset: stands(matches, "iis"),
         row_splits: stands(matches, "rowsplit"),
+        cuts: stands(matches, "gomory"),
         ranges: name_in(alloc, matches, "ranges-exact")?,
         summary: value_in(matches, "demo").is_some(),
     })

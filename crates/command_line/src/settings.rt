@@ -75,6 +75,8 @@ pub struct Outputs {
     pub subset: bool,
     /// The search may split on the whole forms of rows, and does so first.
     pub row_splits: bool,
+    /// The search may use Gomory's cuts of its root.
+    pub cuts: bool,
     /// The file of the exact ranges of costs and bounds, at a best point.
     pub ranges: Option<Name>,
     /// The report is a summary, without names and points.

@@ -40,7 +40,7 @@ module _ (text : List ℕ) (p : Problem) (count : ℕ) (declares : declared text
 
   -- what holds of a problem that is searched holds of what is searched of this one
   of_this : (wanted : Wanted) (P : Problem → Settings → Type 0) → OfSearch wanted P plain_settings (text ∷ []) → IsWanted p wanted × P (searched p wanted) plain_settings
-  of_this wanted P h = subst (λ q. IsWanted q wanted × P (searched q wanted) plain_settings) (h.is_searched ∙ declared_same h.problem p (sym h.asked ∙ asked)) (h.is_wanted, h.holds)
+  of_this wanted P h = subst (λ q. IsWanted q wanted × P (searched q wanted) plain_settings) (h.is_searched.is_searched ∙ h.is_searched.may_have_cuts ∙ declared_same h.problem p (sym h.asked ∙ asked)) (h.is_wanted, h.holds)
 
   -- no subset is wanted
   none_wanted : wants_subset plain_settings.task ≡ true → ⊥

@@ -13,7 +13,7 @@ use Rattle.gmpl_reader.specs.declared.read.ReadingEnd.{ReadingEnd}
 use Rattle.gmpl_reader.specs.declared.read.ReadingEnd.TheVariants as reading_end
 use Rattle.verdicts.specs.Certificate.{Certificate, Verdict, Optimal, Infeasible, Unbounded}
 use Rattle.branch_search.specs.Plain.{NoneInteger, IsPlainCertificate}
-use Rattle.row_splits.specs.Searched.{IsFaultOf}
+use Rattle.cut_search.specs.Searched.{IsFaultOf}
 use Rattle.branch_search.specs.declared.whole_fault.VerdictFault.{VerdictFault}
 use Rattle.branch_search.specs.declared.whole_fault.VerdictFault.TheVariants.{NoFit as SearchNoFit, PivotLimit, SplitLimit, NoMemory as SearchNoMemory}
 use Rattle.infeasible_subset.specs.declared.fault.SubsetFault.TheVariants.{NoFit as SubsetNoFit, PivotLimit as SubsetPivotLimit, NoMemory as SubsetNoMemory}
@@ -24,7 +24,7 @@ use Rattle.command_line.specs.declared.settings.Settings.{Settings}
 use Rattle.command_line.specs.declared.settings.Task.{Task}
 use Rattle.command_line.specs.declared.settings.Task.TheVariants.{Solve, CheckCertificate}
 use Rattle.glpsol_cli.proofs.FilesRead.{many_sources}
-use Rattle.glpsol_cli.specs.Asked.{Checks, Solves, IsSolve, names_checked, sources_of, splits_rows, wants_subset}
+use Rattle.glpsol_cli.specs.Asked.{Checks, Solves, IsSolve, names_checked, sources_of, splits_rows, uses_cuts, wants_subset}
 use Rattle.glpsol_cli.specs.Meaning.{Declared, Faulty, Wanting, IsAsked, asked_of, directed, end_of_ending, ends_in, file_piece, file_pieces, files_by, lacks_subset, made_in, relaxed, shown_by}
 use Rattle.glpsol_cli.specs.Cause.{IsProved, OfCertificate, IsNoCertificate, IsRefusedAt, IsCheckOverflow}
 use Rattle.glpsol_cli.specs.Stages.{IsFinding, IsRangeable, IsRefuted, IsSolution, IsUnfound, IsUnsolved, IsExecution, IsExecutionOf, IsHalt, IsOfReading, IsOfReadingEnd, IsCheckStop, OfNext}
@@ -129,7 +129,7 @@ module _ {X : Type 0} (f : X → List ℕ) (s : Settings) (xs others taken : Lis
 -- ---- solving
 
 module _ (s : Settings) (texts : List (List ℕ)) (p : Problem) (asks : IsAsked s texts p) (solves : Solves s) where
-  unsearched : (fault : VerdictFault) → IsFaultOf (splits_rows s.task) p s.split_limit s.pivot_limit fault → IsUnfound (SolveStop fault) s texts
+  unsearched : (fault : VerdictFault) → IsFaultOf (uses_cuts s.task) (splits_rows s.task) p s.split_limit s.pivot_limit fault → IsUnfound (SolveStop fault) s texts
   unsearched (SearchNoFit wanted site) h = record { problem = p; asked = asks; solves = solves; searches = h.0; is_searched = h.1; is_wanted = h.2.0; holds = h.2.1 }
   unsearched (PivotLimit wanted bases) h = record { problem = p; asked = asks; solves = solves; searches = h.0; is_searched = h.1; is_wanted = h.2.0; holds = h.2.1 }
   unsearched (SplitLimit wanted board) h = record { problem = p; asked = asks; solves = solves; searches = h.0; is_searched = h.1; is_wanted = h.2.0; holds = h.2.1 }

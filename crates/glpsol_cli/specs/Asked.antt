@@ -65,6 +65,12 @@ splits_rows (Solve outputs) = outputs.row_splits
 splits_rows Translate = false
 splits_rows (CheckCertificate name migrated) = false
 
+-- a search may use cuts of its root
+abbrev pub uses_cuts : Task → Bool
+uses_cuts (Solve outputs) = outputs.cuts
+uses_cuts Translate = false
+uses_cuts (CheckCertificate name migrated) = false
+
 -- the report is a summary, without names and points
 abbrev pub wants_summary : Task → Bool
 wants_summary (Solve outputs) = outputs.summary

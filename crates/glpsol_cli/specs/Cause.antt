@@ -14,7 +14,7 @@ use Rattle.branch_search.specs.Plain.{NoneInteger}
 use Rattle.gmpl_generate.specs.declared.fault.ModelFault.{ModelFault}
 use Rattle.branch_search.specs.WholeFaults.{IsWanted, searched}
 use Rattle.branch_search.specs.declared.whole_fault.Wanted.{Wanted}
-use Rattle.row_splits.specs.Searched.{IsSearched}
+use Rattle.cut_search.specs.Searched.{IsSearched}
 use Rattle.certificate_reader.specs.Reading.{read_of}
 use Rattle.certificate_lines.specs.declared.fault.CertFault.{CertFault}
 use Rattle.cert_check.specs.Outcome.{Acceptance as Accepting, Fault, outcome, trials, part_of}
@@ -34,7 +34,7 @@ use Rattle.dual_values.specs.Duals.{duals_of}
 use Rattle.outside.specs.Told.{Lacks, Has}
 use Rattle.command_line.specs.Meaning.{settings_of}
 use Rattle.command_line.specs.declared.settings.Settings.{Settings}
-use Rattle.glpsol_cli.specs.Asked.{ToldNames, Solves, Translates, Checks, splits_rows, wants_linear, wants_ranges, wants_subset}
+use Rattle.glpsol_cli.specs.Asked.{ToldNames, Solves, Translates, Checks, splits_rows, uses_cuts, wants_linear, wants_ranges, wants_subset}
 use Rattle.glpsol_cli.specs.Meaning.{Meaning, IsAsked, IsRefused, HasDone, meaning_of}
 use Rattle.glpsol_cli.specs.Texts.{OfFile, OfTexts}
 use Rattle.glpsol_cli.specs.declared.answer.Answer.{Answer}
@@ -210,15 +210,15 @@ IsNoCertificate fault p bytes = read_of bytes ≡ Err fault
 
 -- ---- problems that are not solved
 
--- P of the problem that is searched, and of the settings: the one that is asked about, or one with columns for rows where
--- splits on rows are asked for, where a best point is wanted; where any point is wanted, since a ray improves it, the same
--- without its objective
+-- P of the problem that is searched, and of the settings: the one that is asked about, or one with rows for cuts of its root
+-- where cuts are asked for, or one with columns for rows where splits on rows are asked for, where a best point is wanted;
+-- where any point is wanted, since a ray improves it, the same without its objective
 pub record OfSearch (wanted : Wanted) (P : Problem → Settings → Type 0) (s : Settings) (texts : List (List ℕ)) : Type 0 where
   pub problem : Problem
   pub asked : IsAsked s texts problem
   pub solves : Solves s
   pub searches : Problem
-  pub is_searched : IsSearched (splits_rows s.task) problem searches
+  pub is_searched : IsSearched (uses_cuts s.task) (splits_rows s.task) problem searches
   pub is_wanted : IsWanted searches wanted
   pub holds : P (searched searches wanted) s
 

@@ -20,7 +20,7 @@ use Rattle.exact_ranges.specs.Ranges.{AllRanges}
 use Rattle.exact_ranges.specs.Text.{ranges_text}
 use Rattle.exact_ranges.specs.ShownBest.{best_point, best_weights}
 use Rattle.exact_ranges.specs.declared.fault.RangeFault.{RangeFault}
-use Rattle.row_splits.specs.Searched.{IsFaultOf as IsSearchFault}
+use Rattle.cut_search.specs.Searched.{IsFaultOf as IsSearchFault}
 use Rattle.branch_search.specs.declared.whole_fault.VerdictFault.{VerdictFault}
 use Rattle.branch_search.specs.declared.whole_fault.VerdictFault.TheVariants.{NoFit as SearchNoFit, PivotLimit, SplitLimit, NoMemory as SearchNoMemory}
 use Rattle.infeasible_subset.specs.Faults.{IsFault as IsSubsetFault}
@@ -39,7 +39,7 @@ use Rattle.command_line.specs.declared.settings.WordsFault.{WordsFault}
 use Rattle.command_line.specs.declared.settings.WordsFault.TheVariants.{Usage as WordsUsage, NoMemory as WordsNoMemory}
 use Rattle.solution_writer.specs.Report.{IsReportable}
 use Rattle.outside.specs.Causes.{Rose}
-use Rattle.glpsol_cli.specs.Asked.{ToldNames, AreTexts, AreThere, IsInTurn, Solves, Translates, sources_of, ranges_file, splits_rows, wants_linear, wants_ranges, wants_subset}
+use Rattle.glpsol_cli.specs.Asked.{ToldNames, AreTexts, AreThere, IsInTurn, Solves, Translates, sources_of, ranges_file, splits_rows, uses_cuts, wants_linear, wants_ranges, wants_subset}
 use Rattle.glpsol_cli.specs.Pieces.{Piece, Outside, AllWritten, SameNames, Says, WrittenUpTo, SomeWritten, IsFileInPart, IsWritten, IsWrittenInPart, told_behind}
 use Rattle.glpsol_cli.specs.Meaning.{Behind, Declared, Faulty, Wanting, Meaning, HasDone, asked_of, behind_of, displayed, ends_in, file_pieces, files_behind, files_by, found_pieces, lacks_subset, made_in, meaning_in, meaning_of, nothing_behind, saved_in, shown_by}
 use Rattle.glpsol_cli.specs.Texts.{AreTables, OfTexts, OfPieces}
@@ -253,7 +253,7 @@ pub record IsRefuted (p : Problem) : Type 0 where
 
 -- why no solution of a problem is found, or no subset that is wanted
 abbrev pub IsUnsolved : Problem → Settings → Unfound → Type 0
-IsUnsolved p s (Solve fault) = IsSearchFault (splits_rows s.task) p s.split_limit s.pivot_limit fault
+IsUnsolved p s (Solve fault) = IsSearchFault (uses_cuts s.task) (splits_rows s.task) p s.split_limit s.pivot_limit fault
 IsUnsolved p s (Check stop) = ⊥
 IsUnsolved p s (Subset fault) = (wants_subset s.task ≡ true) × IsRefuted p × IsSubsetFault p s.pivot_limit fault
 IsUnsolved p s IsIntegral = (wants_linear s.task ≡ true) × ¬ (NoneInteger p.columns)

@@ -4,12 +4,12 @@ ghost use Rattle.milp.specs.Problem.{Problem};
 ghost use Rattle.verdicts.specs.Proves.{Proves};
 ghost use Rattle.verdicts.specs.Certificate.{Infeasible as is_infeasible};
 ghost use Rattle.branch_search.specs.Plain.{NoneInteger, IsPlainCertificate};
-ghost use Rattle.row_splits.specs.Searched.{IsFaultOf};
+ghost use Rattle.cut_search.specs.Searched.{IsFaultOf};
 ghost use Rattle.infeasible_subset.specs.Faults.{IsFault as IsSubsetFault};
 ghost use Rattle.certificate_reader.specs.Reading.{read_of};
 ghost use Rattle.cert_check.specs.Outcome.{Acceptance, outcome, trials};
 ghost use Rattle.command_line.specs.declared.settings.Task.TheVariants.{Solve};
-ghost use Rattle.glpsol_cli.specs.Asked.{sources_of, splits_rows, wants_linear, wants_subset};
+ghost use Rattle.glpsol_cli.specs.Asked.{sources_of, splits_rows, uses_cuts, wants_linear, wants_subset};
 ghost use Rattle.glpsol_cli.specs.Meaning.{IsAsked};
 ghost use Rattle.glpsol_cli.specs.Cause.{IsAccepted, IsSubsetOf};
 ghost use Rattle.glpsol_cli.specs.Stages.{IsFinding, IsUnfound, IsSolution, IsSubsetFinding, IsUnsolved, IsCheckStop, OfNext, texts_in};
@@ -22,9 +22,9 @@ use cert_check::{Checked, check};
 use certificate::{Certificate, Verdict};
 use certificate_reader::CertError;
 use command_line::{Outputs, Settings, Task};
+use cut_search::{Plan, solve};
 use infeasible_subset::{Subset, SubsetFault, subset};
 use instance::Instance;
-use row_splits::solve;
 use shared_search::OpenGate;
 use sqlite_items::Boxed;
 use std::alloc::{AllocError, Global};
@@ -215,22 +215,34 @@ fn solved<T: Threads + Sync>(
 ) -> Result<Boxed<Certificate>, VerdictFault>
     ensures proves { IfOk result (λ c. Proves problem.now c × (outcome (trials problem.now c) ≡ Acceptance)) }
     ensures plain { NoneInteger problem.now.columns → IfOk result (λ c. IsPlainCertificate problem.now c) }
-    ensures fault { IfErr result (IsFaultOf (splits_rows settings.now.task) problem.now settings.now.split_limit settings.now.pivot_limit) }
+    ensures fault { IfErr result (IsFaultOf (uses_cuts settings.now.task) (splits_rows settings.now.task) problem.now settings.now.split_limit settings.now.pivot_limit) }
 {
-    let by_rows = splits_rows(&settings.task);
-    let splits = settings.split_limit as usize;
-    match solve(
-        rt,
-        alloc,
-        problem,
-        by_rows,
-        splits,
-        settings.pivot_limit,
-        settings.workers,
-        &OpenGate,
-    ) {
+    match solve(rt, alloc, problem, plan_of(settings), &OpenGate) {
         Ok(certificate) => Ok(Boxed::new(alloc, certificate)?),
         Err(fault) => Err(fault),
+    }
+}
+
+// How the verdict is searched for.
+fn plan_of(settings: &Settings) -> Plan
+    ensures { result ≡ record { cuts = uses_cuts settings.now.task; row_splits = splits_rows settings.now.task; split_limit = settings.now.split_limit; pivot_limit = settings.now.pivot_limit; workers = settings.now.workers } }
+{
+    Plan {
+        cuts: uses_cuts(&settings.task),
+        row_splits: splits_rows(&settings.task),
+        split_limit: settings.split_limit as usize,
+        pivot_limit: settings.pivot_limit,
+        workers: settings.workers,
+    }
+}
+
+// Whether a search may use cuts of its root.
+fn uses_cuts(task: &Task) -> bool
+    ensures { result ≡ uses_cuts task.now }
+{
+    match task {
+        Task::Solve(outputs) => outputs.cuts,
+        Task::Translate | Task::CheckCertificate { .. } => false,
     }
 }
 

@@ -77,19 +77,25 @@ fn made_problems(rt: HostRuntime) -> Result<(), Fail> {
     check(&rt, rt.alloc(), &Subject::Answers, MADE)
 }
 
-// Equations that splits of columns alone do not decide within these limits, and a relaxation. (`--rowsplit` does not stand with
-// `--checkcert`.)
-const BY_ROWS: &str = "\
+// Equations that splits of columns alone do not decide within these limits, and a relaxation; by splits on rows, and by cuts. (`--rowsplit`
+// and `--gomory` do not stand with `--checkcert`.)
+const BY_ROWS_AND_CUTS: &str = "\
 0 INFEASIBLE$ <- --lp f --rowsplit --nodlim 1 <- min$ x$st$ 2 x - 2 y = 1$general$ x y$end$
 0 INFEASIBLE$ <- --lp f --rowsplit --nodlim 1 <- min$ a$st$ 2 a + 2 b + 2 c + 2 d + 2 e + 2 f + 2 g + 2 h + 2 i + 2 j + 2 k + 2 l + 2 m + 2 n + 2 o + 2 p + 2 q + 2 r + 2 s + 2 t = 21$general$ a b c d e f g h i j k l m n o p q r s t$end$
 0 INFEASIBLE$ <- --lp f --rowsplit --nodlim 1 --workers 2 <- min$ x$st$ 2 x - 2 y = 1$general$ x y$end$
 4 UNDECIDED nodes$ <- --lp f --rowsplit --nodlim 0 <- min$ x$st$ 2 x - 2 y = 1$general$ x y$end$
 0 OPTIMAL$objective obj 1/2$column x 1/2$column y 0$row r.1 1$ <- --lp f --nomip --rowsplit --nodlim 0 <- min$ x$st$ 2 x - 2 y = 1$general$ x y$end$
+0 INFEASIBLE$ <- --lp f --gomory --nodlim 0 <- min$ x$st$ 2 x - 2 y = 1$general$ x y$end$
+0 INFEASIBLE$ <- --lp f --gomory --rowsplit --workers 2 --nodlim 0 <- min$ x$st$ 2 x - 2 y = 1$general$ x y$end$
+0 INFEASIBLE$ <- --lp f --gomory --nodlim 0 <- min$ a$st$ 2 a + 2 b + 2 c + 2 d + 2 e + 2 f + 2 g + 2 h + 2 i + 2 j + 2 k + 2 l + 2 m + 2 n + 2 o + 2 p + 2 q + 2 r + 2 s + 2 t = 21$general$ a b c d e f g h i j k l m n o p q r s t$end$
+0 OPTIMAL$objective obj 21$column a 0$column b 1$column c 1$column d 1$row r.1 14$ <- --lp f --gomory <- max$ 8 a + 11 b + 6 c + 4 d$st$ 5 a + 7 b + 4 c + 3 d <= 14$binary$ a b c d$end$
+0 OPTIMAL$objective obj 1/2$column x 1/2$column y 0$row r.1 1$ <- --lp f --nomip --gomory --nodlim 0 <- min$ x$st$ 2 x - 2 y = 1$general$ x y$end$
+0 OPTIMAL$objective 4$rows 3$columns 3$ <- --demo 3 --gomory
 ";
 
 #[test]
-fn programs_by_splits_on_rows(rt: HostRuntime) -> Result<(), Fail> {
-    check(&rt, rt.alloc(), &Subject::Answers, BY_ROWS)
+fn programs_by_splits_on_rows_and_cuts(rt: HostRuntime) -> Result<(), Fail> {
+    check(&rt, rt.alloc(), &Subject::Answers, BY_ROWS_AND_CUTS)
 }
 
 // What the program writes with `--cert` it accepts with `--checkcert`.

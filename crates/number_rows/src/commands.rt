@@ -114,6 +114,7 @@ fn push_task(text: &mut String, task: &Task) -> Result<(), AllocError> {
             push_want(text, &outputs.certificate)?;
             push_if(text, outputs.subset, ", subset")?;
             push_if(text, outputs.row_splits, ", row splits")?;
+            push_if(text, outputs.cuts, ", cuts")?;
             push_if(text, outputs.summary, ", summary")?;
             push_file(text, ", ranges ", &outputs.ranges)
         }

@@ -45,7 +45,8 @@ passes_so : (b : Bool) (o : Option Part) (part : Part) → (if b then o else Som
 passes_so true o part h = refl
 passes_so false o part h = cc
 
-own_size : (q : Problem) (c : Certificate) → Proves q c → c.columns ≡ length q.columns
+-- a certificate that proves its verdict has as many columns as the problem
+pub own_size : (q : Problem) (c : Certificate) → Proves q c → c.columns ≡ length q.columns
 own_size q c h =
     let both = and_parts (c.rows == length q.rows) (c.columns == length q.columns) (passes_so ((c.rows == length q.rows) && (c.columns == length q.columns)) (first_failing (verdict_tests q c c.verdict)) Part.Size h) in
     eqb-true c.columns (length q.columns) both.1

@@ -1,1 +1,2 @@
 mod ByRows
+pub mod Laws

@@ -2,7 +2,7 @@
 use crate::boards::played;
 use crate::certificates::{checked, deep, read_back};
 use crate::linear::{judged, solved};
-use crate::programs::{found_by_search, found_by_solve, shown_optimum, written_by_solve};
+use crate::programs::{SearchBy, found_by_search, found_by_solve, shown_optimum, written_by_solve};
 use crate::ranged::found_ranges;
 use crate::subsets::found_subset;
 use crate::texts::bytes_of;
@@ -59,10 +59,12 @@ fn of_problem<R: Threads + Sync>(
     match word {
         "check" => checked(alloc, problem, rest),
         "search" => found_by_search(alloc, problem, rest),
-        "solve" => found_by_solve(rt, alloc, problem, false, rest),
-        "solve_by_rows" => found_by_solve(rt, alloc, problem, true, rest),
-        "written" => written_by_solve(rt, alloc, problem, false, rest),
-        "written_by_rows" => written_by_solve(rt, alloc, problem, true, rest),
+        "solve" => found_by_solve(rt, alloc, problem, SearchBy::Columns, rest),
+        "solve_by_rows" => found_by_solve(rt, alloc, problem, SearchBy::Rows, rest),
+        "solve_by_cuts" => found_by_solve(rt, alloc, problem, SearchBy::Cuts, rest),
+        "written" => written_by_solve(rt, alloc, problem, SearchBy::Columns, rest),
+        "written_by_rows" => written_by_solve(rt, alloc, problem, SearchBy::Rows, rest),
+        "written_by_cuts" => written_by_solve(rt, alloc, problem, SearchBy::Cuts, rest),
         "optimum" => shown_optimum(alloc, problem),
         "subset" => found_subset(alloc, problem, rest),
         "ranges" => found_ranges(alloc, problem, rest),

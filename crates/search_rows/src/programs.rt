@@ -3,8 +3,8 @@ use crate::texts::{cut, in_marks, numbers_of};
 use branch_search::{SearchFault, VerdictFault, Wanted, search};
 use candidate::{Candidate, ProposedOptimum, Proposer};
 use certificate::{Certificate, DerivedRows, Verdict, text};
+use cut_search::{Plan, solve};
 use instance::Instance;
-use row_splits::solve;
 use search_node::SplitsTaken;
 use search_tree::{Path, is_optimal};
 use shared_search::OpenGate;
@@ -44,16 +44,36 @@ fn search_fault(fault: &SearchFault) -> &'static str {
     }
 }
 
-/// The verdict of any problem within limits, by splits of columns alone or of rows too, or why there is none and what was wanted.
+/// What a search splits on, and whether it begins with cuts.
+#[derive(Clone, Copy)]
+pub(crate) enum SearchBy {
+    Columns,
+    Rows,
+    Cuts,
+}
+
+// The search of one worker within limits.
+fn plan_of(by: SearchBy, limits: &str) -> Plan {
+    let (split_limit, pivot_limit) = limits_of(limits);
+    Plan {
+        cuts: matches!(by, SearchBy::Cuts),
+        row_splits: matches!(by, SearchBy::Rows),
+        split_limit,
+        pivot_limit,
+        workers: 1,
+    }
+}
+
+/// The verdict of any problem within limits, by splits of columns alone or of rows too, or by cuts, or why there is none and what was
+/// wanted.
 pub(crate) fn found_by_solve<R: Threads + Sync>(
     rt: &R,
     alloc: Global,
     problem: &Instance,
-    row_splits: bool,
+    by: SearchBy,
     limits: &str,
 ) -> Result<String, AllocError> {
-    let (splits, steps) = limits_of(limits);
-    let verdict = solve(rt, alloc, problem, row_splits, splits, steps, 1, &OpenGate);
+    let verdict = solve(rt, alloc, problem, plan_of(by, limits), &OpenGate);
     let words = match &verdict {
         Ok(certificate) => verdict_words(alloc, certificate),
         Err(fault) => fault_words(alloc, fault),
@@ -67,11 +87,10 @@ pub(crate) fn written_by_solve<R: Threads + Sync>(
     rt: &R,
     alloc: Global,
     problem: &Instance,
-    row_splits: bool,
+    by: SearchBy,
     limits: &str,
 ) -> Result<String, AllocError> {
-    let (splits, steps) = limits_of(limits);
-    let verdict = solve(rt, alloc, problem, row_splits, splits, steps, 1, &OpenGate);
+    let verdict = solve(rt, alloc, problem, plan_of(by, limits), &OpenGate);
     let words = match &verdict {
         Ok(certificate) => certificate_words(alloc, certificate),
         Err(fault) => fault_words(alloc, fault),
