@@ -9,11 +9,14 @@ use Rattle.gmpl_resolved.specs.declared.expression.Indexing.{Indexing}
 use Rattle.gmpl_value.specs.declared.eval_fault.EvalFault.{EvalFault}
 use Rattle.gmpl_value.specs.Outcome.{Follows, Gives, then_do}
 use Rattle.gmpl_operations.specs.declared.value.Value.{Value}
+use Rattle.gmpl_operations.specs.declared.value.Value.TheVariants.{Scalar}
+use Rattle.gmpl_operations.specs.Functions.{sliced}
+use Rattle.gmpl_operations.specs.Values.{symbol_in}
 use Rattle.gmpl_operations.specs.Iterations.{ended}
 use Rattle.gmpl_data.specs.declared.tables.LoadedModel.{LoadedModel}
 use Rattle.gmpl_meaning.specs.declared.walk.EntryValue.{EntryValue}
 use Rattle.gmpl_meaning.specs.Parts.{Bindings, Meant, MeantComponent, MeantEntry, MeantIndexing, MeantLink}
-use Rattle.gmpl_meaning.specs.Expressions.{iterated, component_step, expr_step, entry_step, indexing_step, link_step}
+use Rattle.gmpl_meaning.specs.Expressions.{iterated, numbers, substring, component_step, expr_step, entry_step, indexing_step, link_step}
 use Rattle.gmpl_meaning.specs.Members.{member}
 use Rattle.gmpl_meaning.specs.Walks.{entry_value, walked}
 use Rattle.gmpl_expr.specs.At as at
@@ -21,12 +24,12 @@ use Rattle.gmpl_expr.specs.OneByOne as one_by_one
 use Rattle.gmpl_expr.proofs.OneByOne.{is_iterated}
 
 module _ (model : LoadedModel) (height : ℕ) where
-  take_all : (entries : List Entry) → take (length entries) entries ≡ entries
+  take_all : {X : Type 0} (entries : List X) → take (length entries) entries ≡ entries
   take_all [] = refl
   take_all (x ∷ xs) = ap (λ l. x ∷ l) (take_all xs)
 
   -- behind the first entry
-  behind_first : (entry : Entry) (entries : List Entry) → take (length (entry ∷ entries) - 1) (drop 1 (entry ∷ entries)) ≡ entries
+  behind_first : {X : Type 0} (entry : X) (entries : List X) → take (length (entry ∷ entries) - 1) (drop 1 (entry ∷ entries)) ≡ entries
   behind_first entry entries =
       let fewer : length (entry ∷ entries) - 1 ≡ length entries = omega arith in
       ap (λ n. take n entries) fewer ∙ take_all entries
@@ -40,6 +43,15 @@ module _ (model : LoadedModel) (height : ℕ) where
       let at_first : entry_value (at.entry model height x) b ≡ Ok v = subst (λ e. entry_value (at.entry model height e) b ≡ Ok v) is value in
       subst (λ o. Follows result new (then_do (λ w. one_by_one.over_tuples iteration condition body (one_by_one.over_entries iteration condition body (at.entries model height xs)) b w.pattern w.set total) o)) (sym at_first)
       (subst (λ es. Follows result new (one_by_one.over_tuples iteration condition body (one_by_one.over_entries iteration condition body (at.entries model height es)) b v.pattern v.set total)) (behind_first x xs) given)
+
+  -- a text and the numbers behind it
+  pub first_text : (arguments : List Expr) (text : Expr) (b : Bindings) (result : Result Value EvalFault) → 1 ≤ length arguments → text ≡ get_or arguments 0 text
+      → Gives result (then_do (λ s. then_do (λ ns. then_do (λ t. Ok (Scalar t)) (sliced s ns)) (numbers [] (at.exprs model height (take (length arguments - 1) (drop 1 arguments))) b)) (then_do symbol_in ((at.expr model height text).value b)))
+      → Gives result (substring (at.exprs model height arguments) b)
+  first_text [] text b result more is given = absurd (omega arith)
+  first_text (x ∷ xs) text b result more is given =
+      subst (λ t. Gives result (then_do (λ s. then_do (λ ns. then_do (λ u. Ok (Scalar u)) (sliced s ns)) (numbers [] (at.exprs model height xs) b)) (then_do symbol_in ((at.expr model height t).value b)))) is
+      (subst (λ ys. Gives result (then_do (λ s. then_do (λ ns. then_do (λ u. Ok (Scalar u)) (sliced s ns)) (numbers [] (at.exprs model height ys) b)) (then_do symbol_in ((at.expr model height text).value b)))) (behind_first x xs) given)
 
   abbrev meant : List Entry → Option Expr → MeantIndexing
   meant entries condition = record { entries = at.entries model height entries; condition = at.optional model height condition }

@@ -4,3 +4,4 @@ pub mod Membership
 pub mod OneByOne
 pub mod Ranges
 pub mod Rolled
+pub mod Steps

@@ -1,3 +1,4 @@
+pub mod AllHold
 pub mod At
 pub mod Membership
 pub mod OneByOne

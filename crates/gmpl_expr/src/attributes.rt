@@ -1,7 +1,9 @@
 // Attributes of statements, and what they ask of values.
-ghost use Rattle.std.specs.Prelude.{◌≡◌};
+ghost use Rattle.std.specs.Prelude.{◌≡◌, Ok};
 ghost use Rattle.std.specs.Option.{option_copied};
-ghost use Rattle.gmpl_value.specs.Outcome.{Gives};
+ghost use Rattle.rational.specs.Rational.{Rational};
+ghost use Rattle.gmpl_value.specs.Outcome.{Gives, Outcome, then_do};
+ghost use Rattle.gmpl_meaning.specs.declared.bounds.Bounds.{Bounds as AnyBounds};
 ghost use Rattle.gmpl_meaning.specs.Restrictions as spec;
 
 use fraction::Frac;
@@ -199,6 +201,20 @@ pub fn with_bound(so_far: Bounds, relation: Relation, number: Frac) -> Bounds
     }
 }
 
+/// The same, where the number is handed as it was evaluated.
+pub(crate) fn bounds_with(
+    so_far: Bounds,
+    relation: Relation,
+    number: Result<Frac, EvalFault>,
+) -> Result<Bounds, EvalFault>
+    ensures { (answer : Outcome Rational) → Gives number answer → Gives result (then_do (λ q. Ok (spec.with_bound so_far relation q)) answer) }
+{
+    match number {
+        Ok(number) => Ok(with_bound(so_far, relation, number)),
+        Err(fault) => Err(fault),
+    }
+}
+
 fn at_least_zero(bound: Option<Frac>) -> Frac
     ensures { result ≡ spec.at_least_zero bound }
 {
@@ -218,7 +234,19 @@ fn at_most_one(bound: Option<Frac>) -> Frac
 }
 
 /// The bounds, within 0 and 1 where the variable is binary.
-pub(crate) fn where_binary(attributes: &[Attribute], so_far: Bounds) -> Bounds
+pub(crate) fn binary_bounds(
+    attributes: &[Attribute],
+    found: Result<Bounds, EvalFault>,
+) -> Result<Bounds, EvalFault>
+    ensures { (answer : Outcome AnyBounds) → Gives found answer → Gives result (then_do (λ x. Ok (spec.where_binary (spec.is_binary attributes.now) x)) answer) }
+{
+    match found {
+        Ok(found) => Ok(where_binary(attributes, found)),
+        Err(fault) => Err(fault),
+    }
+}
+
+fn where_binary(attributes: &[Attribute], so_far: Bounds) -> Bounds
     ensures { result ≡ spec.where_binary (spec.is_binary attributes.now) so_far }
 {
     if is_binary(attributes) {

@@ -15,17 +15,17 @@ ghost use Rattle.gmpl_meaning.specs.Members.{member};
 ghost use Rattle.gmpl_meaning.specs.Right.{AreRight};
 ghost use Rattle.gmpl_resolved.specs.declared.expression.Meaning.TheVariants as meanings;
 
-use crate::in_place::{apply, take};
+use crate::handed::{group_of, signed_of, value_of};
+use crate::in_place::{apply_part, take};
 use crate::iterations::iterated;
 use crate::members::demanded;
 use crate::parts::{bound_to, nothing, text_value};
-use crate::places::copied;
 use crate::room::room_of;
 use crate::set_kinds::is_set;
 use crate::values::{braces, called, compared, holds, negation, power, range, symbols};
 use gmpl_data::LoadedModel;
 use gmpl_meaning::Kept;
-use gmpl_operations::{Value, decides, signed};
+use gmpl_operations::{Value, decides};
 use gmpl_resolved::{Expr, Link, Meaning};
 use gmpl_syntax::{Sign, Suffix};
 use gmpl_value::{EvalFault, Tuple};
@@ -209,8 +209,8 @@ fn object(
     ensures value { Gives result (spec.named (member model.now height) (meanings.Object place) (at.exprs model.now height subscripts.now) suffix bindings.now) }
 {
     let subscripts = symbols(alloc, model, kept, height, room, subscripts, bindings)?;
-    let value = demanded(alloc, model, kept, height, room, place, suffix, &subscripts)?;
-    Ok(value.into_value(alloc)?)
+    let value = demanded(alloc, model, kept, height, room, place, suffix, &subscripts);
+    value_of(alloc, value)
 }
 
 #[cycle(evaluation)]
@@ -230,7 +230,7 @@ fn group(
     match parts {
         [] => Ok(Value::Group(Tuple::new(alloc))),
         [only] => eval(alloc, model, kept, height, room, only, bindings),
-        [_, _, ..] => Ok(Value::Group(symbols(alloc, model, kept, height, room, parts, bindings)?)),
+        [_, _, ..] => group_of(symbols(alloc, model, kept, height, room, parts, bindings)),
     }
 }
 
@@ -249,8 +249,7 @@ fn with_sign(
     ensures right { AreRight model.now kept.new }
     ensures value { Gives result (then_do (signed sign) ((at.expr model.now height part.now).value bindings.now)) }
 {
-    let value = eval(alloc, model, kept, height, room, part, bindings)?;
-    signed(sign, value)
+    signed_of(sign, eval(alloc, model, kept, height, room, part, bindings))
 }
 
 // ---- choices and chains
@@ -275,7 +274,7 @@ fn conditional(
         eval(alloc, model, kept, height, room, first, bindings)
     } else {
         match other {
-            None => Ok(nothing(alloc, is_set(model, height, first))?),
+            None => nothing(alloc, is_set(model, height, first)),
             Some(other) => eval(alloc, model, kept, height, room, other.get(), bindings),
         }
     }
@@ -296,26 +295,7 @@ fn chain(
     ensures right { AreRight model.now kept.new }
     ensures value { Gives result (spec.chain (at.expr model.now height first.now) (at.links model.now height links.now) bindings.now) }
 {
-    let first = eval(alloc, model, kept, height, room, first, bindings)?;
-    links_from(alloc, model, kept, height, room, first, links, bindings)
-}
-
-#[cycle(evaluation)]
-fn links_from(
-    alloc: Global,
-    model: &LoadedModel,
-    kept: &mut Kept,
-    height: u32,
-    room: u32,
-    first: Value,
-    links: &[Link],
-    bindings: &Tuple,
-) -> Result<Value, EvalFault>
-    requires right { AreRight model.now kept.old }
-    ensures right { AreRight model.now kept.new }
-    ensures value { Gives result (spec.links_from first (at.links model.now height links.now) bindings.now) }
-{
-    let mut value = first;
+    let mut value = eval(alloc, model, kept, height, room, first, bindings)?;
     for link in links {
         linked(alloc, model, kept, height, room, link, bindings, &mut value)?;
     }
@@ -342,6 +322,6 @@ fn linked(
     if decides(link.operator, left) {
         return Ok(());
     }
-    let right = eval(alloc, model, kept, height, room, &link.operand, bindings)?;
-    apply(alloc, link.operator, left, right)
+    let right = eval(alloc, model, kept, height, room, &link.operand, bindings);
+    apply_part(alloc, link.operator, left, right)
 }

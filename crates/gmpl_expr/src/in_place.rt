@@ -1,7 +1,7 @@
 // Operators whose value takes the place of the left operand: numbers and forms are not moved.
 ghost use Rattle.std.specs.Prelude.{◌≡◌, true, Ok, IfSome};
 ghost use Rattle.rational.specs.Rational.{Rational};
-ghost use Rattle.gmpl_value.specs.Outcome.{Follows, Gives, Outcome, fitting};
+ghost use Rattle.gmpl_value.specs.Outcome.{Follows, Gives, Outcome, fitting, then_do};
 ghost use Rattle.gmpl_functions.specs.Numbers.{number_of};
 ghost use Rattle.gmpl_functions.specs.Amounts.{sum_of, product_of, as_number as number_amount};
 ghost use Rattle.gmpl_functions.specs.declared.terms.Sign.TheVariants as signs;
@@ -11,6 +11,7 @@ ghost use Rattle.gmpl_syntax.specs.declared.expression.Iteration.TheVariants as 
 ghost use Rattle.gmpl_operations.specs.Operators as spec;
 ghost use Rattle.gmpl_operations.specs.Iterations as iterations;
 ghost use Rattle.gmpl_operations.specs.Values.{amount_in, as_value, as_number, number_in, of_number};
+ghost use Rattle.gmpl_operations.specs.declared.value.Value.{Value as AnyValue};
 ghost use Rattle.gmpl_operations.specs.declared.value.Value.TheVariants as values;
 
 use fraction::{Frac, NoFit};
@@ -101,6 +102,21 @@ pub(crate) fn apply(
             Ok(())
         }
         None => apply_values(alloc, operator, left, right),
+    }
+}
+
+/// The same, where the right one is handed as it was evaluated.
+pub(crate) fn apply_part(
+    alloc: Global,
+    operator: Operator,
+    left: &mut Value,
+    right: Result<Value, EvalFault>,
+) -> Result<(), EvalFault>
+    ensures { (answer : Outcome AnyValue) → Gives right answer → Follows result left.new (then_do (spec.applied operator left.old) answer) }
+{
+    match right {
+        Ok(right) => apply(alloc, operator, left, right),
+        Err(fault) => Err(fault),
     }
 }
 
@@ -331,6 +347,21 @@ pub(crate) fn join(
     match iteration {
         Iteration::Sum => add_to_total(alloc, total, value),
         _ => join_anew(alloc, iteration, total, value),
+    }
+}
+
+/// The same, where the value is handed as it was evaluated.
+pub(crate) fn join_part(
+    alloc: Global,
+    iteration: Iteration,
+    total: &mut Option<Value>,
+    value: Result<Value, EvalFault>,
+) -> Result<(), EvalFault>
+    ensures { (answer : Outcome AnyValue) → Gives value answer → Follows result total.new (then_do (iterations.joined iteration total.old) answer) }
+{
+    match value {
+        Ok(value) => join(alloc, iteration, total, value),
+        Err(fault) => Err(fault),
     }
 }
 

@@ -8,9 +8,10 @@ ghost use Rattle.gmpl_meaning.specs.Members.{member};
 ghost use Rattle.gmpl_expr.specs.Shared.{entered};
 ghost use Rattle.gmpl_meaning.specs.Right.{AreRight};
 
-use crate::entered::Entered;
+use crate::entered::{Entered, with_index, without_index};
 use crate::evaluate::eval;
-use crate::places::{add_matches, copied, start, stopped, within_value};
+use crate::handed::{component_of, push_component};
+use crate::places::{add_entered, enter, keep_where, start, stopped, within_where};
 use crate::room::TEST;
 use crate::sets::shared_set;
 use crate::values::holds;
@@ -39,19 +40,13 @@ pub(crate) fn walked(
     ensures value { Gives result (Ok (walks.walked (at.indexing model.now height indexing.now) bindings.now)) }
 {
     let entries = indexing.entries.as_slice();
-    let walk = over_entries(alloc, model, kept, height, room, entries, bindings)?;
     match &indexing.condition {
-        None => Ok(walk),
-        Some(condition) => filtered(
-            alloc,
-            model,
-            kept,
-            height,
-            room,
-            condition.get(),
-            &walk,
-            bindings,
-        ),
+        None => over_entries(alloc, model, kept, height, room, entries, bindings),
+        Some(condition) => {
+            let condition = condition.get();
+            let walk = over_entries(alloc, model, kept, height, room, entries, bindings)?;
+            filtered(alloc, model, kept, height, room, condition, &walk, bindings)
+        }
     }
 }
 
@@ -95,7 +90,7 @@ fn extended(
     for element in walk.elements.as_slice() {
         let inner = bindings.joined(alloc, &element.indices)?;
         match entry_value(alloc, model, kept, height, room, entry, &inner) {
-            Ok(value) => add_matches(alloc, &mut found, element, &value)?,
+            Ok(value) => add_entered(alloc, &mut found, element, value)?,
             Err(fault) => return stopped(found, fault),
         }
     }
@@ -124,8 +119,7 @@ fn filtered(
     for element in walk.elements.as_slice() {
         let inner = bindings.joined(alloc, &element.indices)?;
         match holds(alloc, model, kept, height, room, condition, &inner) {
-            Ok(true) => found.push(copied(alloc, element)?)?,
-            Ok(false) => {}
+            Ok(truth) => keep_where(alloc, &mut found, element, truth)?,
             Err(fault) => return stopped(found, fault),
         }
     }
@@ -149,15 +143,18 @@ pub(crate) fn entry_value(
     ensures right { AreRight model.now kept.new }
     ensures value { GivesAs entered result (walks.entry_value (at.entry model.now height entry.now) bindings.now) }
 {
-    let pattern = match &entry.index {
-        None => None,
+    match &entry.index {
+        None => {
+            let set = shared_set(alloc, model, kept, height, room, &entry.set, bindings);
+            without_index(set)
+        }
         Some(index) => {
             let index = index.as_slice();
-            Some(component_values(alloc, model, kept, height, room, index, bindings)?)
+            let pattern = component_values(alloc, model, kept, height, room, index, bindings)?;
+            let set = shared_set(alloc, model, kept, height, room, &entry.set, bindings);
+            with_index(pattern, set)
         }
-    };
-    let set = shared_set(alloc, model, kept, height, room, &entry.set, bindings)?;
-    Ok(Entered { pattern, set })
+    }
 }
 
 #[cycle(evaluation)]
@@ -176,7 +173,8 @@ fn component_values(
 {
     let mut found = Items::new(alloc);
     for one in all {
-        found.push(component_value(alloc, model, kept, height, room, one, bindings)?)?;
+        let component = component_value(alloc, model, kept, height, room, one, bindings);
+        push_component(&mut found, component)?;
     }
     Ok(found)
 }
@@ -198,8 +196,7 @@ fn component_value(
     match component {
         Component::New => Ok(None),
         Component::Value(whole) => {
-            let value = eval(alloc, model, kept, height, room, whole, bindings)?;
-            Ok(Some(value.into_symbol()?))
+            component_of(eval(alloc, model, kept, height, room, whole, bindings))
         }
     }
 }
@@ -244,15 +241,13 @@ fn within_indexing(
     ensures value { Gives result (domains.within_indexing (at.indexing model.now height domain.now) subscripts.now) }
 {
     let entries = domain.entries.as_slice();
-    let bindings = within_entries(alloc, model, kept, height, room, entries, subscripts)?;
     match &domain.condition {
-        None => Ok(bindings),
+        None => within_entries(alloc, model, kept, height, room, entries, subscripts),
         Some(condition) => {
-            if holds(alloc, model, kept, height, room, condition.get(), &bindings)? {
-                Ok(bindings)
-            } else {
-                Err(EvalFault::OutOfDomain)
-            }
+            let condition = condition.get();
+            let bindings = within_entries(alloc, model, kept, height, room, entries, subscripts)?;
+            let truth = holds(alloc, model, kept, height, room, condition, &bindings);
+            within_where(bindings, truth)
         }
     }
 }
@@ -274,28 +269,8 @@ fn within_entries(
     let mut bindings = Tuple::new(alloc);
     let mut rest = subscripts.copied(alloc)?;
     for entry in entries {
-        let behind = within_entry(alloc, model, kept, height, room, entry, &bindings, &rest)?;
-        bindings = behind.0;
-        rest = behind.1;
+        let value = entry_value(alloc, model, kept, height, room, entry, &bindings);
+        enter(alloc, &mut bindings, &mut rest, value)?;
     }
     Ok(bindings)
-}
-
-#[cycle(evaluation)]
-fn within_entry(
-    alloc: Global,
-    model: &LoadedModel,
-    kept: &mut Kept,
-    height: u32,
-    room: u32,
-    entry: &Entry,
-    bindings: &Tuple,
-    subscripts: &Tuple,
-) -> Result<(Tuple, Tuple), EvalFault>
-    requires right { AreRight model.now kept.old }
-    ensures right { AreRight model.now kept.new }
-    ensures value { Gives result (domains.within_entry (at.entry model.now height entry.now) bindings.now subscripts.now) }
-{
-    let value = entry_value(alloc, model, kept, height, room, entry, bindings)?;
-    within_value(alloc, bindings, subscripts, &value)
 }

@@ -5,11 +5,12 @@ ghost use Rattle.gmpl_expr.specs.At as at;
 ghost use Rattle.gmpl_expr.specs.OneByOne as one_by_one;
 ghost use Rattle.gmpl_meaning.specs.Expressions as spec;
 ghost use Rattle.gmpl_meaning.specs.Walks as walks;
+ghost use Rattle.gmpl_operations.specs.Patterns.{matched};
 ghost use Rattle.gmpl_meaning.specs.Right.{AreRight};
 
 use crate::entered::Entered;
 use crate::evaluate::eval;
-use crate::in_place::join;
+use crate::in_place::join_part;
 use crate::indexing::entry_value;
 use crate::parts::finished;
 use crate::places::inner_of;
@@ -20,8 +21,8 @@ use gmpl_meaning::Kept;
 use gmpl_operations::{Value, is_decided};
 use gmpl_resolved::{Entry, Expr, Indexing};
 use gmpl_syntax::Iteration;
-use gmpl_value::{EvalFault, Tuple};
-use sqlite_items::Boxed;
+use gmpl_value::{EvalFault, Symbol, Tuple};
+use sqlite_items::{Boxed, Items};
 use std::alloc::Global;
 
 /// What is done at each element.
@@ -112,9 +113,9 @@ fn over_tuples(
         if is_decided(each.iteration, total) {
             return Ok(());
         }
-        let inner = inner_of(alloc, bindings, &value.pattern, tuple)?;
-        at_inner(
-            alloc, model, kept, height, room, each, entries, &inner, total,
+        let pattern = &value.pattern;
+        at_tuple(
+            alloc, model, kept, height, room, each, entries, pattern, tuple, bindings, total,
         )?;
     }
     Ok(())
@@ -122,7 +123,7 @@ fn over_tuples(
 
 // The next entries, where a tuple matches.
 #[cycle(evaluation)]
-fn at_inner(
+fn at_tuple(
     alloc: Global,
     model: &LoadedModel,
     kept: &mut Kept,
@@ -130,17 +131,19 @@ fn at_inner(
     room: u32,
     each: &Each<'_>,
     entries: &[Entry],
-    inner: &Option<Tuple>,
+    pattern: &Option<Items<Option<Symbol>>>,
+    tuple: &Tuple,
+    bindings: &Tuple,
     total: &mut Option<Value>,
 ) -> Result<(), EvalFault>
     requires right { AreRight model.now kept.old }
     ensures right { AreRight model.now kept.new }
-    ensures value { Follows result total.new (one_by_one.at_inner each.now.iteration (at.optional model.now height each.now.condition.now) (at.expr model.now height each.now.body.now) (one_by_one.over_entries each.now.iteration (at.optional model.now height each.now.condition.now) (at.expr model.now height each.now.body.now) (at.entries model.now height entries.now)) inner.now total.old) }
+    ensures value { Follows result total.new (one_by_one.at_inner each.now.iteration (at.optional model.now height each.now.condition.now) (at.expr model.now height each.now.body.now) (one_by_one.over_entries each.now.iteration (at.optional model.now height each.now.condition.now) (at.expr model.now height each.now.body.now) (at.entries model.now height entries.now)) (one_by_one.inner bindings.now (matched pattern.now tuple.now)) total.old) }
 {
-    match inner {
+    match inner_of(alloc, bindings, pattern, tuple)? {
         None => Ok(()),
-        Some(bindings) => deeper(
-            alloc, model, kept, height, room, each, entries, bindings, total,
+        Some(inner) => deeper(
+            alloc, model, kept, height, room, each, entries, &inner, total,
         ),
     }
 }
@@ -224,6 +227,6 @@ fn with_body(
     ensures right { AreRight model.now kept.new }
     ensures value { Follows result total.new (one_by_one.with_body each.now.iteration (at.optional model.now height each.now.condition.now) (at.expr model.now height each.now.body.now) bindings.now total.old) }
 {
-    let value = eval(alloc, model, kept, height, room, each.body, bindings)?;
-    join(alloc, each.iteration, total, value)
+    let value = eval(alloc, model, kept, height, room, each.body, bindings);
+    join_part(alloc, each.iteration, total, value)
 }

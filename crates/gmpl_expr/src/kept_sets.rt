@@ -1,8 +1,9 @@
-// Sets that are kept: they stand in a declaration.
-ghost use Rattle.std.specs.Prelude.{◌≡◌, IfSome, Ok};
-ghost use Rattle.gmpl_value.specs.Outcome.{GivesAs};
+// Members that are kept, and sets that are: these stand in a declaration.
+ghost use Rattle.std.specs.Prelude.{◌≡◌, IfSome, None, Ok};
+ghost use Rattle.gmpl_value.specs.Outcome.{Gives, GivesAs};
 ghost use Rattle.gmpl_expr.specs.At as at;
 ghost use Rattle.gmpl_meaning.specs.Walks as walks;
+ghost use Rattle.gmpl_meaning.specs.Members.{member};
 ghost use Rattle.gmpl_meaning.specs.Right.{AreRight, anew, value_seen};
 ghost use Rattle.gmpl_operations.specs.declared.value.Value.TheVariants as values;
 
@@ -77,6 +78,26 @@ pub(crate) fn remembered_set(
     height: u32,
     whole: &Expr,
     bindings: &Tuple,
+    value: Result<Value, EvalFault>,
+) -> Result<Rc<SetValue>, EvalFault>
+    requires right { AreRight model.now kept.old }
+    requires value { Gives value ((at.expr model.now height whole.now).value bindings.now) }
+    ensures right { AreRight model.now kept.new }
+    ensures value { GivesAs (λ set. set.value) result (walks.entry_set (at.expr model.now height whole.now) bindings.now) }
+{
+    match value {
+        Ok(value) => remember_set(alloc, model, kept, height, whole, bindings, value),
+        Err(fault) => Err(fault),
+    }
+}
+
+fn remember_set(
+    alloc: Global,
+    model: &LoadedModel,
+    kept: &mut Kept,
+    height: u32,
+    whole: &Expr,
+    bindings: &Tuple,
     value: Value,
 ) -> Result<Rc<SetValue>, EvalFault>
     requires right { AreRight model.now kept.old }
@@ -88,4 +109,44 @@ pub(crate) fn remembered_set(
         None => Ok(Rc::new(alloc, value.into_set()?.into_inner())?),
         Some(asked) => kept.remember(alloc, asked, value)?.into_set(alloc),
     }
+}
+
+// ---- members
+
+/// The value of a member, which is kept.
+pub(crate) fn remembered_member(
+    alloc: Global,
+    model: &LoadedModel,
+    kept: &mut Kept,
+    height: u32,
+    place: usize,
+    subscripts: &Tuple,
+    value: Result<Value, EvalFault>,
+) -> Result<KeptValue, EvalFault>
+    requires right { AreRight model.now kept.old }
+    requires value { Gives value (member model.now height place None subscripts.now) }
+    ensures right { AreRight model.now kept.new }
+    ensures value { GivesAs value_seen result (member model.now height place None subscripts.now) }
+{
+    match value {
+        Ok(value) => remember_member(alloc, model, kept, height, place, subscripts, value),
+        Err(fault) => Err(fault),
+    }
+}
+
+fn remember_member(
+    alloc: Global,
+    model: &LoadedModel,
+    kept: &mut Kept,
+    height: u32,
+    place: usize,
+    subscripts: &Tuple,
+    value: Value,
+) -> Result<KeptValue, EvalFault>
+    requires right { AreRight model.now kept.old }
+    requires value { member model.now height place None subscripts.now ≡ Ok value }
+    ensures right { AreRight model.now kept.new }
+    ensures value { GivesAs value_seen result (member model.now height place None subscripts.now) }
+{
+    Ok(kept.remember_member(alloc, place, height, subscripts, value)?)
 }

@@ -6,6 +6,7 @@ mod calls;
 mod context;
 mod entered;
 mod evaluate;
+mod handed;
 mod in_place;
 mod indexing;
 mod iterations;
@@ -19,6 +20,7 @@ mod room;
 mod set_kinds;
 mod sets;
 mod solved;
+mod tested;
 mod values;
 mod variables;
 

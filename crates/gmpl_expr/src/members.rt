@@ -1,27 +1,30 @@
 // What members come to: demands, and the members of parameters and sets.
 ghost use Rattle.std.specs.Prelude.{◌≡◌, None};
-ghost use Rattle.gmpl_value.specs.Outcome.{Gives, GivesAs};
+ghost use Rattle.gmpl_value.specs.Outcome.{Gives, GivesAs, then_do};
 ghost use Rattle.gmpl_meaning.specs.Restrictions as restrictions;
 ghost use Rattle.gmpl_meaning.specs.Members as members;
 ghost use Rattle.gmpl_data.specs.Given as given;
 ghost use Rattle.gmpl_meaning.specs.Members.{member};
 ghost use Rattle.gmpl_meaning.specs.Right.{AreRight, value_seen};
 
-use crate::attributes::{assigned, default_of, held, is_symbolic};
+use crate::attributes::{assigned, default_of, is_symbolic};
 use crate::evaluate::eval;
+use crate::handed::kept_of;
 use crate::indexing::within_domain;
-use crate::parts::kept_value;
-use crate::places::copied;
+use crate::kept_sets::remembered_member;
+use crate::parts::{kept_value, symbol_value};
 use crate::restrictions::{inclusions_hold, restricted};
 use crate::room::TEST;
 use crate::solved::row_member;
+use crate::tested::{elements_in, held_of, set_tested};
 use crate::variables::variable_member;
 use gmpl_data::LoadedModel;
 use gmpl_meaning::{Kept, KeptValue};
 use gmpl_operations::Value;
 use gmpl_resolved::{Attribute, Declaration, Statement};
 use gmpl_syntax::Suffix;
-use gmpl_value::{EvalFault, Tuple};
+use gmpl_value::{EvalFault, SetValue, Symbol, Tuple};
+use sqlite_items::Boxed;
 use std::alloc::Global;
 
 // ---- demands
@@ -45,8 +48,8 @@ pub(crate) fn demanded(
     match asked {
         None => without_suffix(alloc, model, kept, height, room, place, subscripts),
         Some(_) => {
-            let value = anew(alloc, model, kept, height, room, place, asked, subscripts)?;
-            Ok(KeptValue::of(alloc, value)?)
+            let value = anew(alloc, model, kept, height, room, place, asked, subscripts);
+            kept_of(alloc, value)
         }
     }
 }
@@ -69,8 +72,8 @@ fn without_suffix(
     match kept.member(alloc, place, height, subscripts) {
         Some(value) => Ok(value),
         None => {
-            let value = anew(alloc, model, kept, height, room, place, None, subscripts)?;
-            Ok(kept.remember_member(alloc, place, height, subscripts, value)?)
+            let value = anew(alloc, model, kept, height, room, place, None, subscripts);
+            remembered_member(alloc, model, kept, height, place, subscripts, value)
         }
     }
 }
@@ -189,7 +192,7 @@ fn source(
     ensures value { Gives result (members.source model.now (member model.now height) bindings.now place subscripts.now attributes.now) }
 {
     match model.value(place, subscripts) {
-        Some(given) => Ok(kept_value(alloc, given)?),
+        Some(given) => kept_value(alloc, given),
         None => stated(
             alloc, model, kept, height, room, bindings, place, attributes,
         ),
@@ -235,12 +238,62 @@ fn by_default(
     ensures value { Gives result (members.by_data_default model.now (member model.now height) bindings.now (given.default_given model.now place) attributes.now) }
 {
     match model.default(place) {
-        Some(symbol) => Ok(Value::Scalar(symbol.copied(alloc)?)),
+        Some(symbol) => symbol_value(alloc, symbol),
         None => match default_of(attributes) {
             Some(whole) => eval(alloc, model, kept, height, room, whole, bindings),
             None => Err(EvalFault::NoValue),
         },
     }
+}
+
+// What a parameter holds of it.
+#[cycle(evaluation)]
+fn symbol_held(
+    alloc: Global,
+    model: &LoadedModel,
+    kept: &mut Kept,
+    height: u32,
+    room: u32,
+    bindings: &Tuple,
+    place: usize,
+    subscripts: &Tuple,
+    symbolic: bool,
+    attributes: &[Attribute],
+) -> Result<Symbol, EvalFault>
+    requires right { AreRight model.now kept.old }
+    ensures right { AreRight model.now kept.new }
+    ensures value { Gives result (then_do (restrictions.held symbolic) (members.source model.now (member model.now height) bindings.now place subscripts.now attributes.now)) }
+{
+    let value = source(
+        alloc, model, kept, height, room, bindings, place, subscripts, attributes,
+    );
+    held_of(symbolic, value)
+}
+
+// What a set has of it.
+#[cycle(evaluation)]
+fn set_held(
+    alloc: Global,
+    model: &LoadedModel,
+    kept: &mut Kept,
+    height: u32,
+    room: u32,
+    bindings: &Tuple,
+    place: usize,
+    subscripts: &Tuple,
+    attributes: &[Attribute],
+) -> Result<Boxed<SetValue>, EvalFault>
+    requires right { AreRight model.now kept.old }
+    ensures right { AreRight model.now kept.new }
+    ensures value { Gives result (members.set_source model.now (member model.now height) bindings.now place subscripts.now attributes.now) }
+{
+    if model.is_overfull(place, subscripts) {
+        return Err(EvalFault::TooMany);
+    }
+    let value = source(
+        alloc, model, kept, height, room, bindings, place, subscripts, attributes,
+    );
+    elements_in(value)
 }
 
 // ---- parameters and sets
@@ -270,11 +323,10 @@ fn param_member(
         &param.head.domain,
         subscripts,
     )?;
-    let value = source(
-        alloc, model, kept, height, room, &bindings, place, subscripts, attributes,
-    )?;
     let symbolic = is_symbolic(attributes);
-    let symbol = held(symbolic, value)?;
+    let symbol = symbol_held(
+        alloc, model, kept, height, room, &bindings, place, subscripts, symbolic, attributes,
+    )?;
     restricted(
         alloc, model, kept, height, room, &bindings, symbolic, attributes, symbol,
     )
@@ -298,15 +350,11 @@ fn set_member(
     let attributes = declaration.attributes.as_slice();
     let domain = &declaration.head.domain;
     let bindings = within_domain(alloc, model, kept, height, room, domain, subscripts)?;
-    if model.is_overfull(place, subscripts) {
-        return Err(EvalFault::TooMany);
-    }
-    let value = source(
+    let set = set_held(
         alloc, model, kept, height, room, &bindings, place, subscripts, attributes,
     )?;
-    let set = value.into_set()?;
     let room = room.saturating_sub(TEST);
-    inclusions_hold(
+    let tested = inclusions_hold(
         alloc,
         model,
         kept,
@@ -315,6 +363,6 @@ fn set_member(
         &bindings,
         attributes,
         set.get(),
-    )?;
-    Ok(Value::Elements(set))
+    );
+    set_tested(set, tested)
 }

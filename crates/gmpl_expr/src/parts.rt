@@ -1,6 +1,7 @@
 // Steps of the evaluation that evaluate nothing themselves.
-ghost use Rattle.std.specs.Prelude.{◌≡◌, slice_get, IfOk};
+ghost use Rattle.std.specs.Prelude.{◌≡◌, slice_get};
 ghost use Rattle.gmpl_value.specs.Outcome.{Follows, Gives, GivesAs, Outcome, then_do};
+ghost use Rattle.rational.specs.Rational.{Rational};
 ghost use Rattle.gmpl_operations.specs.Iterations as operations;
 ghost use Rattle.gmpl_expr.specs.OneByOne as one_by_one;
 ghost use Rattle.gmpl_operations.specs.Relations.{negated};
@@ -10,10 +11,10 @@ ghost use Rattle.gmpl_value.specs.declared.symbol.Symbol.TheVariants as symbols;
 ghost use Rattle.gmpl_meaning.specs.Expressions as spec;
 ghost use Rattle.gmpl_meaning.specs.Members as members;
 ghost use Rattle.std.specs.Prelude.{Bool, Ok};
-ghost use Rattle.gmpl_data.specs.declared.tables.LoadedModel.{LoadedModel};
 ghost use Rattle.gmpl_meaning.specs.Right.{AreRight};
 
 use fraction::Frac;
+use gmpl_data::LoadedModel;
 use gmpl_functions::card;
 use gmpl_meaning::{Asked, Kept};
 use gmpl_members::Value as Given;
@@ -21,7 +22,7 @@ use gmpl_operations::{Value, ended};
 use gmpl_syntax::Iteration;
 use gmpl_text::Text;
 use gmpl_value::{EvalFault, SetValue, Symbol, Tuple, range};
-use std::alloc::{AllocError, Global};
+use std::alloc::Global;
 use std::rc::Rc;
 
 /// The value of the index at this place.
@@ -29,7 +30,7 @@ pub(crate) fn bound_to(alloc: Global, bindings: &Tuple, place: usize) -> Result<
     ensures { Gives result (spec.bound_to (slice_get bindings.now place)) }
 {
     match bindings.symbols().get(place) {
-        Some(symbol) => Ok(Value::Scalar(symbol.copied(alloc)?)),
+        Some(symbol) => symbol_value(alloc, symbol),
         None => Err(EvalFault::NoValue),
     }
 }
@@ -51,16 +52,37 @@ pub(crate) fn ranged(alloc: Global, from: Frac, to: Frac, by: Frac) -> Result<Va
     Ok(Value::elements(alloc, range(alloc, from, to, by)?)?)
 }
 
-/// The same set, kept.
-pub(crate) fn kept_range(
+/// The same set, which is kept, where its parts are handed as they were evaluated.
+pub(crate) fn kept_range_of(
     alloc: Global,
+    model: &LoadedModel,
+    kept: &mut Kept,
+    from: Result<Frac, EvalFault>,
+    to: Result<Frac, EvalFault>,
+    by: Result<Frac, EvalFault>,
+) -> Result<Rc<SetValue>, EvalFault>
+    requires right { AreRight model.now kept.old }
+    ensures right { AreRight model.now kept.new }
+    ensures value { (first : Outcome Rational) (last : Outcome Rational) (step : Outcome Rational) → Gives from first → Gives to last → Gives by step → GivesAs (λ set. set.value) result (then_do set_in (then_do (λ f. then_do (λ t. then_do (λ b. spec.range_by f t b) step) last) first)) }
+{
+    let from = from?;
+    let to = to?;
+    let by = by?;
+    kept_range(alloc, model, kept, from, to, by)
+}
+
+// The same set, kept.
+fn kept_range(
+    alloc: Global,
+    model: &LoadedModel,
     kept: &mut Kept,
     from: Frac,
     to: Frac,
     by: Frac,
 ) -> Result<Rc<SetValue>, EvalFault>
-    ensures right { (model : LoadedModel) → AreRight model kept.old → AreRight model kept.new }
-    ensures value { (model : LoadedModel) → AreRight model kept.old → GivesAs (λ set. set.value) result (then_do set_in (spec.range_by from to by)) }
+    requires right { AreRight model.now kept.old }
+    ensures right { AreRight model.now kept.new }
+    ensures value { GivesAs (λ set. set.value) result (then_do set_in (spec.range_by from to by)) }
 {
     let asked = Asked::Range(from, to, by);
     match kept.found(alloc, &asked) {
@@ -112,11 +134,11 @@ pub(crate) fn negated_value(found: Result<bool, EvalFault>) -> Result<Value, Eva
 }
 
 /// What an `if` without `else` is where its condition does not hold.
-pub(crate) fn nothing(alloc: Global, is_set: bool) -> Result<Value, AllocError>
-    ensures { IfOk result (λ made. made ≡ spec.nothing is_set) }
+pub(crate) fn nothing(alloc: Global, is_set: bool) -> Result<Value, EvalFault>
+    ensures { Gives result (Ok (spec.nothing is_set)) }
 {
     if is_set {
-        Value::elements(alloc, SetValue::new(alloc))
+        Ok(Value::elements(alloc, SetValue::new(alloc))?)
     } else {
         Ok(Value::number(Frac::zero()))
     }
@@ -138,11 +160,18 @@ pub(crate) fn finished(
 }
 
 /// A kept value again.
-pub(crate) fn kept_value(alloc: Global, kept: &Given) -> Result<Value, AllocError>
-    ensures { IfOk result (λ made. made ≡ members.as_value kept.now) }
+pub(crate) fn kept_value(alloc: Global, kept: &Given) -> Result<Value, EvalFault>
+    ensures { Gives result (Ok (members.as_value kept.now)) }
 {
     match kept {
         Given::Scalar(symbol) => Ok(Value::Scalar(symbol.copied(alloc)?)),
-        Given::Elements(set) => Value::elements(alloc, set.copied(alloc)?),
+        Given::Elements(set) => Ok(Value::elements(alloc, set.copied(alloc)?)?),
     }
+}
+
+/// A symbol again, as a value.
+pub(crate) fn symbol_value(alloc: Global, symbol: &Symbol) -> Result<Value, EvalFault>
+    ensures { Gives result (Ok (values.Scalar symbol.now)) }
+{
+    Ok(Value::Scalar(symbol.copied(alloc)?))
 }

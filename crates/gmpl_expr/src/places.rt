@@ -1,6 +1,8 @@
 // Elements of indexing expressions, and subscripts within an entry's set.
-ghost use Rattle.std.specs.Prelude.{◌≡◌, OnOk, IfOk, take, drop, Ok};
-ghost use Rattle.gmpl_value.specs.Outcome.{Gives};
+ghost use Rattle.std.specs.Prelude.{◌≡◌, Bool, OnOk, IfOk, take, drop, Ok, Err, if◌then◌else◌};
+ghost use Rattle.gmpl_value.specs.declared.eval_fault.EvalFault.TheVariants as faults;
+ghost use Rattle.gmpl_value.specs.Outcome.{Follows, Gives, GivesAs, Outcome, then_do};
+ghost use Rattle.gmpl_meaning.specs.declared.walk.EntryValue.{EntryValue};
 ghost use Rattle.gmpl_expr.specs.Stops as stops;
 ghost use Rattle.gmpl_expr.specs.Shared.{entered};
 ghost use Rattle.gmpl_expr.specs.OneByOne as one_by_one;
@@ -43,8 +45,23 @@ pub(crate) fn start(alloc: Global) -> Result<Walk, AllocError>
     })
 }
 
-/// The same element again.
-pub(crate) fn copied(alloc: Global, element: &Element) -> Result<Element, AllocError>
+/// An element, where its condition holds.
+pub(crate) fn keep_where(
+    alloc: Global,
+    found: &mut Items<Element>,
+    element: &Element,
+    holds: bool,
+) -> Result<(), AllocError>
+    ensures { OnOk result (found.new ≡ walks.kept_by found.old element.now holds) }
+{
+    if holds {
+        found.push(copied(alloc, element)?)?;
+    }
+    Ok(())
+}
+
+// The same element again.
+fn copied(alloc: Global, element: &Element) -> Result<Element, AllocError>
     ensures { IfOk result (λ made. made ≡ element.now) }
 {
     Ok(Element {
@@ -74,7 +91,18 @@ fn add_match(
 }
 
 /// An element with each tuple that matches an entry's pattern.
-pub(crate) fn add_matches(
+pub(crate) fn add_entered(
+    alloc: Global,
+    found: &mut Items<Element>,
+    element: &Element,
+    value: Entered,
+) -> Result<(), AllocError>
+    ensures { OnOk result (found.new ≡ walks.with_matches found.old element.now value.pattern value.set.value) }
+{
+    add_matches(alloc, found, element, &value)
+}
+
+fn add_matches(
     alloc: Global,
     found: &mut Items<Element>,
     element: &Element,
@@ -162,9 +190,51 @@ fn indices_of(
     }
 }
 
-/// The indices in scope behind an entry, and the subscripts that are left; `OutOfDomain` where those that it takes don't lie in
-/// its set or don't match.
-pub(crate) fn within_value(
+/// The indices in scope behind an entry, and the subscripts that are left, in the place of those before it; `OutOfDomain` where
+/// those that it takes don't lie in its set or don't match.
+pub(crate) fn enter(
+    alloc: Global,
+    bindings: &mut Tuple,
+    rest: &mut Tuple,
+    value: Result<Entered, EvalFault>,
+) -> Result<(), EvalFault>
+    ensures { (answer : Outcome EntryValue) → GivesAs entered value answer → Follows result (bindings.new, rest.new) (then_do (domains.within_value bindings.old rest.old) answer) }
+{
+    match value {
+        Ok(value) => enter_value(alloc, bindings, rest, &value),
+        Err(fault) => Err(fault),
+    }
+}
+
+fn enter_value(
+    alloc: Global,
+    bindings: &mut Tuple,
+    rest: &mut Tuple,
+    value: &Entered,
+) -> Result<(), EvalFault>
+    ensures { Follows result (bindings.new, rest.new) (domains.within_value bindings.old rest.old (entered value.now)) }
+{
+    let behind = within_value(alloc, bindings, rest, value)?;
+    *bindings = behind.0;
+    *rest = behind.1;
+    Ok(())
+}
+
+/// The indices in scope, where the domain's condition holds.
+pub(crate) fn within_where(
+    bindings: Tuple,
+    holds: Result<bool, EvalFault>,
+) -> Result<Tuple, EvalFault>
+    ensures { (answer : Outcome Bool) → Gives holds answer → Gives result (then_do (λ t. if t then Ok bindings else Err faults.OutOfDomain) answer) }
+{
+    match holds {
+        Ok(true) => Ok(bindings),
+        Ok(false) => Err(EvalFault::OutOfDomain),
+        Err(fault) => Err(fault),
+    }
+}
+
+fn within_value(
     alloc: Global,
     bindings: &Tuple,
     subscripts: &Tuple,

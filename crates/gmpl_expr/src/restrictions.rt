@@ -1,18 +1,19 @@
 // Whether the values of parameters and sets meet what is asked of them.
 ghost use Rattle.std.specs.Prelude.{◌≡◌};
 ghost use Rattle.gmpl_value.specs.Outcome.{Gives};
+ghost use Rattle.gmpl_expr.specs.AllHold.{all_hold};
 ghost use Rattle.gmpl_meaning.specs.Restrictions as restrictions;
 ghost use Rattle.gmpl_meaning.specs.Members.{member};
 ghost use Rattle.gmpl_meaning.specs.Right.{AreRight};
 
-use crate::attributes::{all_allow, held, is_in, where_true};
+use crate::attributes::{all_allow, is_in, where_true};
 use crate::evaluate::eval;
-use crate::places::copied;
 use crate::room::TEST;
 use crate::sets::shared_set;
+use crate::tested::{lies_in, lies_within, meets, symbol_tested};
 use gmpl_data::LoadedModel;
 use gmpl_meaning::Kept;
-use gmpl_operations::{Value, compared as symbols_compared};
+use gmpl_operations::Value;
 use gmpl_resolved::Attribute;
 use gmpl_value::{EvalFault, SetValue, Symbol, Tuple};
 use std::alloc::Global;
@@ -35,15 +36,36 @@ pub(crate) fn restricted(
     ensures right { AreRight model.now kept.new }
     ensures value { Gives result (restrictions.restricted model.now.statements (member model.now height) bindings.now symbolic attributes.now symbol) }
 {
-    where_true(all_allow(attributes, &symbol))?;
+    let tested = all_hold(
+        alloc, model, kept, height, room, bindings, symbolic, attributes, &symbol,
+    );
+    symbol_tested(symbol, tested)
+}
+
+#[cycle(evaluation)]
+fn all_hold(
+    alloc: Global,
+    model: &LoadedModel,
+    kept: &mut Kept,
+    height: u32,
+    room: u32,
+    bindings: &Tuple,
+    symbolic: bool,
+    attributes: &[Attribute],
+    symbol: &Symbol,
+) -> Result<(), EvalFault>
+    requires right { AreRight model.now kept.old }
+    ensures right { AreRight model.now kept.new }
+    ensures value { Gives result (all_hold model.now.statements (member model.now height) bindings.now symbolic attributes.now symbol.now) }
+{
+    where_true(all_allow(attributes, symbol))?;
     let room = room.saturating_sub(TEST);
     relations_hold(
-        alloc, model, kept, height, room, bindings, symbolic, attributes, &symbol,
+        alloc, model, kept, height, room, bindings, symbolic, attributes, symbol,
     )?;
     memberships_hold(
-        alloc, model, kept, height, room, bindings, attributes, &symbol,
-    )?;
-    Ok(Value::Scalar(symbol))
+        alloc, model, kept, height, room, bindings, attributes, symbol,
+    )
 }
 
 #[cycle(evaluation)]
@@ -91,9 +113,8 @@ fn relation_holds(
             if is_in(*relation) {
                 Ok(())
             } else {
-                let value = eval(alloc, model, kept, height, room, whole, bindings)?;
-                let other = held(symbolic, value)?;
-                where_true(symbols_compared(*relation, symbol, &other))
+                let value = eval(alloc, model, kept, height, room, whole, bindings);
+                meets(symbolic, *relation, symbol, value)
             }
         }
         _ => Ok(()),
@@ -141,9 +162,8 @@ fn membership_holds(
     match attribute {
         Attribute::Restriction(relation, whole) => {
             if is_in(*relation) {
-                let set = shared_set(alloc, model, kept, height, room, whole, bindings)?;
-                let tuple = Tuple::single(alloc, symbol.copied(alloc)?)?;
-                where_true(set.as_ref().contains(&tuple))
+                let set = shared_set(alloc, model, kept, height, room, whole, bindings);
+                lies_in(alloc, symbol, set)
             } else {
                 Ok(())
             }
@@ -192,8 +212,8 @@ fn inclusion_holds(
 {
     match attribute {
         Attribute::Restriction(_, whole) => {
-            let outer = shared_set(alloc, model, kept, height, room, whole, bindings)?;
-            where_true(set.is_within(outer.as_ref()))
+            let outer = shared_set(alloc, model, kept, height, room, whole, bindings);
+            lies_within(set, outer)
         }
         _ => Ok(()),
     }

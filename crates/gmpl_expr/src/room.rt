@@ -2,6 +2,7 @@
 ghost use Rattle.std.specs.Prelude.{◌≤◌};
 
 use gmpl_resolved::Expr;
+use gmpl_value::EvalFault;
 
 /// What evaluation begins with: so many times 2 KB of the stack, about.
 pub(crate) const ROOM: u32 = 3650;
@@ -14,6 +15,16 @@ pub(crate) const ENTRY: u32 = 2;
 
 /// What a demand for a member takes.
 pub(crate) const DEMAND: u32 = 3;
+
+/// The room behind a part: none behind a fault, so that nothing more is evaluated there.
+pub(crate) fn room_behind<T>(part: &Result<T, EvalFault>, room: u32) -> u32
+    ensures { result ≤ room }
+{
+    match part {
+        Ok(_) => room,
+        Err(_) => 0,
+    }
+}
 
 /// What an expression takes, beside its parts.
 pub(crate) fn room_of(whole: &Expr) -> u32

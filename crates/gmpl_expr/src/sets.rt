@@ -9,12 +9,12 @@ ghost use Rattle.gmpl_operations.specs.Values.{set_in};
 ghost use Rattle.gmpl_meaning.specs.Right.{AreRight};
 
 use crate::evaluate::eval;
+use crate::handed::set_of;
 use crate::kept_sets::{found_set, remembered_set};
 use crate::members::demanded;
-use crate::parts::{index_set, kept_range};
-use crate::room::DEMAND;
-use crate::values::{number, symbols};
-use fraction::Frac;
+use crate::parts::{index_set, kept_range_of};
+use crate::room::{DEMAND, room_behind};
+use crate::values::{number, step_of, symbols};
 use gmpl_data::LoadedModel;
 use gmpl_meaning::Kept;
 use gmpl_resolved::{Expr, Meaning};
@@ -81,7 +81,7 @@ fn own_set(
     match found_set(alloc, model, kept, height, whole, bindings) {
         Some(set) => Ok(set),
         None => {
-            let value = eval(alloc, model, kept, height, room, whole, bindings)?;
+            let value = eval(alloc, model, kept, height, room, whole, bindings);
             remembered_set(alloc, model, kept, height, whole, bindings, value)
         }
     }
@@ -111,8 +111,8 @@ fn shared_member(
         Meaning::Object(place) => {
             let room = room - DEMAND;
             let subscripts = symbols(alloc, model, kept, height, room, subscripts, bindings)?;
-            let value = demanded(alloc, model, kept, height, room, place, suffix, &subscripts)?;
-            value.into_set(alloc)
+            let value = demanded(alloc, model, kept, height, room, place, suffix, &subscripts);
+            set_of(alloc, value)
         }
     }
 }
@@ -133,13 +133,10 @@ fn shared_range(
     ensures right { AreRight model.now kept.new }
     ensures value { GivesAs (λ set. set.value) result (then_do set_in (spec.range (at.expr model.now height first.now) (at.expr model.now height last.now) (at.optional model.now height step.now) bindings.now)) }
 {
-    let from = number(alloc, model, kept, height, room, first, bindings)?;
-    let to = number(alloc, model, kept, height, room, last, bindings)?;
-    match step {
-        None => kept_range(alloc, kept, from, to, Frac::one()),
-        Some(step) => {
-            let by = number(alloc, model, kept, height, room, step.get(), bindings)?;
-            kept_range(alloc, kept, from, to, by)
-        }
-    }
+    let from = number(alloc, model, kept, height, room, first, bindings);
+    let room = room_behind(&from, room);
+    let to = number(alloc, model, kept, height, room, last, bindings);
+    let room = room_behind(&to, room);
+    let by = step_of(alloc, model, kept, height, room, step, bindings);
+    kept_range_of(alloc, model, kept, from, to, by)
 }

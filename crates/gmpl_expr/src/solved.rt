@@ -1,7 +1,8 @@
 // What members of variables, constraints and objectives come to: before `solve` a form, and behind it the numbers of the solution.
 ghost use Rattle.std.specs.Prelude.{◌≡◌, [], ◌∷◌, Some, Ok};
 ghost use Rattle.rational.specs.Rational.{one_ℚ, zero_ℚ};
-ghost use Rattle.gmpl_value.specs.Outcome.{Gives};
+ghost use Rattle.gmpl_value.specs.Outcome.{Gives, Outcome, then_do};
+ghost use Rattle.gmpl_meaning.specs.declared.bounds.Bounds.{Bounds as AnyBounds};
 ghost use Rattle.gmpl_functions.specs.Linear.{linear};
 ghost use Rattle.gmpl_solution.specs.Solution as solutions;
 ghost use Rattle.gmpl_meaning.specs.Members as members;
@@ -106,8 +107,25 @@ fn solved_variable(
     }
 }
 
-/// What is asked of a member of a variable with these bounds: without a solution it is its form, and has no suffix.
-pub(crate) fn variable_value(
+/// What is asked of a member of a variable, its bounds handed as they were evaluated.
+pub(crate) fn variable_asked(
+    alloc: Global,
+    place: usize,
+    subscripts: &Tuple,
+    solution: &Option<Solution>,
+    asked: Option<Suffix>,
+    bounds: Result<Bounds, EvalFault>,
+) -> Result<Value, EvalFault>
+    ensures { (answer : Outcome AnyBounds) → Gives bounds answer → Gives result (then_do (members.variable_asked place subscripts.now solution.now asked) answer) }
+{
+    match bounds {
+        Ok(bounds) => variable_value(alloc, place, subscripts, solution, asked, bounds),
+        Err(fault) => Err(fault),
+    }
+}
+
+// What is asked of a member of a variable with these bounds: without a solution it is its form, and has no suffix.
+fn variable_value(
     alloc: Global,
     place: usize,
     subscripts: &Tuple,

@@ -1,6 +1,7 @@
 // Lists of values, functions, comparisons and braces.
 ghost use Rattle.std.specs.Prelude.{◌≡◌, []};
-ghost use Rattle.gmpl_value.specs.Outcome.{Gives};
+ghost use Rattle.gmpl_value.specs.Outcome.{Gives, then_do};
+ghost use Rattle.gmpl_operations.specs.Values.{tuple_in};
 ghost use Rattle.gmpl_expr.specs.At as at;
 ghost use Rattle.gmpl_meaning.specs.Expressions as spec;
 ghost use Rattle.gmpl_meaning.specs.Walks as walks;
@@ -9,16 +10,21 @@ ghost use Rattle.gmpl_expr.specs.Membership as membership;
 ghost use Rattle.gmpl_syntax.specs.declared.expression.Relation.TheVariants as relations;
 
 use crate::evaluate::eval;
+use crate::handed::{
+    card_of, element_of, function_of, left_of, membership_of, negation_of, number_of,
+    power_of_both, push_number, push_symbol, range_of, relation_of, sliced_of, symbol_of,
+    text_length_of, truth_of,
+};
 use crate::indexing::walked;
-use crate::listing::{add, set_over};
-use crate::parts::{negated_value, ranged, size_of, truth_value};
+use crate::listing::{add, set_gone_over, set_value};
+use crate::parts::{negated_value, truth_value};
+use crate::room::room_behind;
 use crate::set_kinds::is_indexing;
 use crate::sets::shared_set;
 use fraction::Frac;
 use gmpl_data::LoadedModel;
-use gmpl_functions::{length, power as power_of};
 use gmpl_meaning::Kept;
-use gmpl_operations::{Value, called_with_numbers, left_side, related, sliced};
+use gmpl_operations::Value;
 use gmpl_resolved::{Entry, Expr, Indexing};
 use gmpl_syntax::{Function, Relation};
 use gmpl_value::{EvalFault, SetValue, Tuple};
@@ -43,8 +49,8 @@ pub(crate) fn symbols(
 {
     let mut found = Tuple::with_capacity(alloc, all.len())?;
     for one in all {
-        let value = eval(alloc, model, kept, height, room, one, bindings)?;
-        found.push(value.into_symbol()?)?;
+        let value = eval(alloc, model, kept, height, room, one, bindings);
+        push_symbol(&mut found, value)?;
     }
     Ok(found)
 }
@@ -65,8 +71,8 @@ fn numbers(
 {
     let mut found = Items::new(alloc);
     for one in all {
-        let value = eval(alloc, model, kept, height, room, one, bindings)?;
-        found.push(value.as_number()?)?;
+        let value = eval(alloc, model, kept, height, room, one, bindings);
+        push_number(&mut found, value)?;
     }
     Ok(found)
 }
@@ -85,8 +91,7 @@ pub(crate) fn number(
     ensures right { AreRight model.now kept.new }
     ensures value { Gives result (spec.number_at (at.expr model.now height whole.now) bindings.now) }
 {
-    let value = eval(alloc, model, kept, height, room, whole, bindings)?;
-    value.as_number()
+    number_of(eval(alloc, model, kept, height, room, whole, bindings))
 }
 
 #[cycle(evaluation)]
@@ -103,8 +108,25 @@ pub(crate) fn holds(
     ensures right { AreRight model.now kept.new }
     ensures value { Gives result (walks.holds (at.expr model.now height condition.now) bindings.now) }
 {
-    let value = eval(alloc, model, kept, height, room, condition, bindings)?;
-    value.as_truth()
+    truth_of(eval(alloc, model, kept, height, room, condition, bindings))
+}
+
+#[cycle(evaluation)]
+fn element(
+    alloc: Global,
+    model: &LoadedModel,
+    kept: &mut Kept,
+    height: u32,
+    room: u32,
+    whole: &Expr,
+    bindings: &Tuple,
+) -> Result<Tuple, EvalFault>
+    requires right { AreRight model.now kept.old }
+    ensures right { AreRight model.now kept.new }
+    ensures value { Gives result (then_do tuple_in ((at.expr model.now height whole.now).value bindings.now)) }
+{
+    let value = eval(alloc, model, kept, height, room, whole, bindings);
+    element_of(alloc, value)
 }
 
 // ---- functions
@@ -130,7 +152,7 @@ pub(crate) fn called(
         Function::Substr => substring(alloc, model, kept, height, room, arguments, bindings),
         _ => {
             let numbers = numbers(alloc, model, kept, height, room, arguments, bindings)?;
-            Ok(Value::number(called_with_numbers(function, numbers.as_slice())?))
+            function_of(function, numbers)
         }
     }
 }
@@ -151,10 +173,7 @@ fn size(
 {
     match arguments {
         [] => Err(EvalFault::NotANumber),
-        [set, ..] => {
-            let set = shared_set(alloc, model, kept, height, room, set, bindings)?;
-            Ok(size_of(set.as_ref()))
-        }
+        [set, ..] => card_of(shared_set(alloc, model, kept, height, room, set, bindings)),
     }
 }
 
@@ -175,8 +194,8 @@ fn text_length(
     match arguments {
         [] => Err(EvalFault::NotANumber),
         [text, ..] => {
-            let symbol = eval(alloc, model, kept, height, room, text, bindings)?.into_symbol()?;
-            Ok(Value::number(length(alloc, &symbol)?))
+            let text = eval(alloc, model, kept, height, room, text, bindings);
+            text_length_of(alloc, text)
         }
     }
 }
@@ -198,9 +217,10 @@ fn substring(
     match arguments {
         [] => Err(EvalFault::NotANumber),
         [text, others @ ..] => {
-            let symbol = eval(alloc, model, kept, height, room, text, bindings)?.into_symbol()?;
-            let numbers = numbers(alloc, model, kept, height, room, others, bindings)?;
-            Ok(Value::Scalar(sliced(alloc, &symbol, numbers.as_slice())?))
+            let text = symbol_of(eval(alloc, model, kept, height, room, text, bindings));
+            let room = room_behind(&text, room);
+            let numbers = numbers(alloc, model, kept, height, room, others, bindings);
+            sliced_of(alloc, text, numbers)
         }
     }
 }
@@ -223,14 +243,32 @@ pub(crate) fn range(
     ensures right { AreRight model.now kept.new }
     ensures value { Gives result (spec.range (at.expr model.now height first.now) (at.expr model.now height last.now) (at.optional model.now height step.now) bindings.now) }
 {
-    let from = number(alloc, model, kept, height, room, first, bindings)?;
-    let to = number(alloc, model, kept, height, room, last, bindings)?;
+    let from = number(alloc, model, kept, height, room, first, bindings);
+    let room = room_behind(&from, room);
+    let to = number(alloc, model, kept, height, room, last, bindings);
+    let room = room_behind(&to, room);
+    let by = step_of(alloc, model, kept, height, room, step, bindings);
+    range_of(alloc, from, to, by)
+}
+
+/// The step of a range: 1, where none is written.
+#[cycle(evaluation)]
+pub(crate) fn step_of(
+    alloc: Global,
+    model: &LoadedModel,
+    kept: &mut Kept,
+    height: u32,
+    room: u32,
+    step: &Option<Boxed<Expr>>,
+    bindings: &Tuple,
+) -> Result<Frac, EvalFault>
+    requires right { AreRight model.now kept.old }
+    ensures right { AreRight model.now kept.new }
+    ensures value { Gives result (spec.step_of (at.optional model.now height step.now) bindings.now) }
+{
     match step {
-        None => ranged(alloc, from, to, Frac::one()),
-        Some(step) => {
-            let by = number(alloc, model, kept, height, room, step.get(), bindings)?;
-            ranged(alloc, from, to, by)
-        }
+        None => Ok(Frac::one()),
+        Some(step) => number(alloc, model, kept, height, room, step.get(), bindings),
     }
 }
 
@@ -249,9 +287,10 @@ pub(crate) fn power(
     ensures right { AreRight model.now kept.new }
     ensures value { Gives result (spec.power (at.expr model.now height base.now) (at.expr model.now height exponent.now) bindings.now) }
 {
-    let base = number(alloc, model, kept, height, room, base, bindings)?;
-    let exponent = number(alloc, model, kept, height, room, exponent, bindings)?;
-    Ok(Value::number(power_of(base, exponent)?))
+    let base = number(alloc, model, kept, height, room, base, bindings);
+    let room = room_behind(&base, room);
+    let exponent = number(alloc, model, kept, height, room, exponent, bindings);
+    power_of_both(base, exponent)
 }
 
 #[cycle(evaluation)]
@@ -332,9 +371,10 @@ fn is_element(
     ensures right { AreRight model.now kept.new }
     ensures value { Gives result (membership.is_element (at.expr model.now height left.now) (at.expr model.now height right.now) bindings.now) }
 {
-    let tuple = eval(alloc, model, kept, height, room, left, bindings)?.into_tuple(alloc)?;
-    let set = shared_set(alloc, model, kept, height, room, right, bindings)?;
-    Ok(set.as_ref().contains(&tuple))
+    let element = element(alloc, model, kept, height, room, left, bindings);
+    let room = room_behind(&element, room);
+    let set = shared_set(alloc, model, kept, height, room, right, bindings);
+    membership_of(element, set)
 }
 
 #[cycle(evaluation)]
@@ -353,10 +393,11 @@ fn compared_values(
     ensures right { AreRight model.now kept.new }
     ensures value { Gives result (spec.compared relation (at.expr model.now height left.now) (at.expr model.now height right.now) bindings.now) }
 {
-    let left = eval(alloc, model, kept, height, room, left, bindings)?;
-    let left = left_side(alloc, relation, left)?;
-    let right = eval(alloc, model, kept, height, room, right, bindings)?;
-    Ok(Value::Truth(related(alloc, relation, left, right)?))
+    let value = eval(alloc, model, kept, height, room, left, bindings);
+    let left = left_of(alloc, relation, value);
+    let room = room_behind(&left, room);
+    let right = eval(alloc, model, kept, height, room, right, bindings);
+    relation_of(alloc, relation, left, right)
 }
 
 #[cycle(evaluation)]
@@ -373,8 +414,7 @@ pub(crate) fn negation(
     ensures right { AreRight model.now kept.new }
     ensures value { Gives result (spec.negation (at.expr model.now height part.now) bindings.now) }
 {
-    let truth = holds(alloc, model, kept, height, room, part, bindings)?;
-    Ok(Value::Truth(!truth))
+    negation_of(holds(alloc, model, kept, height, room, part, bindings))
 }
 
 // ---- braces
@@ -394,8 +434,8 @@ pub(crate) fn braces(
     ensures value { Gives result (spec.braces (at.indexing model.now height indexing.now) bindings.now) }
 {
     if is_indexing(model, height, indexing) {
-        let walk = walked(alloc, model, kept, height, room, indexing, bindings)?;
-        set_over(alloc, &walk)
+        let walk = walked(alloc, model, kept, height, room, indexing, bindings);
+        set_gone_over(alloc, walk)
     } else {
         listed(
             alloc,
@@ -425,8 +465,8 @@ fn listed(
 {
     let mut found = SetValue::new(alloc);
     for entry in entries {
-        let value = eval(alloc, model, kept, height, room, &entry.set, bindings)?;
-        add(&mut found, value.into_tuple(alloc)?)?;
+        let element = element(alloc, model, kept, height, room, &entry.set, bindings)?;
+        add(&mut found, element)?;
     }
-    Ok(Value::elements(alloc, found)?)
+    set_value(alloc, found)
 }

@@ -7,9 +7,9 @@ ghost use Rattle.gmpl_data.specs.Given as given;
 ghost use Rattle.gmpl_meaning.specs.Members.{member};
 ghost use Rattle.gmpl_meaning.specs.Right.{AreRight};
 
-use crate::attributes::{where_binary, with_bound};
+use crate::attributes::{binary_bounds, bounds_with};
 use crate::indexing::within_domain;
-use crate::solved::{bounded_column, solved_asked, variable_value};
+use crate::solved::{bounded_column, solved_asked, variable_asked};
 use crate::values::number;
 use gmpl_data::LoadedModel;
 use gmpl_meaning::{Bounds, Kept};
@@ -61,10 +61,8 @@ fn evaluated_variable(
     ensures right { AreRight model.now kept.new }
     ensures value { Gives result (members.evaluated_variable model.now (member model.now height) place variable.now asked subscripts.now) }
 {
-    match variable_bounds(alloc, model, kept, height, room, variable, subscripts) {
-        Ok(bounds) => variable_value(alloc, place, subscripts, &model.solution, asked, bounds),
-        Err(fault) => Err(fault),
-    }
+    let bounds = variable_bounds(alloc, model, kept, height, room, variable, subscripts);
+    variable_asked(alloc, place, subscripts, &model.solution, asked, bounds)
 }
 
 /// The bounds of a variable's member.
@@ -98,8 +96,8 @@ fn variable_bounds(
     };
     let found = bounded(
         alloc, model, kept, height, room, &bindings, none, attributes,
-    )?;
-    Ok(where_binary(attributes, found))
+    );
+    binary_bounds(attributes, found)
 }
 
 /// The bounds of a member of the object at this place.
@@ -172,8 +170,8 @@ fn bounded_by(
 {
     match attribute {
         Attribute::Restriction(relation, whole) => {
-            let bound = number(alloc, model, kept, height, room, whole, bindings)?;
-            Ok(with_bound(so_far, *relation, bound))
+            let bound = number(alloc, model, kept, height, room, whole, bindings);
+            bounds_with(so_far, *relation, bound)
         }
         _ => Ok(so_far),
     }

@@ -17,19 +17,19 @@ abbrev pub decreases-variables::bounded_by : goal.decreases-variables::bounded_b
 decreases-variables::bounded_by l = 32 * l.room + 2
 
 abbrev pub decreases-values::braces : goal.decreases-values::braces
-decreases-values::braces l = 32 * l.room + 8
+decreases-values::braces l = 32 * l.room + 9
 
 abbrev pub decreases-members::by_default : goal.decreases-members::by_default
 decreases-members::by_default l = 32 * l.room + 1
 
 abbrev pub decreases-values::called : goal.decreases-values::called
-decreases-values::called l = 32 * l.room + 5
+decreases-values::called l = 32 * l.room + 6
 
 abbrev pub decreases-evaluate::chain : goal.decreases-evaluate::chain
 decreases-evaluate::chain l = 32 * l.room + 3
 
 abbrev pub decreases-values::compared : goal.decreases-values::compared
-decreases-values::compared l = 32 * l.room + 6
+decreases-values::compared l = 32 * l.room + 7
 
 abbrev pub decreases-values::compared_values : goal.decreases-values::compared_values
 decreases-values::compared_values l = 32 * l.room + 1
@@ -38,13 +38,13 @@ abbrev pub decreases-evaluate::with_sign : goal.decreases-evaluate::with_sign
 decreases-evaluate::with_sign l = 32 * l.room + 1
 
 abbrev pub decreases-values::within_set : goal.decreases-values::within_set
-decreases-values::within_set l = 32 * l.room + 5
+decreases-values::within_set l = 32 * l.room + 6
 
 abbrev pub decreases-values::outside_set : goal.decreases-values::outside_set
-decreases-values::outside_set l = 32 * l.room + 5
+decreases-values::outside_set l = 32 * l.room + 6
 
 abbrev pub decreases-values::is_element : goal.decreases-values::is_element
-decreases-values::is_element l = 32 * l.room + 4
+decreases-values::is_element l = 32 * l.room + 5
 
 abbrev pub decreases-indexing::component_value : goal.decreases-indexing::component_value
 decreases-indexing::component_value l = 32 * l.room + 1
@@ -68,7 +68,7 @@ abbrev pub decreases-members::anew : goal.decreases-members::anew
 decreases-members::anew l = 32 * l.room + 14
 
 abbrev pub decreases-sets::shared_set : goal.decreases-sets::shared_set
-decreases-sets::shared_set l = 32 * l.room + 3
+decreases-sets::shared_set l = 32 * l.room + 4
 
 abbrev pub decreases-sets::own_set : goal.decreases-sets::own_set
 decreases-sets::own_set l = 32 * l.room + 2
@@ -77,16 +77,16 @@ abbrev pub decreases-sets::shared_member : goal.decreases-sets::shared_member
 decreases-sets::shared_member l = 32 * l.room + 2
 
 abbrev pub decreases-sets::shared_range : goal.decreases-sets::shared_range
-decreases-sets::shared_range l = 32 * l.room + 2
+decreases-sets::shared_range l = 32 * l.room + 3
 
 abbrev pub decreases-indexing::entry_value : goal.decreases-indexing::entry_value
-decreases-indexing::entry_value l = 32 * l.room + 4
+decreases-indexing::entry_value l = 32 * l.room + 5
 
 abbrev pub decreases-evaluate::eval : goal.decreases-evaluate::eval
 decreases-evaluate::eval l = 32 * l.room + 0
 
 abbrev pub decreases-indexing::extended : goal.decreases-indexing::extended
-decreases-indexing::extended l = 32 * l.room + 5
+decreases-indexing::extended l = 32 * l.room + 6
 
 abbrev pub decreases-indexing::filtered : goal.decreases-indexing::filtered
 decreases-indexing::filtered l = 32 * l.room + 2
@@ -94,32 +94,32 @@ decreases-indexing::filtered l = 32 * l.room + 2
 abbrev pub decreases-evaluate::group : goal.decreases-evaluate::group
 decreases-evaluate::group l = 32 * l.room + 2
 
+abbrev pub decreases-values::element : goal.decreases-values::element
+decreases-values::element l = 32 * l.room + 1
+
 abbrev pub decreases-values::holds : goal.decreases-values::holds
 decreases-values::holds l = 32 * l.room + 1
 
 abbrev pub decreases-restrictions::inclusion_holds : goal.decreases-restrictions::inclusion_holds
-decreases-restrictions::inclusion_holds l = 32 * l.room + 4
+decreases-restrictions::inclusion_holds l = 32 * l.room + 5
 
 abbrev pub decreases-restrictions::inclusions_hold : goal.decreases-restrictions::inclusions_hold
-decreases-restrictions::inclusions_hold l = 32 * l.room + 5
+decreases-restrictions::inclusions_hold l = 32 * l.room + 6
 
 abbrev pub decreases-evaluate::linked : goal.decreases-evaluate::linked
 decreases-evaluate::linked l = 32 * l.room + 1
 
-abbrev pub decreases-evaluate::links_from : goal.decreases-evaluate::links_from
-decreases-evaluate::links_from l = 32 * l.room + 2
-
 abbrev pub decreases-values::listed : goal.decreases-values::listed
-decreases-values::listed l = 32 * l.room + 1
+decreases-values::listed l = 32 * l.room + 2
 
 abbrev pub decreases-members::member_of : goal.decreases-members::member_of
 decreases-members::member_of l = 32 * l.room + 12
 
 abbrev pub decreases-restrictions::membership_holds : goal.decreases-restrictions::membership_holds
-decreases-restrictions::membership_holds l = 32 * l.room + 4
+decreases-restrictions::membership_holds l = 32 * l.room + 5
 
 abbrev pub decreases-restrictions::memberships_hold : goal.decreases-restrictions::memberships_hold
-decreases-restrictions::memberships_hold l = 32 * l.room + 5
+decreases-restrictions::memberships_hold l = 32 * l.room + 6
 
 abbrev pub decreases-evaluate::named : goal.decreases-evaluate::named
 decreases-evaluate::named l = 32 * l.room + 18
@@ -137,7 +137,7 @@ abbrev pub decreases-values::numbers : goal.decreases-values::numbers
 decreases-values::numbers l = 32 * l.room + 1
 
 abbrev pub decreases-indexing::over_entries : goal.decreases-indexing::over_entries
-decreases-indexing::over_entries l = 32 * l.room + 6
+decreases-indexing::over_entries l = 32 * l.room + 7
 
 abbrev pub decreases-members::param_member : goal.decreases-members::param_member
 decreases-members::param_member l = 32 * l.room + 9
@@ -145,8 +145,11 @@ decreases-members::param_member l = 32 * l.room + 9
 abbrev pub decreases-values::power : goal.decreases-values::power
 decreases-values::power l = 32 * l.room + 2
 
+abbrev pub decreases-values::step_of : goal.decreases-values::step_of
+decreases-values::step_of l = 32 * l.room + 2
+
 abbrev pub decreases-values::range : goal.decreases-values::range
-decreases-values::range l = 32 * l.room + 2
+decreases-values::range l = 32 * l.room + 3
 
 abbrev pub decreases-restrictions::relation_holds : goal.decreases-restrictions::relation_holds
 decreases-restrictions::relation_holds l = 32 * l.room + 1
@@ -154,14 +157,23 @@ decreases-restrictions::relation_holds l = 32 * l.room + 1
 abbrev pub decreases-restrictions::relations_hold : goal.decreases-restrictions::relations_hold
 decreases-restrictions::relations_hold l = 32 * l.room + 2
 
+abbrev pub decreases-restrictions::all_hold : goal.decreases-restrictions::all_hold
+decreases-restrictions::all_hold l = 32 * l.room + 7
+
 abbrev pub decreases-restrictions::restricted : goal.decreases-restrictions::restricted
-decreases-restrictions::restricted l = 32 * l.room + 6
+decreases-restrictions::restricted l = 32 * l.room + 8
 
 abbrev pub decreases-members::set_member : goal.decreases-members::set_member
 decreases-members::set_member l = 32 * l.room + 9
 
 abbrev pub decreases-values::size : goal.decreases-values::size
-decreases-values::size l = 32 * l.room + 4
+decreases-values::size l = 32 * l.room + 5
+
+abbrev pub decreases-members::symbol_held : goal.decreases-members::symbol_held
+decreases-members::symbol_held l = 32 * l.room + 4
+
+abbrev pub decreases-members::set_held : goal.decreases-members::set_held
+decreases-members::set_held l = 32 * l.room + 4
 
 abbrev pub decreases-members::source : goal.decreases-members::source
 decreases-members::source l = 32 * l.room + 3
@@ -188,16 +200,13 @@ abbrev pub decreases-variables::variable_member : goal.decreases-variables::vari
 decreases-variables::variable_member l = 32 * l.room + 11
 
 abbrev pub decreases-indexing::walked : goal.decreases-indexing::walked
-decreases-indexing::walked l = 32 * l.room + 7
+decreases-indexing::walked l = 32 * l.room + 8
 
 abbrev pub decreases-indexing::within_domain : goal.decreases-indexing::within_domain
 decreases-indexing::within_domain l = 32 * l.room + 8
 
 abbrev pub decreases-indexing::within_entries : goal.decreases-indexing::within_entries
 decreases-indexing::within_entries l = 32 * l.room + 6
-
-abbrev pub decreases-indexing::within_entry : goal.decreases-indexing::within_entry
-decreases-indexing::within_entry l = 32 * l.room + 5
 
 abbrev pub decreases-indexing::within_indexing : goal.decreases-indexing::within_indexing
 decreases-indexing::within_indexing l = 32 * l.room + 7
@@ -211,8 +220,8 @@ decreases-iterations::over_entries l = 32 * l.room + 6
 abbrev pub decreases-iterations::over_tuples : goal.decreases-iterations::over_tuples
 decreases-iterations::over_tuples l = 32 * l.room + 5
 
-abbrev pub decreases-iterations::at_inner : goal.decreases-iterations::at_inner
-decreases-iterations::at_inner l = 32 * l.room + 4
+abbrev pub decreases-iterations::at_tuple : goal.decreases-iterations::at_tuple
+decreases-iterations::at_tuple l = 32 * l.room + 4
 
 abbrev pub decreases-iterations::deeper : goal.decreases-iterations::deeper
 decreases-iterations::deeper l = 32 * l.room + 3
@@ -251,9 +260,9 @@ abbrev pub invariant-indexing::component_values-loop-one : goal.invariant-indexi
 invariant-indexing::component_values-loop-one l =
     (walks.component_values [] (at.components l.model l.height l.all) l.bindings ≡ walks.component_values l.found (at.components l.model l.height (drop l.one-index l.all)) l.bindings) × AreRight l.model l.kept
 
-abbrev pub invariant-evaluate::links_from-loop-link : goal.invariant-evaluate::links_from-loop-link
-invariant-evaluate::links_from-loop-link l =
-    (spec.links_from l.fn.first (at.links l.model l.height l.links) l.bindings ≡ spec.links_from l.value (at.links l.model l.height (drop l.link-index l.links)) l.bindings) × AreRight l.model l.kept
+abbrev pub invariant-evaluate::chain-loop-link : goal.invariant-evaluate::chain-loop-link
+invariant-evaluate::chain-loop-link l =
+    (spec.chain (at.expr l.model l.height l.first) (at.links l.model l.height l.links) l.bindings ≡ spec.links_from l.value (at.links l.model l.height (drop l.link-index l.links)) l.bindings) × AreRight l.model l.kept
 
 abbrev pub invariant-indexing::within_entries-loop-entry : goal.invariant-indexing::within_entries-loop-entry
 invariant-indexing::within_entries-loop-entry l =

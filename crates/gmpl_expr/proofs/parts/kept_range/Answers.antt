@@ -5,11 +5,11 @@ use Rattle.gmpl_operations.specs.Values.{set_in}
 use Rattle.gmpl_expr.proofs.parts.kept_range.Goals as goal
 
 pub returns-in_err-remember-in-None-clause-right : goal.returns-in_err-remember-in-None-clause-right
-returns-in_err-remember-in-None-clause-right c = λ model all. c.remember.ensures.right model all c.in_ok-set-in-None.ensures
+returns-in_err-remember-in-None-clause-right c = c.remember.ensures.right c.args.model.now c.requires.right c.in_ok-set-in-None.ensures
 
 pub returns-in_ok-remember-in-None-clause-right : goal.returns-in_ok-remember-in-None-clause-right
-returns-in_ok-remember-in-None-clause-right c = λ model all. c.remember.ensures.right model all c.in_ok-set-in-None.ensures
+returns-in_ok-remember-in-None-clause-right c = c.remember.ensures.right c.args.model.now c.requires.right c.in_ok-set-in-None.ensures
 
 pub returns-in-Some-clause-value : goal.returns-in-Some-clause-value
 returns-in-Some-clause-value c =
-    λ model all. subst (λ o. GivesAs (λ set. set.value) c.into_set.result (then_do set_in o)) (sym (c.in-Some.ensures model all)) c.into_set.ensures
+    subst (λ o. GivesAs (λ set. set.value) c.into_set.result (then_do set_in o)) (sym (c.in-Some.ensures c.args.model.now c.requires.right)) c.into_set.ensures
