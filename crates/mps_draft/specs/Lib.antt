@@ -3,6 +3,7 @@ pub mod Declaration
 pub mod Sections
 pub mod Sets
 pub mod Rows
+pub mod RowNumbers
 pub mod Bounds
 pub mod Finished
 pub mod Consistent

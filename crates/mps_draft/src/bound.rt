@@ -1,12 +1,12 @@
 // Bounds of columns.
-ghost use Rattle.std.specs.Prelude.{◌≡◌};
-ghost use Rattle.std.specs.Option.{option_map};
-ghost use Rattle.model_text.specs.Columns.{is_column_named};
-ghost use Rattle.mps_draft.specs.Declaration.{with_first_changed};
-ghost use Rattle.mps_draft.specs.Bounds.{bound_kind_of, bounded, has_value};
+ghost use Rattle.std.specs.Prelude.{◌≡◌, ◌<◌, length, slice_get, set, Some, Ok, OnErr};
+ghost use Rattle.milp.specs.Problem.{Column};
+ghost use Rattle.model_text.specs.Follows.{Follows};
+ghost use Rattle.model_text.specs.Steps.{then_do};
+ghost use Rattle.mps_draft.specs.Bounds.{bound_kind_of, bounded, has_value, columns_bounded};
 
 use fraction::Frac;
-use model_text::{ColumnTable, DeclaredColumn};
+use model_text::{ColumnTable, DeclaredColumn, FaultKind, ReadError};
 
 /// LO, UP, FX, LI, UI, FR, MI, PL and BV.
 #[derive(Clone, Copy)]
@@ -90,13 +90,39 @@ impl BoundKind {
     }
 }
 
-// The column of a name has a bound of this kind.
-pub(crate) fn set_bound(columns: &mut ColumnTable, name: &str, kind: BoundKind, value: Frac)
-    ensures { columns.new ≡ with_first_changed (is_column_named name.now) (bounded kind value) columns.old }
+// The column of a name has a bound of this kind, with a number or a number field's fault.
+pub(crate) fn set_bound(
+    columns: &mut ColumnTable,
+    name: &str,
+    kind: BoundKind,
+    number: Result<Frac, FaultKind>,
+) -> Result<(), ReadError<FaultKind>>
+    ensures follows { Follows result columns.new (columns_bounded kind name.now number columns.old) }
+    ensures kept { OnErr result (columns.new ≡ columns.old) }
 {
-    if let Some(place) = columns.place(name) {
-        let mut column = columns.at(place);
-        kind.set(&mut column, value);
-        columns.set(place, column);
+    match columns.place(name) {
+        None => Err(ReadError::Fault(FaultKind::Unknown)),
+        Some(place) => set_bound_at(columns, place, kind, number),
+    }
+}
+
+fn set_bound_at(
+    columns: &mut ColumnTable,
+    place: usize,
+    kind: BoundKind,
+    number: Result<Frac, FaultKind>,
+) -> Result<(), ReadError<FaultKind>>
+    requires { place < length columns.old }
+    ensures follows { (column : Column) → slice_get columns.old place ≡ Some column → Follows result columns.new (then_do (λ value. Ok (set columns.old place (bounded kind value column))) number) }
+    ensures kept { OnErr result (columns.new ≡ columns.old) }
+{
+    match number {
+        Err(fault) => Err(ReadError::Fault(fault)),
+        Ok(value) => {
+            let mut column = columns.at(place);
+            kind.set(&mut column, value);
+            columns.set(place, column);
+            Ok(())
+        }
     }
 }

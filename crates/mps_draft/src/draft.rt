@@ -1,27 +1,28 @@
 // A declaration in the making.
-ghost use Rattle.std.specs.Prelude.{◌≡◌, ◌≢◌, ◌<◌, ◌≤◌, ◌++◌, [], ◌∷◌, None, Some, false, true, length, map, is_some, IfSome, OnOk};
+ghost use Rattle.std.specs.Prelude.{ℕ, ◌≡◌, ◌<◌, ◌≤◌, ◌++◌, [], ◌∷◌, None, Some, false, true, length, map, is_some, IfSome, OnOk};
 ghost use Rattle.std.specs.Option.{option_map};
 ghost use Rattle.std.specs.List.{All};
 ghost use Rattle.model_text.specs.Names.{AreNew};
 ghost use Rattle.mps_draft.specs.Consistent.{IsGiven};
 ghost use Rattle.milp.specs.Problem.{Column};
-ghost use Rattle.mps_draft.specs.Declaration.{DeclaredRow as RowOf, nothing_declared, row_named, is_row, is_objective_named, is_row_named, is_column, with_row, with_first_changed, new_row, entry_count as count_of_entries};
-ghost use Rattle.rational.specs.Compare.{is_zero};
+ghost use Rattle.mps_draft.specs.Declaration.{DeclaredRow as RowOf, nothing_declared, row_named, is_row, is_objective_named, is_column, with_row, new_row, entry_count as count_of_entries};
 ghost use Rattle.mps_draft.specs.Rows.{given};
 ghost use Rattle.mps_draft.specs.Declaration.{is_the_name};
-ghost use Rattle.model_text.specs.Columns.{is_column_named, new_column};
+ghost use Rattle.model_text.specs.Columns.{new_column};
 ghost use Rattle.mps_draft.specs.Rows.{rhs_added, range_added};
-ghost use Rattle.mps_draft.specs.Bounds.{bounded};
+ghost use Rattle.mps_draft.specs.RowNumbers.{entry_value, rhs_value, objective_with, entry_added, rhs_given};
+ghost use Rattle.model_text.specs.Follows.{Follows};
+ghost use Rattle.mps_draft.specs.Bounds.{bound_given};
 ghost use Rattle.mps_draft.specs.Sets.{is_of_first_set, is_same_set, with_set, mixes_sets};
 ghost use Rattle.mps_draft.specs.Declaration.{in_section, with_sense};
 
 use crate::bound::{BoundKind, set_bound};
-use crate::row::{DeclaredRow, RowKind, RowRange};
+use crate::row::{DeclaredRow, RowKind, RowRange, entries_of};
 use crate::row_table::RowTable;
 use crate::section::Section;
 use fraction::Frac;
 use instance::Direction;
-use model_text::{ColumnTable, DeclaredColumn};
+use model_text::{ColumnTable, DeclaredColumn, FaultKind, ReadError};
 use std::alloc::{AllocError, Global};
 use std::marker::Model;
 
@@ -46,13 +47,13 @@ pub struct Draft<'a> {
 impl<'a> Model for Draft<'a> {
     ghost use Rattle.std.specs.Option.{option_map};
     ghost use Rattle.mps_draft.specs.Declaration.{Declaration};
-    ghost use Rattle.mps_draft.specs.Consistent.{IsConsistent};
+    ghost use Rattle.mps_draft.specs.Consistent.{IsConsistent, IsDeclared};
 
     ghost Value = { Declaration };
 
     ghost view = { λ d. record { section = d.section; direction = d.direction; objective = d.objective; rows = d.rows; columns = d.columns; current = option_map (λ n. n.now) d.current; in_integers = d.in_integers; first_set = option_map (λ s. option_map (λ n. n.now) s) d.first_set } };
 
-    ghost invariant = { λ d. IsConsistent d.objective d.rows d.columns d.entry_count };
+    ghost invariant = { λ d. IsConsistent d.objective d.rows d.columns d.entry_count × IsDeclared (option_map (λ n. n.now) d.current) d.columns };
 }
 
 impl<'a> Draft<'a> {
@@ -112,15 +113,8 @@ impl<'a> Draft<'a> {
         self.rows.len()
     }
 
-    /// How many entries the rows have, the objective aside.
-    pub fn entry_count(&self) -> usize
-        ensures { result ≡ count_of_entries self.now.rows }
-    {
-        self.entry_count
-    }
-
-    /// The objective has this name.
-    pub fn is_objective(&self, name: &str) -> bool
+    // The objective has this name.
+    fn is_objective(&self, name: &str) -> bool
         ensures { result ≡ is_objective_named name.now self.now.objective }
     {
         match &self.objective {
@@ -169,38 +163,42 @@ impl<'a> Draft<'a> {
         Ok(())
     }
 
-    /// The last column gives a row or the objective its number.
-    pub fn give(&mut self, name: &str, value: Frac) -> Result<(), AllocError>
-        requires there { is_row self.old name.now ≡ true }
-        requires once { IfSome (row_named self.old name.now) (λ r. r.latest ≢ length self.old.columns) }
-        requires room { is_objective_named name.now self.old.objective ≡ false → is_zero value ≡ false → count_of_entries self.old.rows < 20_000_000 }
-        ensures { OnOk result (self.new ≡ with_row (given (length self.old.columns) value) name.now self.old) }
+    /// The last column has a number, or a number field's fault, in the objective or the row of a name, which has at most
+    /// one of each column. `most` is how many entries the rows may have; zeros and the objective's are not counted.
+    /// Faults: Unknown for the name, Twice, the number's own, TooMany, in this order.
+    pub fn add_entry(
+        &mut self,
+        name: &str,
+        number: Result<Frac, FaultKind>,
+        most: usize,
+    ) -> Result<(), ReadError<FaultKind>>
+        requires { most ≤ 20_000_000 }
+        ensures { Follows result self.new (entry_added most self.old name.now number) }
     {
         let columns = self.columns.len();
         if self.is_objective(name) {
-            if let Some(objective) = &mut self.objective {
-                objective.give(columns, value)?;
-            }
-        } else {
-            self.rows.give(name, columns, value)?;
-            if !value.is_zero() {
-                self.entry_count += 1;
-            }
+            return add_to_objective(&mut self.objective, columns, number);
         }
+        let is_full = self.entry_count >= most;
+        let more = entries_of(&number);
+        self.rows.add_entry(name, columns, is_full, number)?;
+        self.entry_count += more;
         Ok(())
     }
 
-    /// The objective or the row of a name has this right-hand side.
-    pub fn set_rhs(&mut self, name: &str, value: Frac)
-        ensures { self.new ≡ with_row (rhs_added value) name.now self.old }
+    /// The objective or the row of a name has a right-hand side, which is a number or a number field's fault. Faults:
+    /// Unknown for the name, Twice, the number's own, in this order.
+    pub fn set_rhs(
+        &mut self,
+        name: &str,
+        number: Result<Frac, FaultKind>,
+    ) -> Result<(), ReadError<FaultKind>>
+        ensures { Follows result self.new (rhs_given self.old name.now number) }
     {
         if self.is_objective(name) {
-            if let Some(objective) = &mut self.objective {
-                objective.set_rhs(value);
-            }
-        } else {
-            self.rows.set_rhs(name, value);
+            return set_objective_rhs(&mut self.objective, number);
         }
+        self.rows.set_rhs(name, number)
     }
 
     /// The objective or the row of a name has this range.
@@ -234,7 +232,8 @@ impl<'a> Draft<'a> {
 
     /// The lines of the column of this name may go on.
     pub fn is_current(&self, name: &str) -> bool
-        ensures { result ≡ is_the_name self.now.current name.now }
+        ensures value { result ≡ is_the_name self.now.current name.now }
+        ensures there { result ≡ true → is_column self.now name.now ≡ true }
     {
         match self.current {
             Some(there) => name == there,
@@ -254,11 +253,17 @@ impl<'a> Draft<'a> {
         Ok(())
     }
 
-    /// The column of a name has a bound of this kind.
-    pub fn bound(&mut self, name: &str, kind: BoundKind, value: Frac)
-        ensures { self.new ≡ record self.old { columns = with_first_changed (is_column_named name.now) (bounded kind value) self.old.columns } }
+    /// The column of a name has a bound of this kind, with a number or a number field's fault. Faults: Unknown for the name,
+    /// the number's own, in this order.
+    pub fn bound(
+        &mut self,
+        name: &str,
+        kind: BoundKind,
+        number: Result<Frac, FaultKind>,
+    ) -> Result<(), ReadError<FaultKind>>
+        ensures { Follows result self.new (bound_given kind self.old name.now number) }
     {
-        set_bound(&mut self.columns, name, kind, value);
+        set_bound(&mut self.columns, name, kind, number)
     }
 
     /// An INTORG stands open.
@@ -330,6 +335,36 @@ impl<'a> Draft<'a> {
             }
             Some(first) => is_same_set(first, set),
         }
+    }
+}
+
+// The last of so many columns has a number in the objective.
+fn add_to_objective(
+    objective: &mut Option<DeclaredRow>,
+    columns: usize,
+    number: Result<Frac, FaultKind>,
+) -> Result<(), ReadError<FaultKind>>
+    requires there { IfSome objective.old (IsGiven columns) }
+    requires few { columns ≤ 1_000_000 }
+    ensures follows { Follows result objective.new (objective_with (entry_value columns false number) (given columns) objective.old) }
+    ensures there { IfSome objective.new (IsGiven columns) }
+{
+    match objective {
+        None => Err(ReadError::Fault(FaultKind::Unknown)),
+        Some(objective) => objective.add_entry(columns, false, number),
+    }
+}
+
+fn set_objective_rhs(
+    objective: &mut Option<DeclaredRow>,
+    number: Result<Frac, FaultKind>,
+) -> Result<(), ReadError<FaultKind>>
+    ensures follows { Follows result objective.new (objective_with (rhs_value number) rhs_added objective.old) }
+    ensures there { (columns : ℕ) → IfSome objective.old (IsGiven columns) → IfSome objective.new (IsGiven columns) }
+{
+    match objective {
+        None => Err(ReadError::Fault(FaultKind::Unknown)),
+        Some(objective) => objective.add_rhs(number),
     }
 }
 

@@ -1,13 +1,17 @@
 // Rows of a declaration.
-ghost use Rattle.std.specs.Prelude.{◌≡◌, ◌<◌, ◌≤◌, ◌^◌, ◌++◌, [], ◌∷◌, IsTrue, OnOk, OnErr};
+ghost use Rattle.std.specs.Prelude.{◌≡◌, ◌≢◌, ◌<◌, ◌≤◌, ◌^◌, ◌++◌, [], ◌∷◌, IsTrue, Ok, OnOk, OnErr, IfOk};
 ghost use Rattle.instance.specs.WellFormed.{are_entries};
 ghost use Rattle.mps_draft.specs.Declaration.{new_row, is_free};
 ghost use Rattle.mps_draft.specs.Rows.{given, row_kind_of};
 ghost use Rattle.mps_draft.specs.Finished.{row_lower, row_upper};
 ghost use Rattle.mps_draft.specs.Rows.{rhs_added, range_added, rhs_of};
+ghost use Rattle.mps_draft.specs.RowNumbers.{within, entry_value, rhs_value, entries_of};
+ghost use Rattle.model_text.specs.Follows.{Follows, as_read};
+ghost use Rattle.model_text.specs.Steps.{then_do};
 
 use fraction::Frac;
 use instance::{Entries, Entry};
+use model_text::{FaultKind, ReadError};
 use std::alloc::{AllocError, Global};
 use std::marker::Model;
 
@@ -65,6 +69,33 @@ fn push_entry(entries: &mut Vec<Entry>, entry: Entry) -> Result<(), AllocError>
     Ok(())
 }
 
+// The number of an entry; where no entry more may be, only a zero may.
+fn within(is_full: bool, number: Result<Frac, FaultKind>) -> Result<Frac, ReadError<FaultKind>>
+    ensures { result ≡ as_read (then_do (within is_full) number) }
+{
+    match number {
+        Err(kind) => Err(ReadError::Fault(kind)),
+        Ok(value) => {
+            if !value.is_zero() && is_full {
+                Err(ReadError::Fault(FaultKind::TooMany))
+            } else {
+                Ok(value)
+            }
+        }
+    }
+}
+
+// How many entries a number makes.
+pub(crate) fn entries_of(number: &Result<Frac, FaultKind>) -> usize
+    ensures value { result ≡ entries_of number.now }
+    ensures few { result ≤ 1 }
+{
+    match number {
+        Err(_) => 0,
+        Ok(value) => { if value.is_zero() { 0 } else { 1 } }
+    }
+}
+
 /// The objective or a row, as far as it is declared.
 #[derive(Drop)]
 pub struct DeclaredRow<'a> {
@@ -118,15 +149,8 @@ impl<'a> DeclaredRow<'a> {
         self.kind
     }
 
-    /// The last column that gives it a number, counted from 1; 0 where none does.
-    pub fn latest(&self) -> usize
-        ensures { result ≡ self.now.latest }
-    {
-        self.latest
-    }
-
-    /// Its right-hand side.
-    pub fn rhs(&self) -> Option<Frac>
+    // Its right-hand side.
+    pub(crate) fn rhs(&self) -> Option<Frac>
         ensures { result ≡ self.now.rhs }
     {
         self.rhs
@@ -180,8 +204,43 @@ impl<'a> DeclaredRow<'a> {
         }
     }
 
+    // What the last of so many columns has in it, which it may have once.
+    fn entry_value(
+        &self,
+        columns: usize,
+        is_full: bool,
+        number: Result<Frac, FaultKind>,
+    ) -> Result<Frac, ReadError<FaultKind>>
+        ensures value { result ≡ as_read (entry_value columns is_full number self.now) }
+        ensures once { IfOk result (λ _. self.now.latest ≢ columns) }
+    {
+        if self.latest == columns {
+            return Err(ReadError::Fault(FaultKind::Twice));
+        }
+        within(is_full, number)
+    }
+
+    // The last of so many columns has this number in it.
+    pub(crate) fn add_entry(
+        &mut self,
+        columns: usize,
+        is_full: bool,
+        number: Result<Frac, FaultKind>,
+    ) -> Result<(), ReadError<FaultKind>>
+        requires there { self.old.latest ≤ columns }
+        requires few { columns ≤ 1_000_000 }
+        ensures follows { Follows result self.new (then_do (λ value. Ok (given columns value self.old)) (entry_value columns is_full number self.old)) }
+        ensures name { self.new.name ≡ self.old.name }
+        ensures there { self.new.latest ≤ columns }
+        ensures kept { OnErr result (self.new ≡ self.old) }
+    {
+        let value = self.entry_value(columns, is_full, number)?;
+        self.give(columns, value)?;
+        Ok(())
+    }
+
     // The last of so many columns gives it a number.
-    pub(crate) fn give(&mut self, columns: usize, value: Frac) -> Result<(), AllocError>
+    fn give(&mut self, columns: usize, value: Frac) -> Result<(), AllocError>
         requires later { self.old.latest < columns }
         requires few { columns ≤ 1_000_000 }
         ensures given { OnOk result (self.new ≡ given columns value self.old) }
@@ -198,7 +257,35 @@ impl<'a> DeclaredRow<'a> {
         Ok(())
     }
 
-    pub(crate) fn set_rhs(&mut self, value: Frac)
+    // Its right-hand side, of which it has one.
+    fn rhs_value(&self, number: Result<Frac, FaultKind>) -> Result<Frac, ReadError<FaultKind>>
+        ensures { result ≡ as_read (rhs_value number self.now) }
+    {
+        if self.rhs.is_some() {
+            return Err(ReadError::Fault(FaultKind::Twice));
+        }
+        match number {
+            Err(kind) => Err(ReadError::Fault(kind)),
+            Ok(value) => Ok(value),
+        }
+    }
+
+    // It has this right-hand side.
+    pub(crate) fn add_rhs(
+        &mut self,
+        number: Result<Frac, FaultKind>,
+    ) -> Result<(), ReadError<FaultKind>>
+        ensures follows { Follows result self.new (then_do (λ value. Ok (rhs_added value self.old)) (rhs_value number self.old)) }
+        ensures name { self.new.name ≡ self.old.name }
+        ensures latest { self.new.latest ≡ self.old.latest }
+        ensures kept { OnErr result (self.new ≡ self.old) }
+    {
+        let value = self.rhs_value(number)?;
+        self.set_rhs(value);
+        Ok(())
+    }
+
+    fn set_rhs(&mut self, value: Frac)
         ensures { self.new ≡ rhs_added value self.old }
     {
         self.rhs = match self.kind {

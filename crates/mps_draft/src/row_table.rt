@@ -1,16 +1,19 @@
 // The rows of a declaration.
-ghost use Rattle.std.specs.Prelude.{◌≡◌, ◌<◌, ◌≤◌, ◌++◌, [], ◌∷◌, None, length, map, OnOk, OnErr, IfSome};
+ghost use Rattle.std.specs.Prelude.{◌≡◌, ◌<◌, ◌≤◌, ◌++◌, [], ◌∷◌, None, length, map, OnOk, OnErr};
 ghost use Rattle.std.specs.Option.{option_map};
 ghost use Rattle.std.specs.List.{find};
 ghost use Rattle.mps_draft.specs.Declaration.{is_row_named, with_first_changed};
 ghost use Rattle.mps_draft.specs.Declaration.{DeclaredRow as RowOf};
 ghost use Rattle.model_text.specs.Names.{AreNew};
-ghost use Rattle.mps_draft.specs.Rows.{given};
-ghost use Rattle.mps_draft.specs.Rows.{rhs_added, range_added};
+ghost use Rattle.std.specs.List.{All};
+ghost use Rattle.mps_draft.specs.Consistent.{IsGiven};
+ghost use Rattle.mps_draft.specs.Rows.{given, rhs_added, range_added};
+ghost use Rattle.mps_draft.specs.RowNumbers.{entry_value, rhs_value, rows_with};
+ghost use Rattle.model_text.specs.Follows.{Follows};
 
 use crate::row::{DeclaredRow, RowRange};
 use fraction::Frac;
-use model_text::Names;
+use model_text::{FaultKind, Names, ReadError};
 use std::alloc::{AllocError, Global};
 use std::marker::Model;
 
@@ -77,26 +80,43 @@ impl<'a> RowTable<'a> {
         Ok(())
     }
 
-    // The last of so many columns gives the row a number.
-    pub(crate) fn give(&mut self, name: &str, columns: usize, value: Frac) -> Result<(), AllocError>
-        requires later { IfSome (find (is_row_named name.now) self.old) (λ r. r.latest < columns) }
+    // The last of so many columns has a number in the row of a name.
+    pub(crate) fn add_entry(
+        &mut self,
+        name: &str,
+        columns: usize,
+        is_full: bool,
+        number: Result<Frac, FaultKind>,
+    ) -> Result<(), ReadError<FaultKind>>
+        requires there { All (IsGiven columns) self.old }
         requires few { columns ≤ 1_000_000 }
-        ensures given { OnOk result (self.new ≡ with_first_changed (is_row_named name.now) (given columns value) self.old) }
+        ensures follows { Follows result self.new (rows_with (entry_value columns is_full number) (given columns) name.now self.old (find (is_row_named name.now) self.old)) }
         ensures kept { OnErr result (self.new ≡ self.old) }
     {
-        if let Some(place) = self.names.place(name) {
-            let row = &mut self.rows[place];
-            row.give(columns, value)?;
+        match self.names.place(name) {
+            None => Err(ReadError::Fault(FaultKind::Unknown)),
+            Some(place) => {
+                let row = &mut self.rows[place];
+                row.add_entry(columns, is_full, number)
+            }
         }
-        Ok(())
     }
 
-    pub(crate) fn set_rhs(&mut self, name: &str, value: Frac)
-        ensures { self.new ≡ with_first_changed (is_row_named name.now) (rhs_added value) self.old }
+    // The row of a name has a right-hand side.
+    pub(crate) fn set_rhs(
+        &mut self,
+        name: &str,
+        number: Result<Frac, FaultKind>,
+    ) -> Result<(), ReadError<FaultKind>>
+        ensures follows { Follows result self.new (rows_with (rhs_value number) rhs_added name.now self.old (find (is_row_named name.now) self.old)) }
+        ensures kept { OnErr result (self.new ≡ self.old) }
     {
-        if let Some(place) = self.names.place(name) {
-            let row = &mut self.rows[place];
-            row.set_rhs(value);
+        match self.names.place(name) {
+            None => Err(ReadError::Fault(FaultKind::Unknown)),
+            Some(place) => {
+                let row = &mut self.rows[place];
+                row.add_rhs(number)
+            }
         }
     }
 

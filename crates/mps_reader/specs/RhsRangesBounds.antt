@@ -4,7 +4,6 @@ use Rattle.std.specs.declared.option.Option.{Option}
 use Rattle.rational.specs.Rational.{Rational, zero_ℚ, abs_ℚ, neg_ℚ, ◌+ℚ◌, ◌-ℚ◌}
 use Rattle.fraction.specs.Fits.{sum_fits}
 use Rattle.fraction.specs.Literal.{read_of}
-use Rattle.fraction.specs.declared.read.ReadFault.{ReadFault}
 use Rattle.model_text.specs.declared.fault.FaultKind.{FaultKind}
 use Rattle.model_text.specs.declared.fault.FaultKind.TheVariants.{BadLine, TooWide, Unknown, Twice}
 use Rattle.mps_draft.specs.declared.row.RowKind.{RowKind}
@@ -13,13 +12,13 @@ use Rattle.mps_draft.specs.declared.row.RowKind.TheVariants.{Objective, Free, At
 use Rattle.mps_reader.specs.declared.pairs_section.PairSection.{PairSection}
 use Rattle.mps_reader.specs.declared.pairs_section.PairSection.TheVariants.{RhsPairs, RangePairs}
 use Rattle.mps_draft.specs.declared.bound.BoundKind.{BoundKind}
-use Rattle.model_text.specs.Columns.{is_column_named}
-use Rattle.mps_draft.specs.Declaration.{is_free, DeclaredRow, Declaration, row_named, with_row, is_column, with_first_changed}
+use Rattle.mps_draft.specs.Declaration.{is_free, DeclaredRow, Declaration, row_named, with_row}
 use Rattle.mps_draft.specs.Sets.{mixes_sets, is_of_first_set, with_set}
-use Rattle.mps_draft.specs.Rows.{rhs_of, rhs_added, range_added}
-use Rattle.mps_draft.specs.Bounds.{bound_kind_of, has_value, bounded}
+use Rattle.mps_draft.specs.Rows.{rhs_of, range_added}
+use Rattle.mps_draft.specs.RowNumbers.{rhs_given}
+use Rattle.mps_draft.specs.Bounds.{bound_kind_of, has_value, bound_given}
 use Rattle.model_text.specs.Steps.{then_do}
-use Rattle.mps_reader.specs.Steps.{with_number}
+use Rattle.mps_reader.specs.Steps.{with_number, number_of}
 
 -- ---- RHS and RANGES: `[set] row v [row v]`
 
@@ -59,14 +58,8 @@ pairs_line step d (Some pairs) =
     else if is_of_first_set d.first_set pairs.set then both_pairs step pairs (with_set pairs.set d)
     else Ok d
 
-abbrev pub rhs_on_row : Declaration → Option DeclaredRow → Pair → Result Declaration FaultKind
-rhs_on_row d None pair = Err Unknown
-rhs_on_row d (Some r) pair =
-    if is_some r.rhs then Err Twice
-    else with_number (λ value. Ok (with_row (rhs_added value) pair.row d)) (read_of pair.number)
-
 abbrev pub rhs_pair : PairStep
-rhs_pair d pair = rhs_on_row d (row_named d pair.row) pair
+rhs_pair d pair = rhs_given d pair.row (number_of pair.number)
 
 abbrev pub is_below_zero : Rational → Bool
 is_below_zero v = int_lt v.numerator (pos 0)
@@ -124,17 +117,12 @@ bound_fields false (column ∷ []) = Some (record { set = None; column = column;
 bound_fields has_value fields = None
 
 -- a number that isn't there isn't used
-abbrev pub bound_value : Option (List ℕ) → Result Rational ReadFault
+abbrev pub bound_value : Option (List ℕ) → Result Rational FaultKind
 bound_value None = Ok zero_ℚ
-bound_value (Some v) = read_of v
-
--- the column's bound changed
-abbrev pub with_bound : Declaration → BoundKind → List ℕ → Rational → Declaration
-with_bound d kind column value = record d { columns = with_first_changed (is_column_named column) (bounded kind value) d.columns }
+bound_value (Some v) = number_of v
 
 abbrev pub bound_on_column : Declaration → BoundKind → BoundFields → Result Declaration FaultKind
-bound_on_column d kind b =
-    if is_column d b.column then with_number (λ value. Ok (with_bound d kind b.column value)) (bound_value b.number) else Err Unknown
+bound_on_column d kind b = bound_given kind d b.column (bound_value b.number)
 
 abbrev pub bound_with_fields : Declaration → BoundKind → Option BoundFields → Result Declaration FaultKind
 bound_with_fields d kind None = Err BadLine

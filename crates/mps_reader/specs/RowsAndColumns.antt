@@ -1,21 +1,20 @@
 -- What a line of ROWS or COLUMNS adds to the declaration, or the kind of its first fault: leftmost field first.
-use Rattle.std.specs.Prelude.{ℕ, ◌==◌, nat_le, ◌&&◌, ◌||◌, not, Bool, true, false, List, [], ◌∷◌, ◌++◌, length, codes, Some, None, is_some, Result, Ok, Err, if◌then◌else◌}
+use Rattle.std.specs.Prelude.{ℕ, nat_le, ◌&&◌, ◌||◌, not, Bool, true, false, List, [], ◌∷◌, ◌++◌, length, codes, Some, None, is_some, Result, Ok, Err, if◌then◌else◌}
 use Rattle.std.specs.declared.option.Option.{Option}
 use Rattle.std.specs.Str.{bytes_eq}
 use Rattle.rational.specs.Rational.{Rational}
-use Rattle.fraction.specs.Literal.{read_of}
 use Rattle.model_text.specs.declared.fault.FaultKind.{FaultKind}
-use Rattle.model_text.specs.declared.fault.FaultKind.TheVariants.{BadLine, Unknown, Twice, TooMany}
+use Rattle.model_text.specs.declared.fault.FaultKind.TheVariants.{BadLine, Twice, TooMany}
 use Rattle.model_text.specs.declared.profile.Profile.{Profile}
 use Rattle.mps_draft.specs.declared.row.RowKind.{RowKind}
 use Rattle.mps_draft.specs.declared.row.RowKind.TheVariants.{Objective}
-use Rattle.rational.specs.Compare.{is_zero}
-use Rattle.mps_draft.specs.Declaration.{is_free, DeclaredRow, new_row, Declaration, is_objective_named, row_named, is_row, with_row, is_column, entry_count}
+use Rattle.mps_draft.specs.Declaration.{is_free, DeclaredRow, new_row, Declaration, is_row, is_column}
 use Rattle.mps_draft.specs.Declaration.{is_the_name}
-use Rattle.mps_draft.specs.Rows.{row_kind_of, given}
+use Rattle.mps_draft.specs.Rows.{row_kind_of}
+use Rattle.mps_draft.specs.RowNumbers.{entry_added}
 use Rattle.model_text.specs.Columns.{new_column}
 use Rattle.model_text.specs.Steps.{then_do}
-use Rattle.mps_reader.specs.Steps.{at_end, with_number}
+use Rattle.mps_reader.specs.Steps.{at_end, number_of}
 
 -- ---- ROWS: `N|L|G|E name`
 
@@ -76,28 +75,15 @@ at_column profile d name =
     else if nat_le profile.columns (length d.columns) then Err TooMany
     else Ok (record d { columns = d.columns ++ new_column name d.in_integers ∷ []; current = Some name })
 
--- zeros and the objective's coefficients aren't counted
-abbrev pub is_entry_too_many : Profile → Declaration → List ℕ → Rational → Bool
-is_entry_too_many profile d row value = not (is_objective_named row d.objective) && (not (is_zero value) && nat_le profile.entries (entry_count d.rows))
-
-abbrev pub with_entry : Profile → Declaration → List ℕ → Rational → Result Declaration FaultKind
-with_entry profile d row value =
-    if is_entry_too_many profile d row value then Err TooMany
-    else Ok (with_row (given (length d.columns) value) row d)
-
-abbrev pub at_value : Profile → Declaration → List ℕ → List (List ℕ) → Result Declaration FaultKind
-at_value profile d row [] = Err BadLine
-at_value profile d row (v ∷ fields) = with_number (with_entry profile d row) (read_of v)
-
--- what the last column has in a row, which it may have once
-abbrev pub at_row : Profile → Declaration → Option DeclaredRow → List ℕ → List (List ℕ) → Result Declaration FaultKind
-at_row profile d None row fields = Err Unknown
-at_row profile d (Some r) row fields = if r.latest == length d.columns then Err Twice else at_value profile d row fields
+-- the number beside a row's name
+abbrev pub number_in : List (List ℕ) → Result Rational FaultKind
+number_in [] = Err BadLine
+number_in (v ∷ fields) = number_of v
 
 -- `row v`
 abbrev pub at_entry : Profile → Declaration → List (List ℕ) → Result Declaration FaultKind
 at_entry profile d [] = Err BadLine
-at_entry profile d (row ∷ fields) = at_row profile d (row_named d row) row fields
+at_entry profile d (row ∷ fields) = entry_added profile.entries d row (number_in fields)
 
 abbrev pub after_pair : List (List ℕ) → List (List ℕ)
 after_pair (row ∷ v ∷ fields) = fields

@@ -1,6 +1,7 @@
 -- How the parts of a line follow each other, up to its first fault.
 use Rattle.std.specs.Prelude.{ℕ, List, [], ◌∷◌, Result, Ok, Err}
 use Rattle.rational.specs.Rational.{Rational}
+use Rattle.fraction.specs.Literal.{read_of}
 use Rattle.fraction.specs.declared.read.ReadFault.{ReadFault}
 use Rattle.fraction.specs.declared.read.ReadFault.TheVariants.{NotANumber, TooWide as TooWideNumber}
 use Rattle.model_text.specs.declared.fault.FaultKind.{FaultKind}
@@ -19,3 +20,7 @@ kind_of TooWideNumber = TooWide
 abbrev pub with_number : {A : Type 0} → (Rational → Result A FaultKind) → Result Rational ReadFault → Result A FaultKind
 with_number f (Err fault) = Err (kind_of fault)
 with_number f (Ok value) = f value
+
+-- the number of a field, or its fault
+abbrev pub number_of : List ℕ → Result Rational FaultKind
+number_of field = with_number Ok (read_of field)

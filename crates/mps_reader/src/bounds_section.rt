@@ -2,10 +2,9 @@
 ghost use Rattle.std.specs.Prelude.{◌≡◌, map, None, Some};
 ghost use Rattle.std.specs.Option.{option_map};
 ghost use Rattle.model_text.specs.Follows.{Follows};
-ghost use Rattle.mps_reader.specs.Follows.{number_or_fault};
 ghost use Rattle.mps_reader.specs.RhsRangesBounds.{bound_line, bound_of_kind, bound_with_fields, bound_on_column, bound_value};
 
-use crate::literal::read_number;
+use crate::literal::number_of;
 use fraction::Frac;
 use model_text::{FaultKind, ReadError};
 use mps_draft::{BoundKind, Draft};
@@ -81,20 +80,15 @@ fn bound_on_column(
 ) -> Result<(), ReadError<FaultKind>>
     ensures { Follows result draft.new (bound_on_column draft.old kind (record { set = None; column = column.now; number = option_map (λ n. n.now) number.entry })) }
 {
-    if !draft.has_column(column) {
-        return Err(ReadError::Fault(FaultKind::Unknown));
-    }
-    let value = bound_value(number)?;
-    draft.bound(column, kind, value);
-    Ok(())
+    draft.bound(column, kind, bound_value(number))
 }
 
 // A number that isn't there isn't used.
-fn bound_value(number: Option<&str>) -> Result<Frac, ReadError<FaultKind>>
-    ensures { result ≡ number_or_fault (bound_value (option_map (λ n. n.now) number.entry)) }
+fn bound_value(number: Option<&str>) -> Result<Frac, FaultKind>
+    ensures { result ≡ bound_value (option_map (λ n. n.now) number.entry) }
 {
     match number {
         None => Ok(Frac::zero()),
-        Some(number) => read_number(number),
+        Some(number) => number_of(number),
     }
 }

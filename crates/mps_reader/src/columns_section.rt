@@ -1,14 +1,11 @@
 // The lines of COLUMNS.
-ghost use Rattle.std.specs.Prelude.{◌≡◌, ◌≢◌, ◌∷◌, true, length, map, Some, IfSome};
-ghost use Rattle.mps_draft.specs.Declaration.{is_row, row_named, is_objective_named};
+ghost use Rattle.std.specs.Prelude.{◌≡◌, ◌∷◌, map, Some};
 ghost use Rattle.model_text.specs.Profile.{IsWithinInstance};
 ghost use Rattle.model_text.specs.Follows.{Follows};
 ghost use Rattle.model_text.specs.Steps.{then_do};
-ghost use Rattle.mps_reader.specs.Steps.{with_number};
-ghost use Rattle.fraction.specs.Literal.{read_of};
-ghost use Rattle.mps_reader.specs.RowsAndColumns.{marker_of, begins_with_marker, is_marker, turned, marker_line, at_column, with_entry, at_value, at_row, at_entry, after_pair, at_second_entry, at_entries, column_line};
+ghost use Rattle.mps_reader.specs.RowsAndColumns.{marker_of, begins_with_marker, is_marker, turned, marker_line, at_column, number_in, at_entry, after_pair, at_second_entry, at_entries, column_line};
 
-use crate::literal::read_number;
+use crate::literal::number_of;
 use fraction::Frac;
 use model_text::{FaultKind, Profile, ReadError};
 use mps_draft::Draft;
@@ -125,10 +122,10 @@ fn at_column<'a>(
     requires { IsWithinInstance profile.now }
     ensures { Follows result draft.new (at_column profile.now draft.old name.now) }
 {
+    if draft.is_current(name) {
+        return Ok(());
+    }
     if draft.has_column(name) {
-        if draft.is_current(name) {
-            return Ok(());
-        }
         return Err(ReadError::Fault(FaultKind::Twice));
     }
     if draft.column_count() >= profile.columns {
@@ -191,75 +188,16 @@ fn at_entry<'a>(
 {
     match fields {
         [] => Err(ReadError::Fault(FaultKind::BadLine)),
-        [row, rest @ ..] => at_row(profile, draft, row, rest),
+        [row, rest @ ..] => draft.add_entry(row, number_in(rest), profile.entries),
     }
 }
 
-// What the last column has in a row, which it may have once.
-fn at_row(
-    profile: &Profile,
-    draft: &mut Draft,
-    row: &str,
-    fields: &[&str],
-) -> Result<(), ReadError<FaultKind>>
-    requires { IsWithinInstance profile.now }
-    ensures { Follows result draft.new (at_row profile.now draft.old (row_named draft.old row.now) row.now (map (λ f. f.now) fields.now)) }
-{
-    let Some(found) = draft.row(row) else {
-        return Err(ReadError::Fault(FaultKind::Unknown));
-    };
-    if found.latest() == draft.column_count() {
-        return Err(ReadError::Fault(FaultKind::Twice));
-    }
-    at_value(profile, draft, row, fields)
-}
-
-fn at_value(
-    profile: &Profile,
-    draft: &mut Draft,
-    row: &str,
-    fields: &[&str],
-) -> Result<(), ReadError<FaultKind>>
-    requires profile { IsWithinInstance profile.now }
-    requires there { is_row draft.old row.now ≡ true }
-    requires once { IfSome (row_named draft.old row.now) (λ r. r.latest ≢ length draft.old.columns) }
-    ensures { Follows result draft.new (at_value profile.now draft.old row.now (map (λ f. f.now) fields.now)) }
+// The number beside a row's name.
+fn number_in(fields: &[&str]) -> Result<Frac, FaultKind>
+    ensures { result ≡ number_in (map (λ f. f.now) fields.now) }
 {
     match fields {
-        [] => Err(ReadError::Fault(FaultKind::BadLine)),
-        [number, ..] => at_number(profile, draft, row, number),
+        [] => Err(FaultKind::BadLine),
+        [number, ..] => number_of(number),
     }
-}
-
-fn at_number(
-    profile: &Profile,
-    draft: &mut Draft,
-    row: &str,
-    number: &str,
-) -> Result<(), ReadError<FaultKind>>
-    requires profile { IsWithinInstance profile.now }
-    requires there { is_row draft.old row.now ≡ true }
-    requires once { IfSome (row_named draft.old row.now) (λ r. r.latest ≢ length draft.old.columns) }
-    ensures { Follows result draft.new (with_number (with_entry profile.now draft.old row.now) (read_of number.now)) }
-{
-    let value = read_number(number)?;
-    with_entry(profile, draft, row, value)
-}
-
-fn with_entry(
-    profile: &Profile,
-    draft: &mut Draft,
-    row: &str,
-    value: Frac,
-) -> Result<(), ReadError<FaultKind>>
-    requires profile { IsWithinInstance profile.now }
-    requires there { is_row draft.old row.now ≡ true }
-    requires once { IfSome (row_named draft.old row.now) (λ r. r.latest ≢ length draft.old.columns) }
-    ensures { Follows result draft.new (with_entry profile.now draft.old row.now value) }
-{
-    if !draft.is_objective(row) && !value.is_zero() && draft.entry_count() >= profile.entries {
-        return Err(ReadError::Fault(FaultKind::TooMany));
-    }
-    draft.give(row, value)?;
-    Ok(())
 }

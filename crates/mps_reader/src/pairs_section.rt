@@ -10,7 +10,7 @@ ghost use Rattle.mps_draft.specs.Declaration.{with_row};
 ghost use Rattle.mps_draft.specs.Rows.{range_added};
 ghost use Rattle.mps_reader.specs.RhsRangesBounds.{step_of, pairs_line, pair_line, rhs_pair, range_pair, range_below, range_above, range_of, is_below_zero};
 
-use crate::literal::read_number;
+use crate::literal::{number_of, read_number};
 use fraction::Frac;
 use model_text::{FaultKind, ReadError};
 use mps_draft::{Draft, RowKind, RowRange};
@@ -90,15 +90,7 @@ fn pair(
 fn rhs_pair(draft: &mut Draft, row: &str, number: &str) -> Result<(), ReadError<FaultKind>>
     ensures { Follows result draft.new (rhs_pair draft.old (record { row = row.now; number = number.now })) }
 {
-    let Some(found) = draft.row(row) else {
-        return Err(ReadError::Fault(FaultKind::Unknown));
-    };
-    if found.rhs().is_some() {
-        return Err(ReadError::Fault(FaultKind::Twice));
-    }
-    let value = read_number(number)?;
-    draft.set_rhs(row, value);
-    Ok(())
+    draft.set_rhs(row, number_of(number))
 }
 
 // ---- ranges
