@@ -1,12 +1,14 @@
 #!/usr/bin/env python3
 """Times `glpsol` on integer programs beside GLPK's `glpsol` and `cbc`, and sees that all find the same objective.
 
-usage: bench/integer_programs.py [--ours PATH] [--runs N] [--limit SECONDS] [--nodlim N] [--examples [FOLDER]] [FILE ...]
+usage: bench/integer_programs.py [--ours PATH] [--runs N] [--limit SECONDS] [--nodlim N] [--rowsplit] [--gomory] [--examples [FOLDER]] [FILE ...]
 
 A FILE ends in .lp (CPLEX LP), .mps (free MPS) or .mod (GNU MathProg, which GLPK writes as CPLEX LP first, so that all
 solvers read the same file). Without files it makes a knapsack of 50 items, an assignment of 12 by 12, and a set cover of
 40 rows by 60 columns, from fixed seeds. With --examples the integer examples of GLPK are added (Debian's glpk-utils, or
 FOLDER), those that GLPK solves within a second.
+
+With --rowsplit and --gomory this program is run with these words.
 
 GLPK's `glpsol` (Debian's glpk-utils) and `cbc` (Debian's coinor-cbc) are run where they are installed, one program after
 the other in each round. It prints the median seconds of processor time, the verdict and the objective of each, the nodes
@@ -130,6 +132,7 @@ class Solvers:
     def ours(self, path):
         reads = READS[os.path.splitext(path)[1]]
         limit = ["--nodlim", str(self.asked.nodlim)] if self.asked.nodlim is not None else []
+        limit += [f"--{word}" for word in ("rowsplit", "gomory") if getattr(self.asked, word)]
         seconds, text = self.run([self.asked.ours, *reads, path, *limit, "--cert", self.certificate])
         objective = re.match(r"OPTIMAL\nobjective \S+ (\S+)", text)
         splits = len(re.findall(r"^split ", text_in(self.certificate).partition("\ntree\n")[2], re.M))
@@ -234,6 +237,8 @@ def main():
     words.add_argument("--runs", type=int, default=3)
     words.add_argument("--limit", type=float, default=60)
     words.add_argument("--nodlim", type=int)
+    words.add_argument("--rowsplit", action="store_true")
+    words.add_argument("--gomory", action="store_true")
     words.add_argument("--examples", nargs="?", const=EXAMPLES)
     asked = words.parse_args()
     asked.ours = os.path.abspath(asked.ours)
