@@ -32,4 +32,5 @@ returns c =
     let app = added c.in_ok-arg-20.ensures c.option-6.ensures.local c.option-6.ensures.rule app in
     let app = added c.in_ok-arg-21.ensures c.flag-9.ensures.local c.flag-9.ensures.rule app in
     let app = added c.in_ok-arg-22.ensures c.flag-10.ensures.local c.flag-10.ensures.rule app in
-    IfOk-weaker c.arg-23.result _ _ (λ _ adds. added adds c.option-7.ensures.local c.option-7.ensures.rule app) c.arg-23.ensures
+    let app = added c.in_ok-arg-23.ensures c.flag-11.ensures.local c.flag-11.ensures.rule app in
+    IfOk-weaker c.arg-24.result _ _ (λ _ adds. added adds c.option-7.ensures.local c.option-7.ensures.rule app) c.arg-24.ensures
