@@ -13,9 +13,9 @@ use instance::{EntriesByColumn, Entry, Instance};
 use std::alloc::Global;
 use std::marker::Model;
 
-// A problem, with its entries by column where they are wanted and there is memory for them.
+/// A problem, with its entries by column where they are wanted and there is memory for them.
 #[derive(Drop)]
-pub(crate) struct ByColumn<'a> {
+pub struct ByColumn<'a> {
     alloc: Global,
     problem: &'a Instance,
     entries: Option<EntriesByColumn>,
@@ -34,9 +34,9 @@ impl<'a> Model for ByColumn<'a> {
 }
 
 impl<'a> ByColumn<'a> {
-    // The problem's entries are gone over once.
-    pub(crate) fn new(alloc: Global, problem: &'a Instance) -> Self
-        ensures { result ≡ problem.now }
+    /// The problem, whose entries are gone over once.
+    pub fn new(alloc: Global, problem: &'a Instance) -> Self
+        ensures same { result ≡ problem.now }
     {
         ByColumn {
             alloc,

@@ -193,15 +193,15 @@ fn usable(version: Version, before: &[Derived]) -> &[Derived]
     }
 }
 
-// The first derived row that does not follow, if there is one.
-pub(crate) fn check_derived(
+/// The first derived row that does not follow, if there is one.
+pub fn check_derived(
     problem: &ByColumn,
     version: Version,
     root: &Way,
     rows: &[Derived],
 ) -> Result<Checked, CheckFault>
-    requires { root.now.place ≡ 0 }
-    ensures { outcome_of result ≡ outcome (derived_trials problem.now (version_of version) 1 [] rows.now) }
+    requires root { root.now.place ≡ 0 }
+    ensures exact { outcome_of result ≡ outcome (derived_trials problem.now (version_of version) 1 [] rows.now) }
 {
     for (k, row) in rows.iter().enumerate() {
         let part = Part::DerivedRow(k + 1);

@@ -20,7 +20,11 @@ mod totals;
 mod turns;
 mod way;
 
+pub use by_column::ByColumn;
 pub use checking::check;
+pub use derived::check_derived;
 pub use leaves::{makes_column, shows_no_point, shows_none_better};
+pub use nodes::place_passes;
 pub use part::{CheckFault, Checked, Part};
-pub use points::is_improving_ray;
+pub use points::{form_value, is_improving_ray};
+pub use way::Way;

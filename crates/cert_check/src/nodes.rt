@@ -96,8 +96,8 @@ fn node_passes(setting: &Setting, goal: Option<Frac>, node: &TreeNode) -> Result
     }
 }
 
-// The node at a place passes.
-fn place_passes(
+/// Whether a node at a place passes: as the leaf that it is, or as a split that the version allows.
+pub fn place_passes(
     version: Version,
     problem: &ByColumn,
     goal: &Option<Frac>,
@@ -105,7 +105,7 @@ fn place_passes(
     way: &Way,
     node: &TreeNode,
 ) -> Result<bool, NoFit>
-    ensures { result ≡ node_answer (record { version = version_of version; problem = problem.now; derived = derived.now; sides = sides_to way.now }) goal.now (node_of node.now) }
+    ensures exact { result ≡ node_answer (record { version = version_of version; problem = problem.now; derived = derived.now; sides = sides_to way.now }) goal.now (node_of node.now) }
 {
     let setting = Setting::of_node(version, problem, derived, way);
     node_passes(&setting, *goal, node)

@@ -19,9 +19,9 @@ pub(crate) fn point_passes(problem: &Instance, point: Option<&Point>) -> Result<
     }
 }
 
-// The value of the objective's form at a point, where with the constant it is the value that is claimed.
-fn form_value(problem: &Instance, x: &Point, value: Frac) -> Result<Option<Frac>, NoFit>
-    ensures { result ≡ form_value_answer problem.now x.now value }
+/// The value of the objective's form at a point, where with the constant it is the value that is claimed.
+pub fn form_value(problem: &Instance, x: &Point, value: Frac) -> Result<Option<Frac>, NoFit>
+    ensures exact { result ≡ form_value_answer problem.now x.now value }
 {
     let linear = sum(problem.objective().as_slice(), x.as_slice())?;
     let total = linear.add(problem.constant())?;

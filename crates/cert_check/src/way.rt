@@ -16,9 +16,9 @@ use instance::Instance;
 use std::alloc::Global;
 use std::marker::Model;
 
-// A place of a tree, with the turns on the way to it where there is memory for them and their numbers fit.
+/// A place of a tree, with the turns on the way to it where there is memory for them and their numbers fit.
 #[derive(Drop)]
-pub(crate) struct Way<'t> {
+pub struct Way<'t> {
     tree: &'t Tree,
     place: usize,
     turns: Option<Turns<'t>>,
@@ -78,9 +78,9 @@ fn turn_at<'t>(tree: &'t Tree, place: usize, i: usize) -> Option<Turn<'t>>
 }
 
 impl<'t> Way<'t> {
-    // The root, from where turns are kept.
-    pub(crate) fn root(alloc: Global, tree: &'t Tree) -> Self
-        ensures { result ≡ record { nodes = tree.now; place = 0 } }
+    /// The root, from where turns are kept.
+    pub fn root(alloc: Global, tree: &'t Tree) -> Self
+        ensures root { result ≡ record { nodes = tree.now; place = 0 } }
     {
         Way {
             tree,
@@ -115,10 +115,10 @@ impl<'t> Way<'t> {
         way
     }
 
-    // On to the next place. Where there is no memory for a turn, or its number does not fit, none are kept from there on.
-    pub(crate) fn advance(&mut self)
-        requires { self.old.place < length self.old.nodes }
-        ensures { self.new ≡ record { nodes = self.old.nodes; place = self.old.place + 1 } }
+    /// On to the next place. Where there is no memory for a turn, or its number does not fit, none are kept from there on.
+    pub fn advance(&mut self)
+        requires before_the_end { self.old.place < length self.old.nodes }
+        ensures next { self.new ≡ record { nodes = self.old.nodes; place = self.old.place + 1 } }
     {
         let node = &self.tree.as_slice()[self.place];
         self.turns = turns_past(self.turns.take(), node, self.place);
