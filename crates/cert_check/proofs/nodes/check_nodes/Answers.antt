@@ -64,7 +64,7 @@ loop-k-preserved c =
     record {
       within = omega (arith, c.loop-k-test.true);
       few = omega (arith, after_le (node_of c.index-nodes-k.result) c.loop-k.places some, c.opened-places.ensures, c.loop-k.invariant.few);
-      here = c.advance.ensures ∙ ap next c.loop-k.invariant.here;
+      here = c.advance.ensures.next ∙ ap next c.loop-k.invariant.here;
       same = node_holds c.args.problem.now (version_of c.args.version) c.args.goal.now c.args.derived.now nodes c.loop-k.k c.loop-k.places c.opened-places.result (node_of c.index-nodes-k.result) _ here node c.loop-k.invariant.same some (subst P c.loop-k.invariant.here answer) c.opened-places.ensures;
     }
 
@@ -74,7 +74,7 @@ advance-requires c =
     let listed = c.as_slice-nodes.ensures.nodes ∙ c.tree.ensures in
     let size = same_length node_of c.as_slice-nodes.result.now nodes listed in
     let here : c.loop-k.k < length nodes = omega (arith, size, c.loop-k-test.true) in
-    subst (λ (w : Place). w.place < length w.nodes) (sym c.loop-k.invariant.here) here
+    record { before_the_end = subst (λ (w : Place). w.place < length w.nodes) (sym c.loop-k.invariant.here) here }
 
 pub returns-else-places-eq0-2 : goal.returns-else-places-eq0-2
 returns-else-places-eq0-2 c =
