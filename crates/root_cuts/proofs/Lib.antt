@@ -1,3 +1,4 @@
 mod SettledPlaces
 mod RootPoint
+mod CutsBelow
 mod MadeRootCuts

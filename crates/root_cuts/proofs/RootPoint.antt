@@ -1,16 +1,14 @@
 -- The numbers of all variables at the point of a basis.
-use Rattle.std.proofs.Common.{◌≡◌, ◌∙◌, ℕ, ◌+◌, ◌-◌, ◌<◌, ◌≤◌, List, [], ◌∷◌, length, refl, sym, ap, subst, arith, true, false, get_or, slice_get, Option, Some, None, IfSome}
+use Rattle.std.proofs.Common.{◌≡◌, ◌∙◌, ℕ, ◌+◌, ◌-◌, ◌<◌, List, [], length, sym, ap, subst, arith, true, false, get_or, slice_get, Option, Some, IfSome}
 use Rattle.std.specs.Prelude.{nat_lt}
 use Rattle.std.proofs.Math.Decide.{dec_lt}
 use Rattle.std.proofs.lemmas.Option.{slice_get-get_or, slice_get_past}
 use Rattle.std.proofs.lemmas.Bool.Decides.{nat_tests}
 use Rattle.rational.specs.Rational.{Rational}
-use Rattle.milp.specs.Form.{Entry, number_at, value_at}
-use Rattle.milp.specs.Problem.{Problem}
+use Rattle.milp.specs.Form.{Entry, value_at}
 use Rattle.verdicts.specs.WeightedSums.{AllBelow}
 use Rattle.basis.specs.System.{System, size, Satisfies, IsSystem, extended}
-use Rattle.basis.specs.Weights.{numbers_from}
-use Rattle.basis.proofs.Laws.{numbers-below, same_below}
+use Rattle.basis.proofs.Laws.{same_below}
 
 -- the point of a system whose columns have the numbers z is that of its columns, extended
 module _ (s : System) (h : IsSystem s) (z values : ℕ → Rational) (columns : (j : ℕ) → j < s.columns → z j ≡ values j) (solves : Satisfies s values) where

@@ -1,11 +1,10 @@
 -- A basis whose fixed variables rest at their lower bounds has the same dictionary and the same point.
-use Rattle.std.proofs.Common.{◌≡◌, ◌∙◌, ℕ, zero, suc, ◌+◌, ◌-◌, ◌<◌, ◌≤◌, ◌≢◌, List, [], ◌∷◌, ◌++◌, length, get_or, slice_get, refl, sym, ap, subst, arith, true, false, Bool, Option, Some, None, IfSome}
+use Rattle.std.proofs.Common.{◌≡◌, ◌∙◌, ℕ, zero, suc, ◌+◌, ◌-◌, ◌<◌, ◌≤◌, List, [], ◌∷◌, ◌++◌, length, get_or, slice_get, refl, sym, ap, subst, arith, true, false, Bool, Option, Some, None, IfSome}
 use Rattle.std.proofs.Math.Decide.{dec_lt}
 use Rattle.std.specs.Prelude.{map}
 use Rattle.std.specs.Option.{option_and_then}
 use Rattle.std.proofs.lemmas.Option.{slice_get_read}
 use Rattle.rational.specs.Rational.{Rational, ◌≤ℚ◌}
-use Rattle.rational.specs.Compare.{is_at_most}
 use Rattle.rational.proofs.Laws.{at_most_true, true_at_most, le_antisymm, le_refl}
 use Rattle.milp.specs.Form.{Entry}
 use Rattle.milp.specs.Points.{IsWithin}
@@ -14,7 +13,7 @@ use Rattle.verdicts.specs.Proves.{lower_under, upper_under}
 use Rattle.basis.specs.Node.{column_bounds, row_bounds, derived_bounds}
 use Rattle.basis.specs.System.{Bounds}
 use Rattle.basis.specs.System.{System, lower_of, upper_of}
-use Rattle.basis.specs.Dictionary.{place_of, IsBasic, IsResting, AllResting, Solves, Dictionary, IsDictionary, RestsAt}
+use Rattle.basis.specs.Dictionary.{place_of, IsBasic, IsResting, AllResting, Dictionary, IsDictionary, RestsAt}
 use Rattle.basis.specs.declared.Place.{Place}
 use Rattle.basis.specs.declared.Place.TheVariants.{Basic, AtLower, AtUpper, AtZero}
 use Rattle.basis.proofs.Laws.{basic_known, length-columns, slice_get_left, row-lower, row-upper}

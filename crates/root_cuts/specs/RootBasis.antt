@@ -7,6 +7,7 @@ use Rattle.milp.specs.Problem.{Problem}
 use Rattle.basis.specs.System.{System, lower_of, upper_of, extended}
 use Rattle.basis.specs.Dictionary.{place_of, Dictionary, rate_of}
 use Rattle.basis.specs.Node.{system_of}
+use Rattle.basis.specs.Weights.{numbers_from}
 use Rattle.dictionary.specs.Table.{is_basic}
 use Rattle.basis.specs.declared.Place.{Place}
 use Rattle.basis.specs.declared.Place.TheVariants.{Basic, AtLower, AtUpper, AtZero}
@@ -39,6 +40,10 @@ pub record AreSettled (p : Problem) (b c : List Place) : Type 0 where
 -- the number of the variable v where the columns have the numbers of x
 abbrev pub variable_number : Problem → List Rational → ℕ → Rational
 variable_number p x v = extended (root_system p) (number_at x) v
+
+-- the numbers of all variables, of which there are as many as places
+abbrev pub numbers_of : Problem → List Place → List Rational → ℕ → Rational
+numbers_of p c x = number_at (numbers_from 0 (length c) (variable_number p x))
 
 -- how much r changes with the variable v where that one rests, and 0 for a basic one
 abbrev pub rate_at : List Place → Dictionary → ℕ → ℕ → Rational

@@ -1,13 +1,13 @@
 // The cuts of the root.
-ghost use Rattle.std.specs.Prelude.{◌≡◌, ◌<◌, [], true, length, IfOk, IfSome};
+ghost use Rattle.std.specs.Prelude.{◌≡◌, ◌<◌, [], ◌∷◌, ◌++◌, true, length, IfOk, IfSome, OnOk};
+ghost use Rattle.std.specs.Option.{option_map_or};
 ghost use Rattle.std.specs.List.{list_all};
 ghost use Rattle.verdicts.specs.Certificate.{Derived as DerivedOf};
 ghost use Rattle.verdicts.specs.Proves.{in_range};
-ghost use Rattle.gomory.specs.Cuts.{IsRootCut};
 ghost use Rattle.simplex.specs.Answer.{IsRelaxed};
 ghost use Rattle.simplex.specs.declared.answers.Relaxed.TheVariants.{Optimal};
-ghost use Rattle.root_cuts.specs.RootBasis.{AreSettled, variable_number};
-ghost use Rattle.root_cuts.specs.RootCuts.{AreRootCuts};
+ghost use Rattle.root_cuts.specs.RootBasis.{AreSettled, numbers_of, variable_number};
+ghost use Rattle.root_cuts.specs.RootCuts.{AreRootCuts, IsCutOf};
 ghost use Rattle.basis.specs.Weights.{numbers_from};
 ghost use Rattle.basis.specs.Relaxation.{IsOptimalRelaxation};
 ghost use Rattle.dictionary.specs.Table.{dictionary_of};
@@ -26,9 +26,10 @@ use search_node::{Node, Stuck};
 use simplex::{Best, Dictionary, Relaxed, relax, root_is_over_columns};
 use std::alloc::{AllocError, Global};
 
-/// Cuts of a search for a problem, each of a column at an optimal basis of the problem without wholeness, as Bland's rule finds it in
-/// at most `pivot_limit` steps (as many as it takes where that is 0): those whose numbers fit and are small. Where there is no such
-/// basis, or it is not found, there are none.
+/// Cuts of a search for a problem: those of some columns, at most one of each, at one optimal basis of the problem without wholeness.
+/// It is the one that Bland's rule finds in at most `pivot_limit` steps (as many as it takes where that is 0), and the cuts are those
+/// whose numbers fit and are small; where there is no such basis, or it is not found, there are none. Which of its cuts there are no
+/// clause says.
 pub fn root_cuts(
     alloc: Global,
     problem: &Instance,
@@ -61,11 +62,21 @@ fn cuts_at(alloc: Global, problem: &Instance, best: &Best) -> Result<DerivedRows
     let by_column = problem.by_column()?;
     let mut cuts = DerivedRows::new(alloc);
     for column in 0..problem.columns().len() {
-        if let Some(cut) = cut_of(alloc, problem, &by_column, best, &places, &numbers, column)? {
-            cuts.push(cut)?;
-        }
+        let cut = cut_of(alloc, problem, &by_column, best, &places, &numbers, column)?;
+        add_cut(&mut cuts, cut)?;
     }
     Ok(cuts)
+}
+
+// One more cut, if there is one.
+fn add_cut(cuts: &mut DerivedRows, cut: Option<Derived>) -> Result<(), AllocError>
+    requires few { length cuts.old < 1_000_000 }
+    ensures { OnOk result (cuts.new ≡ cuts.old ++ option_map_or (λ d. d ∷ []) cut []) }
+{
+    match cut {
+        Some(cut) => Ok(cuts.push(cut)?),
+        None => Ok(()),
+    }
 }
 
 // The cut of a column, if it has one of small numbers.
@@ -83,7 +94,7 @@ fn cut_of(
     requires places { AreSettled problem.now best.now.dictionary.places places.now }
     requires numbers { numbers.now ≡ numbers_from 0 (length places.now) (variable_number problem.now best.now.point) }
     requires column { column < length problem.now.columns }
-    ensures { IfOk result (λ o. IfSome o (IsRootCut problem.now)) }
+    ensures { IfOk result (λ o. IfSome o (IsCutOf problem.now places.now (numbers_of problem.now places.now best.now.point) (dictionary_of best.now.dictionary) column)) }
 {
     root_is_over_columns(problem);
     problem.keeps_its_limits();

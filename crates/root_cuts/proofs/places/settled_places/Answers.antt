@@ -1,4 +1,3 @@
-use Rattle.std.proofs.Common.{◌∙◌, ap, arith, length}
 use Rattle.root_cuts.proofs.SettledPlaces.{one_more_place, one_more}
 use Rattle.root_cuts.proofs.places.settled_places.Goals as goal
 
