@@ -80,7 +80,11 @@ fn again(alloc: Global, certificate: &Certificate, bytes: &[u8]) -> Result<Strin
     }
 }
 
-fn check_words(alloc: Global, checked: Result<Checked, CheckFault>) -> Result<String, AllocError> {
+/// What a check answers.
+pub(crate) fn check_words(
+    alloc: Global,
+    checked: Result<Checked, CheckFault>,
+) -> Result<String, AllocError> {
     match checked {
         Ok(Checked::Accepted) => "Accepted".to_string(alloc),
         Ok(Checked::Refused(part)) => format!(in alloc; "Refused:{part:?}"),

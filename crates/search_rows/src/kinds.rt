@@ -2,6 +2,7 @@
 use crate::boards::played;
 use crate::certificates::{checked, deep, read_back};
 use crate::linear::{judged, solved};
+use crate::partials::partly_checked;
 use crate::programs::{SearchBy, found_by_search, found_by_solve, shown_optimum, written_by_solve};
 use crate::ranged::found_ranges;
 use crate::subsets::found_subset;
@@ -25,6 +26,7 @@ pub(crate) fn answer<R: Threads + Sync>(
         "candidate" => judged(alloc, shared, asked),
         "linear" => solved(alloc, asked),
         "check" => of_model(rt, alloc, word, shared, asked),
+        "partial" => of_model(rt, alloc, word, shared, asked),
         "board" => of_model(rt, alloc, word, shared, asked),
         _ => of_model(rt, alloc, word, asked, shared),
     }
@@ -58,6 +60,7 @@ fn of_problem<R: Threads + Sync>(
 ) -> Result<String, AllocError> {
     match word {
         "check" => checked(alloc, problem, rest),
+        "partial" => partly_checked(alloc, problem, rest),
         "search" => found_by_search(alloc, problem, rest),
         "solve" => found_by_solve(rt, alloc, problem, SearchBy::Columns, rest),
         "solve_by_rows" => found_by_solve(rt, alloc, problem, SearchBy::Rows, rest),

@@ -8,6 +8,7 @@ mod kinds;
 mod leaves;
 mod linear;
 mod offers;
+mod partials;
 mod programs;
 mod ranged;
 mod subsets;

@@ -1,0 +1,5 @@
+mod Marking
+mod Covered
+mod Trials
+mod Agreement
+mod Steps

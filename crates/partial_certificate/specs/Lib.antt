@@ -1,0 +1,6 @@
+pub mod Partial
+pub mod Written
+pub mod Marks
+pub mod Values
+pub mod Outcome
+pub mod Shown
