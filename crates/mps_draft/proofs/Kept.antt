@@ -1,5 +1,5 @@
 -- What a reader keeps beside its declaration stays true.
-use Rattle.std.proofs.Common.{◌≡◌, ◌∙◌, ◌==◌, ℕ, ◌+◌, ◌<◌, ◌≤◌, Bool, not, nat_le, ◌&&◌, true, false, List, [], ◌∷◌, ◌++◌, length, Some, None, Result, Ok, Err, IfSome, OnErr, is_some, subst, if◌then◌else◌, sym, ap, refl, arith}
+use Rattle.std.proofs.Common.{◌≡◌, ◌∙◌, ◌==◌, ℕ, ◌+◌, ◌<◌, ◌≤◌, Bool, not, nat_le, ◌&&◌, true, false, List, [], ◌∷◌, ◌++◌, length, Some, None, Result, Ok, Err, IfSome, OnOk, OnErr, is_some, subst, if◌then◌else◌, sym, ap, refl, arith}
 use Rattle.std.proofs.lemmas.Bool.Decides.{nat_tests}
 use Rattle.std.specs.declared.option.Option.{Option}
 use Rattle.std.specs.List.{All, find}
@@ -11,7 +11,8 @@ use Rattle.mps_draft.specs.declared.row.RowKind.{RowKind}
 use Rattle.rational.specs.Compare.{is_zero}
 use Rattle.mps_draft.specs.Declaration.{DeclaredRow, new_row, with_first_changed, entry_count}
 use Rattle.mps_draft.specs.Declaration.{is_row_named}
-use Rattle.mps_draft.specs.Rows.{given, rhs_added}
+use Rattle.mps_draft.specs.declared.row.RowRange.{RowRange}
+use Rattle.mps_draft.specs.Rows.{given, rhs_added, range_added}
 use Rattle.mps_draft.specs.RowNumbers.{entry_value, rhs_value, entries_of, rows_with}
 use Rattle.model_text.specs.declared.error.ReadError.{ReadError}
 use Rattle.model_text.specs.declared.fault.FaultKind.{FaultKind}
@@ -129,6 +130,11 @@ rhs-taken {objective} {rows} {columns} {count} k name number more (Some r) h = v
 pub rhs-keeps : {objective : Option DeclaredRow} {rows : List DeclaredRow} {columns : List Column} {count : ℕ} → IsConsistent objective rows columns count → (name : List ℕ) (number : Result Rational FaultKind) (more : List DeclaredRow) (found : Option DeclaredRow) (result : Result (Unit {0}) (ReadError FaultKind)) → Follows result more (rows_with (rhs_value number) rhs_added name rows found) → OnErr result (more ≡ rows) → IsConsistent objective more columns count
 rhs-keeps k name number more found (Ok u) h kept = rhs-taken k name number more found h
 rhs-keeps {objective} {rows} {columns} {count} k name number more found (Err error) h kept = rw kept k
+
+-- a row with a range more, unless memory was wanting
+pub range-keeps : {E : Type 0} {objective : Option DeclaredRow} {rows : List DeclaredRow} {columns : List Column} {count : ℕ} → IsConsistent objective rows columns count → (name : List ℕ) (range : RowRange) (more : List DeclaredRow) (result : Result (Unit {0}) E) → OnOk result (more ≡ with_first_changed (is_row_named name) (range_added range) rows) → OnErr result (more ≡ rows) → IsConsistent objective more columns count
+range-keeps k name range more (Ok u) set kept = rw set (set-keeps k (is_row_named name) (range_added range) (λ x. refl) (λ x. refl))
+range-keeps k name range more (Err error) set kept = rw kept k
 
 -- below a limit there is room
 pub room-below : (most count : ℕ) → most ≤ 20_000_000 → nat_le most count ≡ false → count < 20_000_000

@@ -1,5 +1,5 @@
 -- What a row takes, the table and the declaration in which it stands take too.
-use Rattle.std.proofs.Common.{◌≡◌, ℕ, List, map, get_or, set, Some, None, Ok, Err, Result, refl}
+use Rattle.std.proofs.Common.{◌≡◌, ℕ, List, map, get_or, set, Some, None, Ok, Err, Result, OnOk, refl}
 use Rattle.std.specs.List.{find, position}
 use Rattle.rational.specs.Rational.{Rational}
 use Rattle.model_text.specs.declared.error.ReadError.{ReadError}
@@ -12,6 +12,11 @@ use Rattle.model_text.specs.Steps.{then_do}
 use Rattle.mps_draft.specs.Declaration.{DeclaredRow, is_row_named, with_first_changed}
 use Rattle.mps_draft.specs.RowNumbers.{rows_with}
 use Rattle.mps_draft.proofs.Keyed.{found, not-found, changed}
+
+-- what follows where nothing failed
+pub on-ok : {E P Q : Type 0} → (P → Q) → (result : Result (Unit {0}) E) → OnOk result P → OnOk result Q
+on-ok f (Ok u) h = f h
+on-ok f (Err error) h = tt
 
 pub follows-into : {A B : Type 0} (f : Rational → A) (g : Rational → B) (into : A → B) → ((v : Rational) → g v ≡ into (f v)) → (taken : Result Rational FaultKind) (result : Result (Unit {0}) (ReadError FaultKind)) (new : A) → Follows result new (then_do (λ v. Ok (f v)) taken) → Follows result (into new) (then_do (λ v. Ok (g v)) taken)
 follows-into f g into same (Ok v) (Ok u) new h = let e : f v ≡ new = cc in rw (same v, e) refl

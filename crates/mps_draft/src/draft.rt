@@ -1,5 +1,5 @@
 // A declaration in the making.
-ghost use Rattle.std.specs.Prelude.{ℕ, ◌≡◌, ◌<◌, ◌≤◌, ◌++◌, [], ◌∷◌, None, Some, false, true, length, map, is_some, IfSome, OnOk};
+ghost use Rattle.std.specs.Prelude.{ℕ, ◌≡◌, ◌<◌, ◌≤◌, ◌++◌, [], ◌∷◌, None, Some, false, true, length, map, is_some, IfSome, OnOk, OnErr};
 ghost use Rattle.std.specs.Option.{option_map};
 ghost use Rattle.std.specs.List.{All};
 ghost use Rattle.model_text.specs.Names.{AreNew};
@@ -201,16 +201,22 @@ impl<'a> Draft<'a> {
         self.rows.set_rhs(name, number)
     }
 
-    /// The objective or the row of a name has this range.
-    pub fn set_range(&mut self, name: &str, range: RowRange)
-        ensures { self.new ≡ with_row (range_added range) name.now self.old }
+    /// The objective or the row of a name has this range. After an error nothing has changed.
+    pub fn set_range(
+        &mut self,
+        alloc: Global,
+        name: &str,
+        range: RowRange,
+    ) -> Result<(), AllocError>
+        ensures set { OnOk result (self.new ≡ with_row (range_added range) name.now self.old) }
+        ensures kept { OnErr result (self.new ≡ self.old) }
     {
-        if self.is_objective(name) {
-            if let Some(objective) = &mut self.objective {
-                objective.set_range(range);
-            }
-        } else {
-            self.rows.set_range(name, range);
+        if !self.is_objective(name) {
+            return self.rows.set_range(alloc, name, range);
+        }
+        match &mut self.objective {
+            None => Ok(()),
+            Some(objective) => objective.set_range(alloc, range),
         }
     }
 

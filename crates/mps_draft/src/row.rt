@@ -12,6 +12,7 @@ ghost use Rattle.model_text.specs.Steps.{then_do};
 use fraction::Frac;
 use instance::{Entries, Entry};
 use model_text::{FaultKind, ReadError};
+use sqlite_items::Boxed;
 use std::alloc::{AllocError, Global};
 use std::marker::Model;
 
@@ -106,7 +107,8 @@ pub struct DeclaredRow<'a> {
     // the last column that gives it a number, counted from 1; 0 where none does
     latest: usize,
     rhs: Option<Frac>,
-    range: Option<RowRange>,
+    // boxed, since few rows have one, and a problem may have a million rows
+    range: Option<Boxed<RowRange>>,
 }
 
 impl<'a> Model for DeclaredRow<'a> {
@@ -167,7 +169,10 @@ impl<'a> DeclaredRow<'a> {
     pub fn range(&self) -> Option<RowRange>
         ensures { result ≡ self.now.range }
     {
-        self.range
+        match &self.range {
+            None => None,
+            Some(range) => Some(*range.get()),
+        }
     }
 
     // What the columns have in it, moved: a form in order of column.
@@ -182,7 +187,7 @@ impl<'a> DeclaredRow<'a> {
     pub(crate) fn lower(&self) -> Option<Frac>
         ensures { result ≡ row_lower self.now.kind (rhs_of self.now) self.now.range }
     {
-        match self.range {
+        match self.range() {
             Some(range) => Some(range.lower),
             None => match self.kind {
                 RowKind::AtLeast | RowKind::Exactly => Some(self.rhs_or_zero()),
@@ -195,7 +200,7 @@ impl<'a> DeclaredRow<'a> {
     pub(crate) fn upper(&self) -> Option<Frac>
         ensures { result ≡ row_upper self.now.kind (rhs_of self.now) self.now.range }
     {
-        match self.range {
+        match self.range() {
             Some(range) => Some(range.upper),
             None => match self.kind {
                 RowKind::AtMost | RowKind::Exactly => Some(self.rhs_or_zero()),
@@ -294,9 +299,14 @@ impl<'a> DeclaredRow<'a> {
         };
     }
 
-    pub(crate) fn set_range(&mut self, range: RowRange)
-        ensures { self.new ≡ range_added range self.old }
+    // It has this range. After an error nothing has changed.
+    pub(crate) fn set_range(&mut self, alloc: Global, range: RowRange) -> Result<(), AllocError>
+        ensures set { OnOk result (self.new ≡ range_added range self.old) }
+        ensures name { self.new.name ≡ self.old.name }
+        ensures kept { OnErr result (self.new ≡ self.old) }
     {
+        let range = Boxed::new(alloc, range)?;
         self.range = Some(range);
+        Ok(())
     }
 }

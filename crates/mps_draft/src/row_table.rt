@@ -120,12 +120,22 @@ impl<'a> RowTable<'a> {
         }
     }
 
-    pub(crate) fn set_range(&mut self, name: &str, range: RowRange)
-        ensures { self.new ≡ with_first_changed (is_row_named name.now) (range_added range) self.old }
+    // The row of a name, if there is one, has this range. After an error nothing has changed.
+    pub(crate) fn set_range(
+        &mut self,
+        alloc: Global,
+        name: &str,
+        range: RowRange,
+    ) -> Result<(), AllocError>
+        ensures set { OnOk result (self.new ≡ with_first_changed (is_row_named name.now) (range_added range) self.old) }
+        ensures kept { OnErr result (self.new ≡ self.old) }
     {
-        if let Some(place) = self.names.place(name) {
-            let row = &mut self.rows[place];
-            row.set_range(range);
+        match self.names.place(name) {
+            None => Ok(()),
+            Some(place) => {
+                let row = &mut self.rows[place];
+                row.set_range(alloc, range)
+            }
         }
     }
 }

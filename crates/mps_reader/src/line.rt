@@ -146,8 +146,8 @@ fn data_line<'a>(
         Section::SenseAwaited => sense_line(draft, fields),
         Section::Rows => row_line(alloc, profile, draft, fields),
         Section::Columns => column_line(profile, draft, fields),
-        Section::Rhs => pair_line(PairSection::RhsPairs, draft, fields),
-        Section::Ranges => pair_line(PairSection::RangePairs, draft, fields),
+        Section::Rhs => pair_line(alloc, PairSection::RhsPairs, draft, fields),
+        Section::Ranges => pair_line(alloc, PairSection::RangePairs, draft, fields),
         Section::Bounds => bound_line(draft, fields),
         Section::Ended => Ok(()),
     }

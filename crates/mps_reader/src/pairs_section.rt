@@ -14,6 +14,7 @@ use crate::literal::{number_of, read_number};
 use fraction::Frac;
 use model_text::{FaultKind, ReadError};
 use mps_draft::{Draft, RowKind, RowRange};
+use std::alloc::Global;
 
 // RHS and RANGES, whose lines have one form.
 #[derive(Clone, Copy)]
@@ -24,6 +25,7 @@ pub(crate) enum PairSection {
 
 // `[set] row v [row v]`
 pub(crate) fn pair_line<'a>(
+    alloc: Global,
     section: PairSection,
     draft: &mut Draft<'a>,
     fields: &[&'a str],
@@ -31,13 +33,21 @@ pub(crate) fn pair_line<'a>(
     ensures { Follows result draft.new (pair_line section draft.old (map (λ f. f.now) fields.now)) }
 {
     match fields {
-        [row, number] => set_pairs(section, draft, None, (row, number), None),
-        [set, row, number] => set_pairs(section, draft, Some(set), (row, number), None),
+        [row, number] => set_pairs(alloc, section, draft, None, (row, number), None),
+        [set, row, number] => { set_pairs(alloc, section, draft, Some(set), (row, number), None) }
         [row, number, row2, number2] => {
-            set_pairs(section, draft, None, (row, number), Some((row2, number2)))
+            set_pairs(
+                alloc,
+                section,
+                draft,
+                None,
+                (row, number),
+                Some((row2, number2)),
+            )
         }
         [set, row, number, row2, number2] => {
             set_pairs(
+                alloc,
                 section,
                 draft,
                 Some(set),
@@ -51,6 +61,7 @@ pub(crate) fn pair_line<'a>(
 
 // The pairs of a set, which count where it is the section's first.
 fn set_pairs<'a>(
+    alloc: Global,
     section: PairSection,
     draft: &mut Draft<'a>,
     set: Option<&'a str>,
@@ -66,14 +77,15 @@ fn set_pairs<'a>(
         return Ok(());
     }
     let (row, number) = first;
-    pair(section, draft, row, number)?;
+    pair(alloc, section, draft, row, number)?;
     match second {
-        Some((row, number)) => pair(section, draft, row, number),
+        Some((row, number)) => pair(alloc, section, draft, row, number),
         None => Ok(()),
     }
 }
 
 fn pair(
+    alloc: Global,
     section: PairSection,
     draft: &mut Draft,
     row: &str,
@@ -83,7 +95,7 @@ fn pair(
 {
     match section {
         PairSection::RhsPairs => rhs_pair(draft, row, number),
-        PairSection::RangePairs => range_pair(draft, row, number),
+        PairSection::RangePairs => range_pair(alloc, draft, row, number),
     }
 }
 
@@ -96,7 +108,12 @@ fn rhs_pair(draft: &mut Draft, row: &str, number: &str) -> Result<(), ReadError<
 // ---- ranges
 
 // No N row has a range.
-fn range_pair(draft: &mut Draft, row: &str, number: &str) -> Result<(), ReadError<FaultKind>>
+fn range_pair(
+    alloc: Global,
+    draft: &mut Draft,
+    row: &str,
+    number: &str,
+) -> Result<(), ReadError<FaultKind>>
     ensures { Follows result draft.new (range_pair draft.old (record { row = row.now; number = number.now })) }
 {
     let Some(found) = draft.row(row) else {
@@ -110,10 +127,11 @@ fn range_pair(draft: &mut Draft, row: &str, number: &str) -> Result<(), ReadErro
     }
     let kind = found.kind();
     let rhs = found.rhs_or_zero();
-    range_number(draft, row, kind, rhs, number)
+    range_number(alloc, draft, row, kind, rhs, number)
 }
 
 fn range_number(
+    alloc: Global,
     draft: &mut Draft,
     row: &str,
     kind: RowKind,
@@ -123,10 +141,11 @@ fn range_number(
     ensures { Follows result draft.new (with_number (λ value. then_do (λ range. Ok (with_row (range_added range) row.now draft.old)) (range_of kind rhs value)) (read_of number.now)) }
 {
     let value = read_number(number)?;
-    with_range(draft, row, kind, rhs, value)
+    with_range(alloc, draft, row, kind, rhs, value)
 }
 
 fn with_range(
+    alloc: Global,
     draft: &mut Draft,
     row: &str,
     kind: RowKind,
@@ -136,7 +155,7 @@ fn with_range(
     ensures { Follows result draft.new (then_do (λ range. Ok (with_row (range_added range) row.now draft.old)) (range_of kind rhs value)) }
 {
     let range = range_of(kind, rhs, value)?;
-    draft.set_range(row, range);
+    draft.set_range(alloc, row, range)?;
     Ok(())
 }
 
