@@ -27,7 +27,7 @@ use Rattle.cert_check.specs.declared.part.Checked.{Checked}
 use Rattle.cert_check.specs.declared.part.CheckFault.{CheckFault}
 
 -- its fault, if it has one, is an operation that does not fit
-abbrev IsHonest : {A : Type 0} → Result A NoFit → Type 0
+abbrev pub IsHonest : {A : Type 0} → Result A NoFit → Type 0
 IsHonest r = IfErr r DoesNotFit
 
 then_honest : {A B : Type 0} → (r : Result A NoFit) (f : A → Result B NoFit) → IsHonest r → ((a : A) → IsHonest (f a)) → IsHonest (and_then r f)
@@ -157,7 +157,7 @@ leaf_honest : (s : Setting) (goal : Option Rational) (w : Weights) → IsHonest 
 leaf_honest s None w = tt
 leaf_honest s (Some f) w = shown_honest s w (λ j. sign_of s.problem.direction *ℚ coefficient_of s.problem.objective j) (is_at_most (sign_of s.problem.direction *ℚ f))
 
-node_honest : (s : Setting) (goal : Option Rational) (node : TreeNode) → IsHonest (node_answer s goal node)
+pub node_honest : (s : Setting) (goal : Option Rational) (node : TreeNode) → IsHonest (node_answer s goal node)
 node_honest s goal (Branch b) = tt
 node_honest s goal (Empty w) = shown_honest s w (λ j. zero_ℚ) (is_less zero_ℚ)
 node_honest s goal (Bound w) = leaf_honest s goal w
@@ -174,7 +174,7 @@ ray_rows_honest : (x : List Rational) (rows : List Row) → IsHonest (ray_rows_a
 ray_rows_honest x [] = tt
 ray_rows_honest x (r ∷ rs) = then_honest (sum_answer x zero_ℚ r.entries) (λ v. cond (lies_above (bound_for true r.lower) v && lies_below (bound_for true r.upper) v) (ray_rows_answer x rs) (Ok false)) (form_honest x zero_ℚ r.entries) (λ v. cond_honest _ (ray_rows_answer x rs) (Ok false) (ray_rows_honest x rs) tt)
 
-point_honest : (p : Problem) (x : Option (List Rational)) → IsHonest (point_answer p x)
+pub point_honest : (p : Problem) (x : Option (List Rational)) → IsHonest (point_answer p x)
 point_honest p None = tt
 point_honest p (Some x) = cond_honest (meets_columns false p.columns x) (rows_answer x p.rows) (Ok false) (rows_honest x p.rows) tt
 
@@ -187,27 +187,24 @@ goal_honest p None v = tt
 goal_honest p (Some x) None = tt
 goal_honest p (Some x) (Some v) = then_honest (sum_answer x zero_ℚ p.objective) (λ f. and_then (add_answer f p.constant) (λ t. Ok (if is_same v t then Some f else None))) (form_honest x zero_ℚ p.objective) (λ f. then_honest (add_answer f p.constant) (λ t. Ok (if is_same v t then Some f else None)) (add_honest f p.constant) (λ t. tt))
 
-value_honest : (p : Problem) (x : Option (List Rational)) (v : Option Rational) → IsHonest (value_answer p x v)
+pub value_honest : (p : Problem) (x : Option (List Rational)) (v : Option Rational) → IsHonest (value_answer p x v)
 value_honest p x v = then_honest (goal_answer p x v) (λ f. Ok (is_some f)) (goal_honest p x v) (λ f. tt)
 
 -- ---- lists of trials
 
-AreHonest : List Trial → Type 0
+abbrev pub AreHonest : List Trial → Type 0
 AreHonest [] = Unit {0}
 AreHonest (t ∷ ts) = IsHonest t.answer × AreHonest ts
 
-both_honest : (xs bs : List Trial) → AreHonest xs → AreHonest bs → AreHonest (xs ++ bs)
-unfolding AreHonest
+pub both_honest : (xs bs : List Trial) → AreHonest xs → AreHonest bs → AreHonest (xs ++ bs)
 both_honest [] bs h k = k
 both_honest (a ∷ xs) bs h k = (h.0, both_honest xs bs h.1 k)
 
-derived_all_honest : (p : Problem) (v : Version) (k : ℕ) (before ds : List Derived) → AreHonest (derived_trials p v k before ds)
-unfolding AreHonest
+pub derived_all_honest : (p : Problem) (v : Version) (k : ℕ) (before ds : List Derived) → AreHonest (derived_trials p v k before ds)
 derived_all_honest p v k before [] = tt
 derived_all_honest p v k before (d ∷ ds) = (derived_honest p v before d, derived_all_honest p v (k + 1) (before ++ d ∷ []) ds)
 
 nodes_honest : (p : Problem) (v : Version) (goal : Option Rational) (ds : List Derived) (k : ℕ) (places : List (List SideOf)) (nodes : List TreeNode) → AreHonest (node_trials p v goal ds k places nodes)
-unfolding AreHonest
 nodes_honest p v goal ds k [] [] = tt
 nodes_honest p v goal ds k [] (node ∷ nodes) = (tt, tt)
 nodes_honest p v goal ds k (sides ∷ places) [] = (tt, tt)
@@ -217,7 +214,6 @@ tree_honest : (p : Problem) (goal : Option Rational) (c : Certificate) → AreHo
 tree_honest p goal c = both_honest (derived_trials p c.version 1 [] c.derived) (node_trials p c.version goal c.derived 1 ([] ∷ []) c.tree) (derived_all_honest p c.version 1 [] c.derived) (nodes_honest p c.version goal c.derived 1 ([] ∷ []) c.tree)
 
 verdict_honest : (p : Problem) (c : Certificate) (v : Verdict) → AreHonest (verdict_trials p c v)
-unfolding AreHonest
 verdict_honest p c Optimal = (point_honest p c.point, (value_honest p c.point c.value, tree_honest p (form_goal p c.value) c))
 verdict_honest p c Infeasible = tree_honest p None c
 verdict_honest p c Unbounded = (point_honest p c.point, (ray_honest p c.ray, tt))
@@ -228,7 +224,7 @@ Admits (Refusal part) = Unit {0}
 Admits (Fault part e) = DoesNotFit e
 
 outcome_honest : (xs : List Trial) → AreHonest xs → Admits (outcome xs)
-unfolding AreHonest Admits
+unfolding Admits
 outcome_honest [] h = tt
 outcome_honest (a ∷ xs) h = go a.answer h.0 (outcome_honest xs h.1)
   where
@@ -237,7 +233,11 @@ outcome_honest (a ∷ xs) h = go a.answer h.0 (outcome_honest xs h.1)
     go (Ok false) e k = tt
     go (Err d) e k = e
 
+-- so is the fault of what a check answers
+pub fault_operation : (xs : List Trial) (r : Result Checked CheckFault) → outcome_of r ≡ outcome xs → AreHonest xs → IfErr r (λ e. DoesNotFit e.fault)
+unfolding Admits
+fault_operation xs (Ok r) h k = tt
+fault_operation xs (Err e) h k = subst Admits (sym h) (outcome_honest xs k)
+
 pub check_operation : (p : Problem) (c : Certificate) (r : Result Checked CheckFault) → outcome_of r ≡ outcome (trials p c) → IfErr r (λ e. DoesNotFit e.fault)
-unfolding Admits AreHonest
-check_operation p c (Ok r) h = tt
-check_operation p c (Err e) h = subst Admits (sym h) (outcome_honest (trials p c) (tt, verdict_honest p c c.verdict))
+check_operation p c r h = fault_operation (trials p c) r h (tt, verdict_honest p c c.verdict)

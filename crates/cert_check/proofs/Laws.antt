@@ -11,3 +11,5 @@ pub use Rattle.cert_check.proofs.PartLaws.{derived_ok, node_ok}
 -- lists of trials, and what acceptance proves
 pub use Rattle.cert_check.proofs.OutcomeLaws.{check_accepted}
 pub use Rattle.cert_check.proofs.Trials.{after, trials_then}
+-- each fault names an operation that does not fit
+pub use Rattle.cert_check.proofs.FaultLaws.{AreHonest, both_honest, derived_all_honest, fault_operation, node_honest, point_honest, value_honest}

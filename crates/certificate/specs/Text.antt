@@ -79,8 +79,12 @@ abbrev pub point_text : List ℕ → Option (List Rational) → List ℕ
 point_text word None = []
 point_text word (Some x) = word ++ (numbers_text x ++ codes "\n")
 
+-- how many derived rows there are, and the rows
+abbrev pub counted_rows_text : List Derived → List ℕ
+counted_rows_text derived = codes "derived " ++ (decimal (length derived) ++ (codes "\n" ++ derived_rows_text derived))
+
 abbrev pub shown_text : Version → List Derived → List TreeNode → List ℕ
-shown_text v derived tree = codes "derived " ++ (decimal (length derived) ++ (codes "\n" ++ (derived_rows_text derived ++ (codes "tree\n" ++ tree_text v tree))))
+shown_text v derived tree = counted_rows_text derived ++ (codes "tree\n" ++ tree_text v tree)
 
 -- the verdict's line, and what shows it
 abbrev pub body_text : Certificate → Verdict → List ℕ

@@ -16,4 +16,4 @@ pub use split::{ColumnSplit, Side, Split, Turn};
 pub use tree::{Tree, TreeNode};
 pub use weights::{Item, Items, LeafWeights, Weights};
 pub use whole::{WholeNumber, parts_fit};
-pub use writing::text;
+pub use writing::{counted_rows_text, head_text, node_text, point_text, text};

@@ -1,13 +1,13 @@
 // The text of a certificate.
 ghost use Rattle.std.specs.Prelude.{◌≡◌, IfOk, string_bytes, map};
 ghost use Rattle.std.specs.Option.{option_map};
-ghost use Rattle.certificate.specs.Text.{certificate_text, head_text, body_text, value_text, point_text, shown_text, derived_rows_text, derived_text, proof_text, form_split_text, split_text, node_text, tree_text, number_of, weights_text, leaf_text, items_text, item_text, form_text, entry_text, numbers_text};
+ghost use Rattle.certificate.specs.Text.{certificate_text, head_text, body_text, value_text, point_text, shown_text, counted_rows_text, derived_rows_text, derived_text, proof_text, form_split_text, split_text, node_text, tree_text, number_of, weights_text, leaf_text, items_text, item_text, form_text, entry_text, numbers_text};
 ghost use Rattle.certificate.specs.Written.{first_column};
 ghost use Rattle.certificate.specs.Values.{version_of, verdict_of, proof_of, node_of};
 
 use crate::{
-    Certificate, Derived, FormSplit, Item, LeafWeights, Proof, Split, TreeNode, Verdict, Version,
-    Weights,
+    Certificate, Derived, DerivedRows, FormSplit, Item, LeafWeights, Proof, Split, TreeNode,
+    Verdict, Version, Weights,
 };
 use fraction::Frac;
 use instance::{Entry, Point};
@@ -26,8 +26,14 @@ pub fn text(alloc: Global, certificate: &Certificate) -> Result<Vec<u8>, AllocEr
     Ok(text.into_bytes())
 }
 
-fn head_text(alloc: Global, version: Version, rows: u32, columns: u32) -> Result<String, AllocError>
-    ensures { IfOk result (λ text. string_bytes text ≡ head_text (version_of version) rows columns) }
+/// The lines of the version and of the size.
+pub fn head_text(
+    alloc: Global,
+    version: Version,
+    rows: u32,
+    columns: u32,
+) -> Result<String, AllocError>
+    ensures text { IfOk result (λ text. string_bytes text ≡ head_text (version_of version) rows columns) }
 {
     let number = number_of(version);
     format!(in alloc; "cert {number}\nsize {rows} {columns}\n")
@@ -76,8 +82,9 @@ fn value_text(alloc: Global, value: Option<Frac>) -> Result<String, AllocError>
     }
 }
 
-fn point_text(alloc: Global, word: &str, point: Option<&Point>) -> Result<String, AllocError>
-    ensures { IfOk result (λ text. string_bytes text ≡ point_text word.now (option_map (λ p. p.now) point.entry)) }
+/// The line of a point or a ray behind this word; nothing where there is none.
+pub fn point_text(alloc: Global, word: &str, point: Option<&Point>) -> Result<String, AllocError>
+    ensures text { IfOk result (λ text. string_bytes text ≡ point_text word.now (option_map (λ p. p.now) point.entry)) }
 {
     match point {
         None => Ok(String::new(alloc)),
@@ -103,11 +110,19 @@ fn numbers_text(alloc: Global, numbers: &[Frac]) -> Result<String, AllocError>
 fn shown_text(alloc: Global, certificate: &Certificate) -> Result<String, AllocError>
     ensures { IfOk result (λ text. string_bytes text ≡ shown_text certificate.now.version certificate.now.derived certificate.now.tree) }
 {
-    let rows = certificate.derived().as_slice();
+    let rows = counted_rows_text(alloc, certificate.derived())?;
+    let tree = tree_text(alloc, certificate.version(), certificate.tree().as_slice())?;
+    format!(in alloc; "{rows}tree\n{tree}")
+}
+
+/// The line of the number of derived rows, and the lines of the rows.
+pub fn counted_rows_text(alloc: Global, derived: &DerivedRows) -> Result<String, AllocError>
+    ensures text { IfOk result (λ text. string_bytes text ≡ counted_rows_text derived.now) }
+{
+    let rows = derived.as_slice();
     let count = rows.len();
     let rows = derived_rows_text(alloc, rows)?;
-    let tree = tree_text(alloc, certificate.version(), certificate.tree().as_slice())?;
-    format!(in alloc; "derived {count}\n{rows}tree\n{tree}")
+    format!(in alloc; "derived {count}\n{rows}")
 }
 
 fn derived_rows_text(alloc: Global, rows: &[Derived]) -> Result<String, AllocError>
@@ -165,8 +180,9 @@ fn tree_text(alloc: Global, version: Version, nodes: &[TreeNode]) -> Result<Stri
     Ok(text)
 }
 
-fn node_text(alloc: Global, version: Version, node: &TreeNode) -> Result<String, AllocError>
-    ensures { IfOk result (λ text. string_bytes text ≡ node_text (version_of version) (node_of node.now)) }
+/// The line of a node.
+pub fn node_text(alloc: Global, version: Version, node: &TreeNode) -> Result<String, AllocError>
+    ensures text { IfOk result (λ text. string_bytes text ≡ node_text (version_of version) (node_of node.now)) }
 {
     match node {
         TreeNode::Branch(split) => split_text(alloc, version, split),

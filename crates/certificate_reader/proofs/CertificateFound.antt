@@ -6,16 +6,16 @@ use Rattle.std.specs.List.{AllByRecursion, slice_split, join_with_byte}
 use Rattle.std.proofs.lemmas.List.Splits.{join_with_byte-slice_split}
 use Rattle.rational.specs.Rational.{whole}
 use Rattle.fraction.specs.Text.{text_of}
-use Rattle.verdicts.specs.Certificate.{Version, Verdict, Optimal, Infeasible, Unbounded, FormSplit, Proof, Plain, BySplit, Derived, TreeNode, Certificate}
+use Rattle.verdicts.specs.Certificate.{Version, Verdict, Optimal, Infeasible, Unbounded, FormSplit, Proof, Plain, BySplit, Derived, Certificate}
 use Rattle.certificate_lines.specs.declared.fault.FaultKind.{FaultKind}
 use Rattle.certificate_lines.specs.declared.fault.FaultKind.TheVariants.{Unended, Extra}
 use Rattle.certificate.specs.Written.{count_max, open_after, IsProof, IsDerived, IsNode, HasTree, HasParts, HasText}
-use Rattle.certificate.specs.Text.{weights_text, form_text, numbers_text, form_split_text, proof_text, derived_text, derived_rows_text, node_text, tree_text, head_text, value_text, point_text, shown_text, body_text, certificate_text}
+use Rattle.certificate.specs.Text.{weights_text, form_text, numbers_text, form_split_text, proof_text, derived_text, derived_rows_text, counted_rows_text, node_text, tree_text, head_text, value_text, point_text, shown_text, body_text, certificate_text}
 use Rattle.certificate_lines.specs.Fields.{◌>>=◌, fields_of}
 use Rattle.certificate_lines.specs.Lines.{Rest, Line, is_nil, is_feed, fault_at, line_of, closed, line_by, is_over}
-use Rattle.certificate_reader.specs.Reading.{version_in, size_in, verdict_in, value_in, point_in, count_in, word_in, derive_in, side_in, ProofLine, PlainLine, SplitLine, proof_in, proof_from, derived_at, derived_rows_at, node_in, nodes_at, Shown, shown_at, optimal_at, infeasible_at, unbounded_at, body_at, over, certificate_at, read_of}
+use Rattle.certificate_reader.specs.Reading.{version_in, size_in, verdict_in, value_in, point_in, count_in, word_in, derive_in, side_in, ProofLine, PlainLine, SplitLine, proof_in, proof_from, derived_at, derived_rows_at, counted_rows_at, node_in, nodes_by, nodes_at, Shown, shown_at, optimal_at, infeasible_at, unbounded_at, body_at, over, certificate_at, read_of}
 use Rattle.certificate_lines.proofs.Taken.{bind_ok}
-use Rattle.certificate_reader.proofs.LinesTaken.{made_is, line_takes, closed_ok, nodes_fill, nodes_have_lines}
+use Rattle.certificate_reader.proofs.LinesTaken.{made_is, line_takes, closed_ok, nodes_whole, nodes_have_lines}
 use Rattle.certificate_reader.proofs.FieldsFound.{Texts}
 use Rattle.certificate_reader.proofs.LinesFound.{digit_of, version_text, word_text, size_text, name_of, verdict_text, value_line, point_line, count_line, derive_line, side_line, Shows, proof_line, node_line}
 
@@ -107,6 +107,28 @@ rows_found law (suc n) start x h =
       count = ap suc rows.count;
     })
 
+pub counted_glue : (n d f : List ℕ) → (codes "derived " ++ n) ++ (10 ∷ (d ++ f)) ≡ (codes "derived " ++ (n ++ (codes "\n" ++ d))) ++ f
+counted_glue n d f = simp append_assoc
+
+pub record CountedFound (start : Rest) (ds : List Derived) (rest : Rest) : Type 0 where
+  pub text : feeds start.pieces ≡ counted_rows_text ds ++ feeds rest.pieces
+  pub written : AllByRecursion IsDerived ds
+  pub count : length ds ≤ count_max
+
+pub counted_found : Texts → (start : Rest) (x : List Derived × Rest) → counted_rows_at start ≡ Ok x → CountedFound start x.0 x.1
+unfolding counted_rows_at
+counted_found law start x h =
+    let a = bind_ok (line_by count_in start) (λ count. derived_rows_at count.0 count.1) x h in
+    let count = line_found count_in start a.0.0 a.0.1 a.1 in
+    let n = count_line law count.0 a.0.0 count.1 in
+    let rows = rows_found law a.0.0 a.0.1 x a.2 in
+    let f : List ℕ = feeds x.1.pieces in
+    record {
+      text = count.2 ∙ ap (λ (l : List ℕ). l ++ (10 ∷ feeds a.0.1.pieces)) (n.0 ∙ ap (λ (k : ℕ). codes "derived " ++ decimal k) (sym rows.count)) ∙ ap (λ (t : List ℕ). (codes "derived " ++ decimal (length x.0)) ++ (10 ∷ t)) rows.text ∙ counted_glue (decimal (length x.0)) (derived_rows_text x.0) f;
+      written = rows.written;
+      count = subst (λ (k : ℕ). k ≤ count_max) (sym rows.count) n.1;
+    }
+
 -- ---- the tree
 
 line_of_found : (n : ℕ) (piece : List ℕ) (pieces : List (List ℕ)) (line : Line) → line_of n piece pieces ≡ Ok line → (line.text ≡ piece) × (line.feed ≡ not (is_nil pieces))
@@ -122,34 +144,38 @@ not_true_is : (b : Bool) → not b ≡ true → b ≡ false
 not_true_is true h = absurd cc
 not_true_is false h = refl
 
-pub record NodesFound (v : Version) (pieces : List (List ℕ)) (ns : List TreeNode) (rest : Rest) : Type 0 where
-  pub text : feeds pieces ≡ tree_text v ns ++ feeds rest.pieces
-  pub written : AllByRecursion IsNode ns
+-- the text of nodes, each of which has one
+pub record NodesFound {A : Type 0} (tree : List A → List ℕ) (Is : A → Type 0) (pieces : List (List ℕ)) (ns : List A) (rest : Rest) : Type 0 where
+  pub text : feeds pieces ≡ tree ns ++ feeds rest.pieces
+  pub written : AllByRecursion Is ns
 
-nodes_found : Texts → (v : Version) (places n : ℕ) (pieces : List (List ℕ)) (x : List TreeNode × Rest) → nodes_at v places n pieces ≡ Ok x → NodesFound v pieces x.0 x.1
-unfolding nodes_at
-nodes_found law v zero n pieces x h = subst (λ (y : List TreeNode × Rest). NodesFound v pieces y.0 y.1) (made_is ([], record { line = n; pieces = pieces }) x h) (record { text = refl; written = tt })
-nodes_found law v (suc more) n [] x h = absurd cc
-nodes_found law v (suc more) n (piece ∷ pieces) x h =
-    let a = bind_ok (line_of n piece pieces) (λ line. closed line (node_in v (fields_of line.text)) >>= λ node. nodes_at v (open_after node more) (n + 1) pieces >>= λ nodes. Ok (node ∷ nodes.0, nodes.1)) x h in
-    let b = bind_ok (closed a.0 (node_in v (fields_of a.0.text))) (λ node. nodes_at v (open_after node more) (n + 1) pieces >>= λ nodes. Ok (node ∷ nodes.0, nodes.1)) x a.2 in
-    let c = bind_ok (nodes_at v (open_after b.0 more) (n + 1) pieces) (λ nodes. Ok (b.0 ∷ nodes.0, nodes.1)) x b.2 in
+-- where the line of each is the node's text
+pub nodes_found : {A : Type 0} (f : List (List ℕ) → Result A FaultKind) (opened : A → ℕ → ℕ) (write : A → List ℕ) (tree : List A → List ℕ) (Is : A → Type 0) → tree [] ≡ [] → ((node : A) (nodes : List A) → tree (node ∷ nodes) ≡ write node ++ tree nodes)
+    → ((line : List ℕ) (x : A) → f (fields_of line) ≡ Ok x → (line ++ (10 ∷ []) ≡ write x) × Is x)
+    → (places n : ℕ) (pieces : List (List ℕ)) (x : List A × Rest) → nodes_by f opened places n pieces ≡ Ok x → NodesFound tree Is pieces x.0 x.1
+unfolding nodes_by
+nodes_found {A = A} f opened write tree Is none more reads zero n pieces x h = subst (λ (y : List A × Rest). NodesFound tree Is pieces y.0 y.1) (made_is {A = List A × Rest} ([], record { line = n; pieces = pieces }) x h) (record { text = ap (λ (t : List ℕ). t ++ feeds pieces) (sym none); written = tt })
+nodes_found {A = A} f opened write tree Is none more reads (suc places) n [] x h = absurd cc
+nodes_found {A = A} f opened write tree Is none more reads (suc places) n (piece ∷ pieces) x h =
+    let a = bind_ok (line_of n piece pieces) (λ line. closed line (f (fields_of line.text)) >>= λ node. nodes_by f opened (opened node places) (n + 1) pieces >>= λ nodes. Ok (node ∷ nodes.0, nodes.1)) x h in
+    let b = bind_ok (closed a.0 (f (fields_of a.0.text))) (λ node. nodes_by f opened (opened node places) (n + 1) pieces >>= λ nodes. Ok (node ∷ nodes.0, nodes.1)) x a.2 in
+    let c = bind_ok (nodes_by f opened (opened b.0 places) (n + 1) pieces) (λ nodes. Ok (b.0 ∷ nodes.0, nodes.1)) x b.2 in
     let line = line_of_found n piece pieces a.0 a.1 in
-    let k = closed_ok a.0 (node_in v (fields_of a.0.text)) b.0 b.1 in
+    let k = closed_ok a.0 (f (fields_of a.0.text)) b.0 b.1 in
     let some : is_nil pieces ≡ false = not_true_is (is_nil pieces) (sym line.1 ∙ k.1) in
-    let node = node_line law v piece b.0 (ap (λ (t : List ℕ). node_in v (fields_of t)) (sym line.0) ∙ k.0) in
-    let rest = nodes_found law v (open_after b.0 more) (n + 1) pieces c.0 c.1 in
-    let f : List ℕ = feeds c.0.1.pieces in
-    let text : feeds (piece ∷ pieces) ≡ tree_text v (b.0 ∷ c.0.0) ++ f =
+    let node = reads piece b.0 (ap (λ (t : List ℕ). f (fields_of t)) (sym line.0) ∙ k.0) in
+    let rest = nodes_found f opened write tree Is none more reads (opened b.0 places) (n + 1) pieces c.0 c.1 in
+    let end : List ℕ = feeds c.0.1.pieces in
+    let text : feeds (piece ∷ pieces) ≡ tree (b.0 ∷ c.0.0) ++ end =
     feeds-cons piece pieces some ∙ sym (append_assoc piece (10 ∷ []) (feeds pieces))
-    ∙ ap (λ (t : List ℕ). t ++ feeds pieces) node.0 ∙ ap (λ (t : List ℕ). node_text v b.0 ++ t) rest.text
-    ∙ sym (append_assoc (node_text v b.0) (tree_text v c.0.0) f) in
-    subst (λ (y : List TreeNode × Rest). NodesFound v (piece ∷ pieces) y.0 y.1) (made_is (b.0 ∷ c.0.0, c.0.1) x c.2) (record { text = text; written = (node.1, rest.written) })
+    ∙ ap (λ (t : List ℕ). t ++ feeds pieces) node.0 ∙ ap (λ (t : List ℕ). write b.0 ++ t) rest.text
+    ∙ sym (append_assoc (write b.0) (tree c.0.0) end) ∙ ap (λ (t : List ℕ). t ++ end) (sym (more b.0 c.0.0)) in
+    subst (λ (y : List A × Rest). NodesFound tree Is (piece ∷ pieces) y.0 y.1) (made_is {A = List A × Rest} (b.0 ∷ c.0.0, c.0.1) x c.2) (record { text = text; written = (node.1, rest.written) })
 
 -- ---- what a verdict has
 
-pub shown_glue : (n d t f : List ℕ) → (codes "derived " ++ n) ++ (10 ∷ (d ++ (codes "tree" ++ (10 ∷ (t ++ f))))) ≡ (codes "derived " ++ (n ++ (codes "\n" ++ (d ++ (codes "tree\n" ++ t))))) ++ f
-shown_glue n d t f = simp append_assoc
+pub shown_glue : (r t f : List ℕ) → r ++ (codes "tree" ++ (10 ∷ (t ++ f))) ≡ (r ++ (codes "tree\n" ++ t)) ++ f
+shown_glue r t f = simp append_assoc
 
 pub record ShownFound (v : Version) (start : Rest) (s : Shown) (rest : Rest) : Type 0 where
   pub text : feeds start.pieces ≡ shown_text v s.derived s.tree ++ feeds rest.pieces
@@ -158,25 +184,21 @@ pub record ShownFound (v : Version) (start : Rest) (s : Shown) (rest : Rest) : T
 shown_found : Texts → (v : Version) (start : Rest) (x : Shown × Rest) → shown_at v start ≡ Ok x → ShownFound v start x.0 x.1
 unfolding shown_at
 shown_found law v start x h =
-    let a = bind_ok (line_by count_in start) (λ count. derived_rows_at count.0 count.1 >>= λ rows. line_by (word_in (codes "tree")) rows.1 >>= λ mark. nodes_at v 1 mark.1.line mark.1.pieces >>= λ nodes. Ok (record { derived = rows.0; tree = nodes.0 }, nodes.1)) x h in
-    let b = bind_ok (derived_rows_at a.0.0 a.0.1) (λ rows. line_by (word_in (codes "tree")) rows.1 >>= λ mark. nodes_at v 1 mark.1.line mark.1.pieces >>= λ nodes. Ok (record { derived = rows.0; tree = nodes.0 }, nodes.1)) x a.2 in
-    let c = bind_ok (line_by (word_in (codes "tree")) b.0.1) (λ mark. nodes_at v 1 mark.1.line mark.1.pieces >>= λ nodes. Ok (record { derived = b.0.0; tree = nodes.0 }, nodes.1)) x b.2 in
-    let d = bind_ok (nodes_at v 1 c.0.1.line c.0.1.pieces) (λ nodes. Ok (record { derived = b.0.0; tree = nodes.0 }, nodes.1)) x c.2 in
-    let count = line_found count_in start a.0.0 a.0.1 a.1 in
-    let n = count_line law count.0 a.0.0 count.1 in
-    let rows = rows_found law a.0.0 a.0.1 b.0 b.1 in
-    let mark = line_found (word_in (codes "tree")) b.0.1 c.0.0 c.0.1 c.1 in
-    let word = word_text (codes "tree") mark.0 c.0.0 mark.1 in
-    let nodes = nodes_found law v 1 c.0.1.line c.0.1.pieces d.0 d.1 in
-    let f : List ℕ = feeds d.0.1.pieces in
-    let shown : Shown = record { derived = b.0.0; tree = d.0.0 } in
-    let text : feeds start.pieces ≡ shown_text v b.0.0 d.0.0 ++ f =
-    count.2 ∙ ap (λ (l : List ℕ). l ++ (10 ∷ feeds a.0.1.pieces)) (n.0 ∙ ap (λ (k : ℕ). codes "derived " ++ decimal k) (sym rows.count))
-    ∙ ap (λ (t : List ℕ). (codes "derived " ++ decimal (length b.0.0)) ++ (10 ∷ t)) (rows.text ∙ ap (λ (t : List ℕ). derived_rows_text b.0.0 ++ t) (mark.2 ∙ ap (λ (l : List ℕ). l ++ (10 ∷ feeds c.0.1.pieces)) word ∙ ap (λ (t : List ℕ). codes "tree" ++ (10 ∷ t)) nodes.text))
-    ∙ shown_glue (decimal (length b.0.0)) (derived_rows_text b.0.0) (tree_text v d.0.0) f in
-    subst (λ (y : Shown × Rest). ShownFound v start y.0 y.1) (made_is (shown, d.0.1) x d.2) (record {
+    let a = bind_ok (counted_rows_at start) (λ rows. line_by (word_in (codes "tree")) rows.1 >>= λ mark. nodes_at v 1 mark.1 >>= λ nodes. Ok (record { derived = rows.0; tree = nodes.0 }, nodes.1)) x h in
+    let b = bind_ok (line_by (word_in (codes "tree")) a.0.1) (λ mark. nodes_at v 1 mark.1 >>= λ nodes. Ok (record { derived = a.0.0; tree = nodes.0 }, nodes.1)) x a.2 in
+    let c = bind_ok (nodes_at v 1 b.0.1) (λ nodes. Ok (record { derived = a.0.0; tree = nodes.0 }, nodes.1)) x b.2 in
+    let rows = counted_found law start a.0 a.1 in
+    let mark = line_found (word_in (codes "tree")) a.0.1 b.0.0 b.0.1 b.1 in
+    let word = word_text (codes "tree") mark.0 b.0.0 mark.1 in
+    let nodes = nodes_found (node_in v) open_after (node_text v) (tree_text v) IsNode refl (λ node nodes. refl) (node_line law v) 1 b.0.1.line b.0.1.pieces c.0 c.1 in
+    let f : List ℕ = feeds c.0.1.pieces in
+    let shown : Shown = record { derived = a.0.0; tree = c.0.0 } in
+    let text : feeds start.pieces ≡ shown_text v a.0.0 c.0.0 ++ f =
+    rows.text ∙ ap (λ (t : List ℕ). counted_rows_text a.0.0 ++ t) (mark.2 ∙ ap (λ (l : List ℕ). l ++ (10 ∷ feeds b.0.1.pieces)) word ∙ ap (λ (t : List ℕ). codes "tree" ++ (10 ∷ t)) nodes.text)
+    ∙ shown_glue (counted_rows_text a.0.0) (tree_text v c.0.0) f in
+    subst (λ (y : Shown × Rest). ShownFound v start y.0 y.1) (made_is (shown, c.0.1) x c.2) (record {
       text = text;
-      written = record { count = subst (λ (k : ℕ). k ≤ count_max) (sym rows.count) n.1; rows = rows.written; nodes = nodes.written; lines = nodes_have_lines v 1 c.0.1.line c.0.1.pieces d.0 d.1; whole = nodes_fill v 1 c.0.1.line c.0.1.pieces d.0 d.1 };
+      written = record { count = rows.count; rows = rows.written; nodes = nodes.written; lines = nodes_have_lines v 1 b.0.1.line b.0.1.pieces c.0 c.1; whole = nodes_whole v b.0.1 c.0 c.1 };
     })
 
 -- the lines of a verdict's parts
@@ -253,14 +275,14 @@ body_found law version rows columns Optimal start x h = optimal_found law versio
 body_found law version rows columns Infeasible start x h = infeasible_found law version rows columns start x h
 body_found law version rows columns Unbounded start x h = unbounded_found law version rows columns start x h
 
-over_found : (c d : Certificate) (rest : Rest) → over c rest ≡ Ok d → (is_over rest.pieces ≡ true) × (c ≡ d)
+pub over_found : {A : Type 0} (c d : A) (rest : Rest) → over c rest ≡ Ok d → (is_over rest.pieces ≡ true) × (c ≡ d)
 over_found c d rest h = by_test (is_over rest.pieces) h
   where
     by_test : (b : Bool) → (if b then Ok c else fault_at rest.line Extra) ≡ Ok d → (b ≡ true) × (c ≡ d)
     by_test true h = (refl, made_is c d h)
     by_test false h = absurd cc
 
-over_feeds : (pieces : List (List ℕ)) → is_over pieces ≡ true → feeds pieces ≡ []
+pub over_feeds : (pieces : List (List ℕ)) → is_over pieces ≡ true → feeds pieces ≡ []
 over_feeds [] h = refl
 over_feeds ([] ∷ []) h = refl
 over_feeds ([] ∷ p ∷ ps) h = absurd cc

@@ -59,7 +59,7 @@ inked-from_solid [] h = refl
 inked-from_solid (c ∷ cs) h = let above : 32 < c = ltb-true _ _ (first_of _ _ h) in both _ _ (lt-ltb 31 c (omega arith)) (inked-from_solid cs (second_of _ _ h))
 
 -- the bytes of numbers: a minus, a slash and digits
-abbrev Plain : ℕ → Type 0
+abbrev pub Plain : ℕ → Type 0
 Plain c = (44 < c) × (c < 58)
 
 plain-append : (a b : List ℕ) → AllByRecursion Plain a → AllByRecursion Plain b → AllByRecursion Plain (a ++ b)
@@ -73,7 +73,7 @@ signed_bytes : (z : ℤ) → num_fits z ≡ true → AllByRecursion Plain (signe
 signed_bytes (pos n) h = let small : n ≤ part_max = leb-true _ _ h in decimal_bytes n (omega arith)
 signed_bytes (negsuc n) h = let small : suc n ≤ part_max = leb-true _ _ h in ((omega arith, omega arith), decimal_bytes (suc n) (omega arith))
 
-text_bytes : (v : Rational) → fits v ≡ true → AllByRecursion Plain (text_of v)
+pub text_bytes : (v : Rational) → fits v ≡ true → AllByRecursion Plain (text_of v)
 text_bytes v h = by_test (v.denominator == 1)
   where
     by_test : (b : Bool) → AllByRecursion Plain (cond b (signed_decimal v.numerator) (signed_decimal v.numerator ++ (47 ∷ decimal v.denominator)))

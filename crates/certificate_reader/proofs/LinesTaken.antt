@@ -1,8 +1,8 @@
 -- What is read of lines.
-use Rattle.std.proofs.Common.{◌≡◌, ◌∙◌, ℕ, zero, suc, ◌+◌, ◌-◌, ◌≤◌, ◌<◌, List, [], ◌∷◌, ◌++◌, length, Bool, true, false, Result, Ok, Err, refl, sym, ap, subst, arith, if◌then◌else◌, inl, inr, ◌⊎◌}
+use Rattle.std.proofs.Common.{◌≡◌, ◌∙◌, ℕ, zero, suc, ◌+◌, ◌-◌, ◌≤◌, ◌<◌, List, [], ◌∷◌, ◌++◌, length, map, Bool, true, false, Result, Ok, Err, refl, sym, ap, subst, arith, if◌then◌else◌, inl, inr, ◌⊎◌}
 use Rattle.std.specs.Prelude.{codes}
 use Rattle.std.specs.Str.{bytes_eq}
-use Rattle.std.proofs.lemmas.List.{append-nil}
+use Rattle.std.proofs.lemmas.List.{append-nil, map-id}
 use Rattle.rational.specs.Rational.{Rational}
 use Rattle.milp.specs.Form.{Entry}
 use Rattle.instance.specs.WellFormed.{are_entries}
@@ -15,7 +15,7 @@ use Rattle.certificate_lines.specs.declared.fault.CertError.{CertError}
 use Rattle.certificate_lines.specs.declared.fault.CertError.TheVariants as cert_error
 use Rattle.certificate_lines.specs.Fields.{◌>>=◌, index_of, number_of, whole_of, fields_of, next_field, first_by, after_word, ended, numbers_of, form_of, weights_of, leaf_weights_of}
 use Rattle.certificate_lines.specs.Lines.{Rest, Line, is_nil, fault_at, line_of, next_from, closed, line_by}
-use Rattle.certificate_reader.specs.Reading.{derive_in, point_in, ProofLine, PlainLine, SplitLine, IsHead, plain_in, form_split_in, cases_in, proof_after, proof_in, column_split_in, branch_in, empty_in, bound_in, node_after, node_in, nodes_at, count_in, word_in, Shown, shown_at, derived_at, derived_rows_at}
+use Rattle.certificate_reader.specs.Reading.{derive_in, point_in, ProofLine, PlainLine, SplitLine, IsHead, plain_in, form_split_in, cases_in, proof_after, proof_in, column_split_in, branch_in, empty_in, bound_in, node_after, node_in, nodes_by, nodes_at, word_in, Shown, shown_at, derived_at, derived_rows_at, counted_rows_at}
 use Rattle.certificate_lines.specs.Gives.{Fails}
 use Rattle.certificate_lines.proofs.Taken.{bind_ok, form_entries, no_splits}
 use Rattle.certificate_lines.proofs.Pieces.{line_some}
@@ -153,16 +153,18 @@ point_size word n start x rest h =
 
 -- ---- trees
 
-pub nodes_fill : (v : Version) (places n : ℕ) (pieces : List (List ℕ)) (x : List TreeNode × Rest) → nodes_at v places n pieces ≡ Ok x → fills places x.0 ≡ true
-unfolding nodes_at
-nodes_fill v zero n pieces x h = subst (λ (y : List TreeNode × Rest). fills 0 y.0 ≡ true) (made_is ([], record { line = n; pieces = pieces }) x h) refl
-nodes_fill v (suc more) n [] x h = absurd cc
-nodes_fill v (suc more) n (piece ∷ pieces) x h =
-    let a = bind_ok (line_of n piece pieces) (λ line. closed line (node_in v (fields_of line.text)) >>= λ node. nodes_at v (open_after node more) (n + 1) pieces >>= λ nodes. Ok (node ∷ nodes.0, nodes.1)) x h in
-    let b = bind_ok (closed a.0 (node_in v (fields_of a.0.text))) (λ node. nodes_at v (open_after node more) (n + 1) pieces >>= λ nodes. Ok (node ∷ nodes.0, nodes.1)) x a.2 in
-    let c = bind_ok (nodes_at v (open_after b.0 more) (n + 1) pieces) (λ nodes. Ok (b.0 ∷ nodes.0, nodes.1)) x b.2 in
-    let rest = nodes_fill v (open_after b.0 more) (n + 1) pieces c.0 c.1 in
-    subst (λ (y : List TreeNode × Rest). fills (suc more) y.0 ≡ true) (made_is (b.0 ∷ c.0.0, c.0.1) x c.2) rest
+-- where `shape` is the node of a certificate in the place of what f reads
+pub nodes_fill : {A : Type 0} (f : List (List ℕ) → Result A FaultKind) (shape : A → TreeNode) (places n : ℕ) (pieces : List (List ℕ)) (x : List A × Rest) → nodes_by f (λ node more. open_after (shape node) more) places n pieces ≡ Ok x → fills places (map shape x.0) ≡ true
+unfolding nodes_by
+nodes_fill {A = A} f shape zero n pieces x h = subst (λ (y : List A × Rest). fills 0 (map shape y.0) ≡ true) (made_is {A = List A × Rest} ([], record { line = n; pieces = pieces }) x h) refl
+nodes_fill {A = A} f shape (suc more) n [] x h = absurd cc
+nodes_fill {A = A} f shape (suc more) n (piece ∷ pieces) x h =
+    let opened : A → ℕ → ℕ = λ node more. open_after (shape node) more in
+    let a = bind_ok (line_of n piece pieces) (λ line. closed line (f (fields_of line.text)) >>= λ node. nodes_by f opened (opened node more) (n + 1) pieces >>= λ nodes. Ok (node ∷ nodes.0, nodes.1)) x h in
+    let b = bind_ok (closed a.0 (f (fields_of a.0.text))) (λ node. nodes_by f opened (opened node more) (n + 1) pieces >>= λ nodes. Ok (node ∷ nodes.0, nodes.1)) x a.2 in
+    let c = bind_ok (nodes_by f opened (opened b.0 more) (n + 1) pieces) (λ nodes. Ok (b.0 ∷ nodes.0, nodes.1)) x b.2 in
+    let rest = nodes_fill f shape (opened b.0 more) (n + 1) pieces c.0 c.1 in
+    subst (λ (y : List A × Rest). fills (suc more) (map shape y.0) ≡ true) (made_is {A = List A × Rest} (b.0 ∷ c.0.0, c.0.1) x c.2) rest
 
 -- a node has a line in the version
 abbrev pub IsOf : Version → TreeNode → Type 0
@@ -212,8 +214,8 @@ node_has_line One fields x h =
     node_takes a.0.0 a.0.1 x a.2
 node_has_line Two fields x h = tt
 
-pub nodes_have_lines : (v : Version) (places n : ℕ) (pieces : List (List ℕ)) (x : List TreeNode × Rest) → nodes_at v places n pieces ≡ Ok x → AreOf v x.0
-unfolding nodes_at
+pub nodes_have_lines : (v : Version) (places n : ℕ) (pieces : List (List ℕ)) (x : List TreeNode × Rest) → nodes_by (node_in v) open_after places n pieces ≡ Ok x → AreOf v x.0
+unfolding nodes_by
 nodes_have_lines v zero n pieces x h = subst (λ (y : List TreeNode × Rest). AreOf v y.0) (made_is ([], record { line = n; pieces = pieces }) x h) (none_of v)
   where
     none_of : (v : Version) → AreOf v []
@@ -221,22 +223,24 @@ nodes_have_lines v zero n pieces x h = subst (λ (y : List TreeNode × Rest). Ar
     none_of Two = tt
 nodes_have_lines v (suc more) n [] x h = absurd cc
 nodes_have_lines v (suc more) n (piece ∷ pieces) x h =
-    let a = bind_ok (line_of n piece pieces) (λ line. closed line (node_in v (fields_of line.text)) >>= λ node. nodes_at v (open_after node more) (n + 1) pieces >>= λ nodes. Ok (node ∷ nodes.0, nodes.1)) x h in
-    let b = bind_ok (closed a.0 (node_in v (fields_of a.0.text))) (λ node. nodes_at v (open_after node more) (n + 1) pieces >>= λ nodes. Ok (node ∷ nodes.0, nodes.1)) x a.2 in
-    let c = bind_ok (nodes_at v (open_after b.0 more) (n + 1) pieces) (λ nodes. Ok (b.0 ∷ nodes.0, nodes.1)) x b.2 in
+    let a = bind_ok (line_of n piece pieces) (λ line. closed line (node_in v (fields_of line.text)) >>= λ node. nodes_by (node_in v) open_after (open_after node more) (n + 1) pieces >>= λ nodes. Ok (node ∷ nodes.0, nodes.1)) x h in
+    let b = bind_ok (closed a.0 (node_in v (fields_of a.0.text))) (λ node. nodes_by (node_in v) open_after (open_after node more) (n + 1) pieces >>= λ nodes. Ok (node ∷ nodes.0, nodes.1)) x a.2 in
+    let c = bind_ok (nodes_by (node_in v) open_after (open_after b.0 more) (n + 1) pieces) (λ nodes. Ok (b.0 ∷ nodes.0, nodes.1)) x b.2 in
     let k = closed_ok a.0 (node_in v (fields_of a.0.text)) b.0 b.1 in
     let rest = nodes_have_lines v (open_after b.0 more) (n + 1) pieces c.0 c.1 in
     subst (λ (y : List TreeNode × Rest). AreOf v y.0) (made_is (b.0 ∷ c.0.0, c.0.1) x c.2) (all_with_first v b.0 c.0.0 (node_has_line v (fields_of a.0.text) b.0 k.0) rest)
 
+pub nodes_whole : (v : Version) (rest : Rest) (x : List TreeNode × Rest) → nodes_at v 1 rest ≡ Ok x → is_tree x.0 ≡ true
+nodes_whole v rest x h = ap is_tree (sym (map-id x.0)) ∙ nodes_fill (node_in v) (λ node. node) 1 rest.line rest.pieces x h
+
 pub shown_tree : (v : Version) (start : Rest) (x : Shown × Rest) → shown_at v start ≡ Ok x → (is_tree x.0.tree ≡ true) × AreOf v x.0.tree
 unfolding shown_at
 shown_tree v start x h =
-    let a = bind_ok (line_by count_in start) (λ count. derived_rows_at count.0 count.1 >>= λ rows. line_by (word_in (codes "tree")) rows.1 >>= λ mark. nodes_at v 1 mark.1.line mark.1.pieces >>= λ nodes. Ok (record { derived = rows.0; tree = nodes.0 }, nodes.1)) x h in
-    let b = bind_ok (derived_rows_at a.0.0 a.0.1) (λ rows. line_by (word_in (codes "tree")) rows.1 >>= λ mark. nodes_at v 1 mark.1.line mark.1.pieces >>= λ nodes. Ok (record { derived = rows.0; tree = nodes.0 }, nodes.1)) x a.2 in
-    let c = bind_ok (line_by (word_in (codes "tree")) b.0.1) (λ mark. nodes_at v 1 mark.1.line mark.1.pieces >>= λ nodes. Ok (record { derived = b.0.0; tree = nodes.0 }, nodes.1)) x b.2 in
-    let d = bind_ok (nodes_at v 1 c.0.1.line c.0.1.pieces) (λ nodes. Ok (record { derived = b.0.0; tree = nodes.0 }, nodes.1)) x c.2 in
-    let shown : Shown = record { derived = b.0.0; tree = d.0.0 } in
-    subst (λ (y : Shown × Rest). (is_tree y.0.tree ≡ true) × AreOf v y.0.tree) (made_is (shown, d.0.1) x d.2) (nodes_fill v 1 c.0.1.line c.0.1.pieces d.0 d.1, nodes_have_lines v 1 c.0.1.line c.0.1.pieces d.0 d.1)
+    let a = bind_ok (counted_rows_at start) (λ rows. line_by (word_in (codes "tree")) rows.1 >>= λ mark. nodes_at v 1 mark.1 >>= λ nodes. Ok (record { derived = rows.0; tree = nodes.0 }, nodes.1)) x h in
+    let b = bind_ok (line_by (word_in (codes "tree")) a.0.1) (λ mark. nodes_at v 1 mark.1 >>= λ nodes. Ok (record { derived = a.0.0; tree = nodes.0 }, nodes.1)) x a.2 in
+    let c = bind_ok (nodes_at v 1 b.0.1) (λ nodes. Ok (record { derived = a.0.0; tree = nodes.0 }, nodes.1)) x b.2 in
+    let shown : Shown = record { derived = a.0.0; tree = c.0.0 } in
+    subst (λ (y : Shown × Rest). (is_tree y.0.tree ≡ true) × AreOf v y.0.tree) (made_is (shown, c.0.1) x c.2) (nodes_whole v b.0.1 c.0 c.1, nodes_have_lines v 1 b.0.1.line b.0.1.pieces c.0 c.1)
 
 -- ---- the loops over lines
 
@@ -265,49 +269,49 @@ rows_all count i front start total le so_far =
     let one : with_front_of front (derived_rows_at (count - i) start) ≡ Ok (front, start) = rw n (ap (λ (ds : List Derived). Ok (ds, start)) (append-nil front)) in
     sym so_far ∙ one
 
-pub nodes_more : (v : Version) (places : ℕ) (front : List TreeNode) (start : Rest) (node : TreeNode) (rest : Rest) (total : Result (List TreeNode × Rest) CertFault) → 0 < places → line_by (node_in v) start ≡ Ok (node, rest)
-    → with_front_of front (nodes_at v places start.line start.pieces) ≡ total → with_front_of (front ++ node ∷ []) (nodes_at v (open_after node (places - 1)) rest.line rest.pieces) ≡ total
-unfolding nodes_at
-nodes_more v places front start node rest total some read so_far =
+pub nodes_more : {A : Type 0} (f : List (List ℕ) → Result A FaultKind) (opened : A → ℕ → ℕ) (places : ℕ) (front : List A) (start : Rest) (node : A) (rest : Rest) (total : Result (List A × Rest) CertFault) → 0 < places → line_by f start ≡ Ok (node, rest)
+    → with_front_of front (nodes_by f opened places start.line start.pieces) ≡ total → with_front_of (front ++ node ∷ []) (nodes_by f opened (opened node (places - 1)) rest.line rest.pieces) ≡ total
+unfolding nodes_by
+nodes_more f opened places front start node rest total some read so_far =
     let n : places ≡ suc (places - 1) = omega arith in
-    let t = line_takes (node_in v) start node rest read in
+    let t = line_takes f start node rest read in
     let line : line_of start.line t.text rest.pieces ≡ Ok (record { number = start.line; text = t.text; feed = true }) = line_some start.line t.text rest.pieces t.more in
-    let step : nodes_at v (suc (places - 1)) start.line (t.text ∷ rest.pieces) ≡ (nodes_at v (open_after node (places - 1)) (start.line + 1) rest.pieces >>= λ nodes. Ok (node ∷ nodes.0, nodes.1)) = rw (line, t.read) refl in
-    let first : nodes_at v places start.line start.pieces ≡ nodes_at v (suc (places - 1)) start.line (t.text ∷ rest.pieces) = ap (λ (k : ℕ). nodes_at v k start.line start.pieces) n ∙ ap (nodes_at v (suc (places - 1)) start.line) t.parts in
-    let next : nodes_at v (open_after node (places - 1)) (start.line + 1) rest.pieces ≡ nodes_at v (open_after node (places - 1)) rest.line rest.pieces = ap (λ (k : ℕ). nodes_at v (open_after node (places - 1)) k rest.pieces) (sym t.line) in
-    let cons = with_front_of-cons front node (nodes_at v (open_after node (places - 1)) (start.line + 1) rest.pieces) in
+    let step : nodes_by f opened (suc (places - 1)) start.line (t.text ∷ rest.pieces) ≡ (nodes_by f opened (opened node (places - 1)) (start.line + 1) rest.pieces >>= λ nodes. Ok (node ∷ nodes.0, nodes.1)) = rw (line, t.read) refl in
+    let first : nodes_by f opened places start.line start.pieces ≡ nodes_by f opened (suc (places - 1)) start.line (t.text ∷ rest.pieces) = ap (λ (k : ℕ). nodes_by f opened k start.line start.pieces) n ∙ ap (nodes_by f opened (suc (places - 1)) start.line) t.parts in
+    let next : nodes_by f opened (opened node (places - 1)) (start.line + 1) rest.pieces ≡ nodes_by f opened (opened node (places - 1)) rest.line rest.pieces = ap (λ (k : ℕ). nodes_by f opened (opened node (places - 1)) k rest.pieces) (sym t.line) in
+    let cons = with_front_of-cons front node (nodes_by f opened (opened node (places - 1)) (start.line + 1) rest.pieces) in
     ap (with_front_of (front ++ node ∷ [])) (sym next) ∙ sym cons ∙ ap (with_front_of front) (sym (first ∙ step)) ∙ so_far
 
-abbrev after_line : (Line → Result TreeNode CertFault) → Result (Line × Rest) CertFault → Result (TreeNode × Rest) CertFault
+abbrev after_line : {A : Type 0} → (Line → Result A CertFault) → Result (Line × Rest) CertFault → Result (A × Rest) CertFault
 after_line k r = r >>= λ line. k line.0 >>= λ x. Ok (x, line.1)
 
-step_fault : (r : Result Line CertFault) (k : Line → Result TreeNode CertFault) (rest : Rest) (go : TreeNode → Result (List TreeNode × Rest) CertFault) (f : CertFault)
+step_fault : {A : Type 0} (r : Result Line CertFault) (k : Line → Result A CertFault) (rest : Rest) (go : A → Result (List A × Rest) CertFault) (f : CertFault)
     → after_line k (and_rest rest r) ≡ Err f → (r >>= λ line. k line >>= go) ≡ Err f
-step_fault (Err g) k rest go f h = let same : g ≡ f = cc in ap (λ (x : CertFault). Err x) same
-step_fault (Ok line) k rest go f h = second (k line) h
+step_fault {A = A} (Err g) k rest go f h = let same : g ≡ f = cc in ap (λ (x : CertFault). Err x) same
+step_fault {A = A} (Ok line) k rest go f h = second (k line) h
   where
-    second : (r : Result TreeNode CertFault) → and_rest rest r ≡ Err f → (r >>= go) ≡ Err f
+    second : (r : Result A CertFault) → and_rest rest r ≡ Err f → (r >>= go) ≡ Err f
     second (Err g) h = let same : g ≡ f = cc in ap (λ (x : CertFault). Err x) same
     second (Ok node) h = absurd cc
 
-node_fault : (v : Version) (n more : ℕ) (pieces : List (List ℕ)) (f : CertFault) → read_from (node_in v) (next_from n pieces) ≡ Err f → nodes_at v (suc more) n pieces ≡ Err f
-unfolding nodes_at
-node_fault v n more [] f h = let same : record { line = n; kind = Unended } ≡ f = cc in ap (λ (x : CertFault). Err x) same
-node_fault v n more (piece ∷ pieces) f h = step_fault (line_of n piece pieces) (λ line. closed line (node_in v (fields_of line.text))) (record { line = n + 1; pieces = pieces }) (λ node. nodes_at v (open_after node more) (n + 1) pieces >>= λ nodes. Ok (node ∷ nodes.0, nodes.1)) f h
+node_fault : {A : Type 0} (f : List (List ℕ) → Result A FaultKind) (opened : A → ℕ → ℕ) (n more : ℕ) (pieces : List (List ℕ)) (fault : CertFault) → read_from f (next_from n pieces) ≡ Err fault → nodes_by f opened (suc more) n pieces ≡ Err fault
+unfolding nodes_by
+node_fault f opened n more [] fault h = let same : record { line = n; kind = Unended } ≡ fault = cc in ap (λ (x : CertFault). Err x) same
+node_fault f opened n more (piece ∷ pieces) fault h = step_fault (line_of n piece pieces) (λ line. closed line (f (fields_of line.text))) (record { line = n + 1; pieces = pieces }) (λ node. nodes_by f opened (opened node more) (n + 1) pieces >>= λ nodes. Ok (node ∷ nodes.0, nodes.1)) fault h
 
-pub nodes_fault : (v : Version) (e : CertError) (places : ℕ) (front : List TreeNode) (start : Rest) (total : Result (List TreeNode × Rest) CertFault) → 0 < places → Fails e (line_by (node_in v) start)
-    → with_front_of front (nodes_at v places start.line start.pieces) ≡ total → Fails e total
-nodes_fault v cert_error.NoMemory places front start total some read so_far = tt
-nodes_fault v (cert_error.Fault fault) places front start total some read so_far =
+pub nodes_fault : {A : Type 0} (f : List (List ℕ) → Result A FaultKind) (opened : A → ℕ → ℕ) (e : CertError) (places : ℕ) (front : List A) (start : Rest) (total : Result (List A × Rest) CertFault) → 0 < places → Fails e (line_by f start)
+    → with_front_of front (nodes_by f opened places start.line start.pieces) ≡ total → Fails e total
+nodes_fault f opened cert_error.NoMemory places front start total some read so_far = tt
+nodes_fault f opened (cert_error.Fault fault) places front start total some read so_far =
     let n : places ≡ suc (places - 1) = omega arith in
-    let one : nodes_at v places start.line start.pieces ≡ Err fault = ap (λ (k : ℕ). nodes_at v k start.line start.pieces) n ∙ node_fault v start.line (places - 1) start.pieces fault read in
+    let one : nodes_by f opened places start.line start.pieces ≡ Err fault = ap (λ (k : ℕ). nodes_by f opened k start.line start.pieces) n ∙ node_fault f opened start.line (places - 1) start.pieces fault read in
     sym so_far ∙ ap (with_front_of front) one
 
-pub nodes_all : (v : Version) (places : ℕ) (front : List TreeNode) (start : Rest) (total : Result (List TreeNode × Rest) CertFault) → places ≡ 0
-    → with_front_of front (nodes_at v places start.line start.pieces) ≡ total → total ≡ Ok (front, start)
-unfolding nodes_at
-nodes_all v places front start total none so_far =
-    let one : with_front_of front (nodes_at v places start.line start.pieces) ≡ Ok (front, start) = rw none (ap (λ (ns : List TreeNode). Ok (ns, start)) (append-nil front)) in
+pub nodes_all : {A : Type 0} (f : List (List ℕ) → Result A FaultKind) (opened : A → ℕ → ℕ) (places : ℕ) (front : List A) (start : Rest) (total : Result (List A × Rest) CertFault) → places ≡ 0
+    → with_front_of front (nodes_by f opened places start.line start.pieces) ≡ total → total ≡ Ok (front, start)
+unfolding nodes_by
+nodes_all {A = A} f opened places front start total none so_far =
+    let one : with_front_of front (nodes_by f opened places start.line start.pieces) ≡ Ok (front, start) = rw none (ap (λ (ns : List A). Ok (ns, start)) (append-nil front)) in
     sym so_far ∙ one
 
 pub open_after-le : (node : TreeNode) (more : ℕ) → open_after node more ≤ more + 2

@@ -111,6 +111,12 @@ derived_rows_at (suc n) rest = do
   ds ← derived_rows_at n d.1
   Ok (d.0 ∷ ds.0, ds.1)
 
+-- how many derived rows there are, and the rows
+unfoldable pub counted_rows_at : Rest → Result (List Derived × Rest) CertFault
+counted_rows_at rest = do
+  count ← line_by count_in rest
+  derived_rows_at count.0 count.1
+
 -- ---- the tree
 
 -- a column, and where the cases of its split part
@@ -146,15 +152,18 @@ node_after v word fields =
 abbrev pub node_in : Version → List (List ℕ) → Result TreeNode FaultKind
 node_in v fields = next_field fields >>= λ word. node_after v word.0 word.1
 
--- the nodes that fill the open places
-unfoldable pub nodes_at : Version → ℕ → ℕ → List (List ℕ) → Result (List TreeNode × Rest) CertFault
-nodes_at v zero n pieces = Ok ([], record { line = n; pieces = pieces })
-nodes_at v (suc more) n [] = fault_at n Unended
-nodes_at v (suc more) n (piece ∷ pieces) = do
+-- nodes that fill the open places, each read by f; `opened` says how many are open once one fills one of these and more
+unfoldable pub nodes_by : {A : Type 0} → (List (List ℕ) → Result A FaultKind) → (A → ℕ → ℕ) → ℕ → ℕ → List (List ℕ) → Result (List A × Rest) CertFault
+nodes_by f opened zero n pieces = Ok ([], record { line = n; pieces = pieces })
+nodes_by f opened (suc more) n [] = fault_at n Unended
+nodes_by f opened (suc more) n (piece ∷ pieces) = do
   line ← line_of n piece pieces
-  node ← closed line (node_in v (fields_of line.text))
-  nodes ← nodes_at v (open_after node more) (n + 1) pieces
+  node ← closed line (f (fields_of line.text))
+  nodes ← nodes_by f opened (opened node more) (n + 1) pieces
   Ok (node ∷ nodes.0, nodes.1)
+
+abbrev pub nodes_at : Version → ℕ → Rest → Result (List TreeNode × Rest) CertFault
+nodes_at v places rest = nodes_by (node_in v) open_after places rest.line rest.pieces
 
 -- ---- the certificate
 
@@ -164,10 +173,9 @@ pub record Shown : Type 0 where
 
 unfoldable pub shown_at : Version → Rest → Result (Shown × Rest) CertFault
 shown_at v rest = do
-  count ← line_by count_in rest
-  rows ← derived_rows_at count.0 count.1
+  rows ← counted_rows_at rest
   mark ← line_by (word_in (codes "tree")) rows.1
-  nodes ← nodes_at v 1 mark.1.line mark.1.pieces
+  nodes ← nodes_at v 1 mark.1
   Ok (record { derived = rows.0; tree = nodes.0 }, nodes.1)
 
 unfoldable pub optimal_at : Version → ℕ → ℕ → Rest → Result (Certificate × Rest) CertFault
@@ -193,7 +201,8 @@ body_at v rows columns Optimal rest = optimal_at v rows columns rest
 body_at v rows columns Infeasible rest = infeasible_at v rows columns rest
 body_at v rows columns Unbounded rest = unbounded_at v rows columns rest
 
-abbrev pub over : Certificate → Rest → Result Certificate CertFault
+-- c, where nothing is left
+abbrev pub over : {A : Type 0} → A → Rest → Result A CertFault
 over c rest = if is_over rest.pieces then Ok c else fault_at rest.line Extra
 
 unfoldable pub certificate_at : Rest → Result Certificate CertFault

@@ -6,4 +6,4 @@ mod reading;
 
 pub use certificate_lines::{CertError, CertFault, FaultKind};
 pub use laws::texts_are_read_back;
-pub use reading::read;
+pub use reading::{counted_rows, node, open_places, point_line, read, size_line, word_line};

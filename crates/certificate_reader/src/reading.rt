@@ -9,7 +9,7 @@ ghost use Rattle.certificate_reader.specs.Heads.{proof_line_of};
 ghost use Rattle.certificate.specs.Text.{certificate_text};
 ghost use Rattle.certificate_lines.specs.Fields.{fields_of};
 ghost use Rattle.certificate_lines.specs.Lines.{line_by};
-ghost use Rattle.certificate_reader.specs.Reading.{version_named, version_in, size_in, verdict_named, verdict_in, value_in, point_in, count_in, word_in, derive_in, side_in, form_split_in, cases_in, plain_in, proof_in, proof_from, derived_at, derived_rows_at, column_split_in, split_in, word_of_split, branch_in, node_in, nodes_at, SplitLine, IsHead, shown_at, optimal_at, infeasible_at, unbounded_at, body_at, read_of};
+ghost use Rattle.certificate_reader.specs.Reading.{version_named, version_in, size_in, verdict_named, verdict_in, value_in, point_in, count_in, word_in, derive_in, side_in, form_split_in, cases_in, plain_in, proof_in, proof_from, derived_at, derived_rows_at, counted_rows_at, column_split_in, split_in, word_of_split, branch_in, node_in, nodes_at, SplitLine, IsHead, shown_at, optimal_at, infeasible_at, unbounded_at, body_at, read_of};
 ghost use Rattle.certificate_lines.specs.Gives.{Takes, LineGives, Gives, Reads};
 
 use certificate::{
@@ -69,8 +69,9 @@ fn named_version(word: &[u8]) -> Result<Version, FaultKind>
     }
 }
 
-fn size_line(alloc: Global, lines: &mut Lines<'_>) -> Result<(u32, u32), CertError>
-    ensures { Reads (λ x. x) result lines.new (line_by size_in lines.old) }
+/// The numbers of rows and columns, by the next line.
+pub fn size_line(alloc: Global, lines: &mut Lines<'_>) -> Result<(u32, u32), CertError>
+    ensures size { Reads (λ x. x) result lines.new (line_by size_in lines.old) }
 {
     let line = lines.next()?;
     let fields = fields_in(alloc, line.text)?;
@@ -142,13 +143,14 @@ fn value(fields: &[&[u8]]) -> Result<Frac, LineError>
     Ok(value)
 }
 
-fn point_line(
+/// The point or the ray behind this word, by the next line: as many numbers as there are columns.
+pub fn point_line(
     alloc: Global,
     word: &str,
     columns: u32,
     lines: &mut Lines<'_>,
 ) -> Result<Point, CertError>
-    ensures { Reads (λ x. x) result lines.new (line_by (point_in word.now columns) lines.old) }
+    ensures point { Reads (λ x. x) result lines.new (line_by (point_in word.now columns) lines.old) }
 {
     let line = lines.next()?;
     let fields = fields_in(alloc, line.text)?;
@@ -163,8 +165,9 @@ fn point(alloc: Global, word: &str, columns: u32, fields: &[&[u8]]) -> Result<Po
     numbers(alloc, columns, rest)
 }
 
-fn word_line(alloc: Global, word: &str, lines: &mut Lines<'_>) -> Result<(), CertError>
-    ensures { Reads (λ x. x) result lines.new (line_by (word_in word.now) lines.old) }
+/// The next line is this word alone.
+pub fn word_line(alloc: Global, word: &str, lines: &mut Lines<'_>) -> Result<(), CertError>
+    ensures word { Reads (λ x. x) result lines.new (line_by (word_in word.now) lines.old) }
 {
     let line = lines.next()?;
     let fields = fields_in(alloc, line.text)?;
@@ -333,6 +336,15 @@ fn derived_rows(alloc: Global, count: u32, lines: &mut Lines<'_>) -> Result<Deri
     Ok(rows)
 }
 
+/// The derived rows, behind the line of their number.
+#[tactic(auto, unfolding(crate::specs::Reading::counted_rows_at))]
+pub fn counted_rows(alloc: Global, lines: &mut Lines<'_>) -> Result<DerivedRows, CertError>
+    ensures rows { Reads (λ x. x) result lines.new (counted_rows_at lines.old) }
+{
+    let count = count_line(alloc, lines)?;
+    derived_rows(alloc, count, lines)
+}
+
 // ---- the tree
 
 fn node_line(alloc: Global, version: Version, lines: &mut Lines<'_>) -> Result<TreeNode, CertError>
@@ -343,8 +355,9 @@ fn node_line(alloc: Global, version: Version, lines: &mut Lines<'_>) -> Result<T
     closed(line.number, line.feed, node(alloc, version, &fields))
 }
 
-fn node(alloc: Global, version: Version, fields: &[&[u8]]) -> Result<TreeNode, LineError>
-    ensures { LineGives node_of result (node_in (version_of version) (map (λ f. f.now) fields.now)) }
+/// The node of a line's fields.
+pub fn node(alloc: Global, version: Version, fields: &[&[u8]]) -> Result<TreeNode, LineError>
+    ensures node { LineGives node_of result (node_in (version_of version) (map (λ f. f.now) fields.now)) }
 {
     let (word, rest) = first(fields)?;
     if word == split_word(version) {
@@ -399,10 +412,10 @@ fn column_split(fields: &[&[u8]]) -> Result<ColumnSplit, FaultKind>
     Ok(ColumnSplit::new(column, at))
 }
 
-// How many places are open once a node fills one of these and more.
-fn open_places(node: &TreeNode, more: u64) -> u64
-    requires { more + 2 < 2 ^ 64 }
-    ensures { result ≡ open_after (node_of node.now) more }
+/// How many places of a tree are open once a node fills one of these and more.
+pub fn open_places(node: &TreeNode, more: u64) -> u64
+    requires room { more + 2 < 2 ^ 64 }
+    ensures places { result ≡ open_after (node_of node.now) more }
 {
     match node {
         TreeNode::Branch(_) => more + 2,
@@ -411,7 +424,7 @@ fn open_places(node: &TreeNode, more: u64) -> u64
 }
 
 fn tree(alloc: Global, version: Version, lines: &mut Lines<'_>) -> Result<Tree, CertError>
-    ensures { Reads (λ x. x) result lines.new (nodes_at (version_of version) 1 lines.old.line lines.old.pieces) }
+    ensures { Reads (λ x. x) result lines.new (nodes_at (version_of version) 1 lines.old) }
 {
     let mut tree = Tree::new(alloc);
     let mut open: u64 = 1;
@@ -434,8 +447,7 @@ fn shown(
 ) -> Result<(DerivedRows, Tree), CertError>
     ensures { Reads (λ x. record { derived = x.0; tree = x.1 }) result lines.new (shown_at (version_of version) lines.old) }
 {
-    let count = count_line(alloc, lines)?;
-    let rows = derived_rows(alloc, count, lines)?;
+    let rows = counted_rows(alloc, lines)?;
     word_line(alloc, "tree", lines)?;
     let tree = tree(alloc, version, lines)?;
     Ok((rows, tree))

@@ -23,7 +23,7 @@ use Rattle.cert_check.specs.declared.part.CheckFault.{CheckFault}
 use Rattle.cert_check.proofs.Laws.{ok_then, derived_ok, node_ok}
 use Rattle.partial_certificate.specs.Partial.{Best, PartialNode, Done, Todo, Partial, shape}
 use Rattle.partial_certificate.specs.Outcome.{partial_answer, node_trials, tree_trials, best_trials, trials}
-use Rattle.partial_certificate.specs.Shown.{partial_passes, node_tests, tree_tests, best_tests, tests, IsReached, IsNoBetter, LiesAtTodo, Shows}
+use Rattle.partial_certificate.specs.Shown.{partial_passes, node_tests, tree_tests, best_tests, tests, Passes, IsReached, IsNoBetter, LiesAtTodo, Shows}
 use Rattle.partial_certificate.proofs.Covered.{passing, passing_both, rows_hold, IsAtLeast, IsLeft, tree_told}
 
 -- ---- the same parts, and each answer that is there is the test's
@@ -147,12 +147,16 @@ best_shows p c (Some b) e h =
       points = subst R (sym e) (λ x f. ⊎_elim (λ l. inl (no_better p b x same l)) (λ r. inr r) (tree_shows p (Some b.value) c two.1 x f));
     }
 
--- what an accepted one shows
-pub accepted_show : (p : Problem) (c : Partial) → outcome (trials p c) ≡ Acceptance → Shows p c
+pub tests_show : (p : Problem) (c : Partial) → Passes p c → Shows p c
+tests_show p c h = best_shows p c c.best refl (passing (record { part = Part.Size; passes = (c.rows == length p.rows) && (c.columns == length p.columns) }) (best_tests p c c.best) h).1
+
+-- all tests of an accepted one hold
+pub accepted_pass : (p : Problem) (c : Partial) → outcome (trials p c) ≡ Acceptance → Passes p c
 unfolding Says
-accepted_show p c h =
-    let all : first_failing (tests p c) ≡ None = subst (Says (tests p c)) h (outcome_says (trials p c) (tests p c) (all_agree p c)) in
-    best_shows p c c.best refl (passing (record { part = Part.Size; passes = (c.rows == length p.rows) && (c.columns == length p.columns) }) (best_tests p c c.best) all).1
+accepted_pass p c h = subst (Says (tests p c)) h (outcome_says (trials p c) (tests p c) (all_agree p c))
+
+pub accepted_show : (p : Problem) (c : Partial) → outcome (trials p c) ≡ Acceptance → Shows p c
+accepted_show p c h = tests_show p c (accepted_pass p c h)
 
 -- ---- the clauses of the check
 

@@ -3,3 +3,4 @@ mod Covered
 mod Trials
 mod Agreement
 mod Steps
+mod Texts

@@ -28,7 +28,8 @@ left p goal ds nodes k open_places = outcome (node_trials p goal ds (k + 1) (way
 abbrev pub answer_at : Problem → Option Rational → List Derived → List PartialNode → ℕ → PartialNode → Result Bool NoFit
 answer_at p goal ds nodes k node = partial_answer (record { version = Two; problem = p; derived = ds; sides = way (map shape nodes) k }) goal node
 
-next : (nodes : List PartialNode) (k : ℕ) (node : PartialNode) → slice_get nodes k ≡ Some node → drop k nodes ≡ node ∷ drop (k + 1) nodes
+-- the nodes from a place on: the one there, and those behind it
+pub next : (nodes : List PartialNode) (k : ℕ) (node : PartialNode) → slice_get nodes k ≡ Some node → drop k nodes ≡ node ∷ drop (k + 1) nodes
 next nodes k node is = drop_more nodes k node (slice_get_within nodes k node is) ∙ ap (λ x. x ∷ drop (k + 1) nodes) (get_or_from_slice_get nodes k node node is)
 
 next_back : (nodes : List PartialNode) (k : ℕ) (node : PartialNode) → slice_get nodes k ≡ Some node → reverse (take (k + 1) (map shape nodes)) ≡ shape node ∷ reverse (take k (map shape nodes))

@@ -5,7 +5,7 @@ use Rattle.rational.specs.Compare.{is_same}
 use Rattle.milp.specs.Problem.{Problem}
 use Rattle.milp.specs.Points.{Feasible, IsBetter, objective_value}
 use Rattle.verdicts.specs.Certificate.{Two, Derived, Side}
-use Rattle.verdicts.specs.Proves.{Size, Point, Value, Node, Test, meets, below, node_passes, derived_tests, TakesAll}
+use Rattle.verdicts.specs.Proves.{Size, Point, Value, Node, Test, meets, below, node_passes, derived_tests, first_failing, TakesAll}
 use Rattle.certificate.specs.Ways.{way}
 use Rattle.partial_certificate.specs.Partial.{Best, PartialNode, Done, Todo, Partial, shape}
 
@@ -32,6 +32,10 @@ best_tests p c (Some b) = record { part = Point; passes = meets p b.point } ∷ 
 
 abbrev pub tests : Problem → Partial → List Test
 tests p c = record { part = Size; passes = (c.rows == length p.rows) && (c.columns == length p.columns) } ∷ best_tests p c c.best
+
+-- all of them hold
+abbrev pub Passes : Problem → Partial → Type 0
+Passes p c = first_failing (tests p c) ≡ None
 
 -- ---- what is shown
 

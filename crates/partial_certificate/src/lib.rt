@@ -4,11 +4,15 @@
 
 mod best;
 mod checking;
+mod laws;
 mod nodes;
 mod partial;
 mod tree;
+mod writing;
 
 pub use best::Best;
 pub use checking::check_partial;
+pub use laws::accepted_partials_show;
 pub use partial::PartialCertificate;
 pub use tree::{PartialNode, PartialTree};
+pub use writing::text;

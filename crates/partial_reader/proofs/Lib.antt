@@ -1,0 +1,4 @@
+mod PartialTaken
+mod PartialFound
+mod PartialAgain
+mod ThirdLines
