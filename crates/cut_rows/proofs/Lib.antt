@@ -4,3 +4,4 @@ mod CutPoints
 mod ShownCuts
 mod RestoredLeaves
 mod RestoredCertificates
+mod RestoredPartials

@@ -25,12 +25,12 @@ stays_within p q cuts h j k i l =
 same_objective : (p q : Problem) (cuts : List Derived) → IsCutProblem p cuts q → IsSameObjective unmoved p q
 same_objective p q cuts h = record { direction = h.direction; value = λ y. ap (value_at y) (sym h.objective); constant = h.constant }
 
-node_restored : (p q : Problem) (cuts : List Derived) → IsCutProblem p cuts q → (goal : Option Rational) (sides : List Side) (node : TreeNode) → node_passes q Two goal [] sides node ≡ true → node_passes p Two goal cuts sides (restored_node p node) ≡ true
+pub node_restored : (p q : Problem) (cuts : List Derived) → IsCutProblem p cuts q → (goal : Option Rational) (sides : List Side) (node : TreeNode) → node_passes q Two goal [] sides node ≡ true → node_passes p Two goal cuts sides (restored_node p node) ≡ true
 node_restored p q cuts h goal sides (Branch s) t = sym (same_whole p q h.columns s.form) ∙ t
 node_restored p q cuts h goal sides (Empty w) t = refutes_restored unmoved (length q.columns) (length p.columns) (stays_within p q cuts h) (terms q [] [] sides w) (terms p cuts [] sides (restored_weights p w)) (terms_restored p q cuts h sides w) t
 node_restored p q cuts h goal sides (Bound w) t = bound_restored unmoved p q (stays_within p q cuts h) (same_objective p q cuts h) goal (terms q [] [] sides w) (terms p cuts [] sides (restored_weights p w)) (terms_restored p q cuts h sides w) t
 
-same_below : (p : Problem) (node : TreeNode) (sides : List Side) → below (restored_node p node) sides ≡ below node sides
+pub same_below : (p : Problem) (node : TreeNode) (sides : List Side) → below (restored_node p node) sides ≡ below node sides
 same_below p (Branch s) sides = refl
 same_below p (Empty w) sides = refl
 same_below p (Bound w) sides = refl
@@ -52,7 +52,7 @@ nodes_restored p q cuts h goal k (sides ∷ places) (node ∷ nodes) t =
 
 -- ---- the certificate
 
-both_pass : (ts us : List Test) → first_failing ts ≡ None → first_failing us ≡ None → first_failing (ts ++ us) ≡ None
+pub both_pass : (ts us : List Test) → first_failing ts ≡ None → first_failing us ≡ None → first_failing (ts ++ us) ≡ None
 both_pass [] us h k = k
 both_pass (t ∷ ts) us h k = let both = passing t ts h in from_passing t (ts ++ us) both.0 (both_pass ts us both.1 k)
 

@@ -1,3 +1,4 @@
 pub mod CutProblem
 pub mod Cutting
 pub mod Restored
+pub mod Partials

@@ -1,13 +1,18 @@
 // What a problem with cuts as rows, and certificates of it, say of the problem without them.
-ghost use Rattle.std.specs.Prelude.{◌≡◌, true, List, length};
+ghost use Rattle.std.specs.Prelude.{◌≡◌, true, List, [], length};
 ghost use Rattle.std.specs.List.{list_all};
 ghost use Rattle.rational.specs.Rational.{Rational};
 ghost use Rattle.milp.specs.Problem.{Problem};
 ghost use Rattle.milp.specs.Points.{Feasible, objective_value};
 ghost use Rattle.verdicts.specs.Certificate.{Derived, Certificate};
 ghost use Rattle.verdicts.specs.Proves.{in_range, derived_passes, Proves};
+ghost use Rattle.partial_certificate.specs.Partial.{Partial};
+ghost use Rattle.partial_certificate.specs.Shown.{Passes, Shows};
 ghost use Rattle.cut_rows.specs.CutProblem.{IsCutProblem};
 ghost use Rattle.cut_rows.specs.Restored.{restored, IsByRows, AreShown};
+ghost use Rattle.cut_rows.specs.Partials.{restored_partial};
+
+use partial_certificate::accepted_partials_show;
 
 /// A certificate by rows that proves its verdict of the problem with cuts proves it of the problem without them, once it is
 /// restored, where the cuts are shown.
@@ -15,6 +20,17 @@ pub fn restored_prove()
     ensures { (p q : Problem) (cuts : List Derived) (c : Certificate) → IsCutProblem p cuts q → AreShown p cuts →
         IsByRows c → Proves q c → Proves p (restored p cuts c) }
 {}
+
+/// The same of a partial certificate without derived rows of which all tests hold: those of the restored one hold, so that it shows
+/// what it says of the problem without cuts as rows.
+pub fn restored_partials_show()
+    ensures passes { (p q : Problem) (cuts : List Derived) (c : Partial) → IsCutProblem p cuts q → AreShown p cuts →
+        c.derived ≡ [] → Passes q c → Passes p (restored_partial p cuts c) }
+    ensures shows { (p q : Problem) (cuts : List Derived) (c : Partial) → IsCutProblem p cuts q → AreShown p cuts →
+        c.derived ≡ [] → Passes q c → Shows p (restored_partial p cuts c) }
+{
+    accepted_partials_show();
+}
 
 /// A point that is feasible with the cuts is so without them; where the cuts are shown, no feasible point is lost; and each
 /// point has the same value.

@@ -6,8 +6,10 @@ mod adding;
 mod cutting;
 mod laws;
 mod nodes;
+mod partials;
 mod restoring;
 
 pub use cutting::with_cuts;
-pub use laws::{cuts_keep_points, passing_cuts_are_shown, restored_prove};
+pub use laws::{cuts_keep_points, passing_cuts_are_shown, restored_partials_show, restored_prove};
+pub use partials::restore_partial;
 pub use restoring::restore;

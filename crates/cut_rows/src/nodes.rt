@@ -28,7 +28,11 @@ pub(crate) fn restored_tree(
     Ok(made)
 }
 
-fn restored_node(alloc: Global, problem: &Instance, node: &TreeNode) -> Result<TreeNode, AllocError>
+pub(crate) fn restored_node(
+    alloc: Global,
+    problem: &Instance,
+    node: &TreeNode,
+) -> Result<TreeNode, AllocError>
     ensures { IfOk result (λ made. node_of made ≡ restored_node problem.now (node_of node.now)) }
 {
     match node {

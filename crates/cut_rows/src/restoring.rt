@@ -77,7 +77,7 @@ fn restored_unbounded(
     Ok(Certificate::unbounded(alloc, Version::Two, rows, columns, point, ray))
 }
 
-fn row_count(problem: &Instance) -> u32
+pub(crate) fn row_count(problem: &Instance) -> u32
     ensures { result ≡ length problem.now.rows }
 {
     problem.keeps_its_limits();

@@ -10,6 +10,8 @@ mod RestoredCertificates
 mod ExtendedPoints
 pub mod KeptItems
 pub mod RemadeTrees
+mod RestoredPartials
+pub mod RemadePartials
 pub mod RestoredTree
 mod ScalingLemmas
 mod RowLemmas

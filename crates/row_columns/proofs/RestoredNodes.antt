@@ -52,17 +52,17 @@ whole_restored p q forms h all j t = go (nat_lt j (length forms)) refl
 
 -- ---- nodes, in preorder
 
-node_restored : (p q : Problem) (forms : List (List Entry)) → IsExtended p forms q → list_all (is_whole_form p) forms ≡ true → (goal : Option Rational) (sides : List Side) → AllByRecursion IsOfColumn sides → (node : TreeNode) → IsNodeOfColumns node → node_passes q Two goal [] sides node ≡ true → node_passes p Two goal [] (map (restored_side forms) sides) (restored_node p forms node) ≡ true
+pub node_restored : (p q : Problem) (forms : List (List Entry)) → IsExtended p forms q → list_all (is_whole_form p) forms ≡ true → (goal : Option Rational) (sides : List Side) → AllByRecursion IsOfColumn sides → (node : TreeNode) → IsNodeOfColumns node → node_passes q Two goal [] sides node ≡ true → node_passes p Two goal [] (map (restored_side forms) sides) (restored_node p forms node) ≡ true
 node_restored p q forms h all goal sides k (Branch s) n t = whole_restored p q forms h all (split_column s) (ap (is_whole_form q) (sym n) ∙ t)
 node_restored p q forms h all goal sides k (Empty w) n t = refutes_restored (with_values forms) (length q.columns) (length p.columns) (stays_within p q forms h) (terms q [] [] sides w) (terms p [] [] (map (restored_side forms) sides) (restored_weights p forms w)) (terms_restored p q forms h sides k w) t
 node_restored p q forms h all goal sides k (Bound w) n t = bound_restored (with_values forms) p q (stays_within p q forms h) (same_objective p q forms h) goal (terms q [] [] sides w) (terms p [] [] (map (restored_side forms) sides) (restored_weights p forms w)) (terms_restored p q forms h sides k w) t
 
-below_restored : (p : Problem) (forms : List (List Entry)) (sides : List Side) (node : TreeNode) → below (restored_node p forms node) (map (restored_side forms) sides) ≡ map (map (restored_side forms)) (below node sides)
+pub below_restored : (p : Problem) (forms : List (List Entry)) (sides : List Side) (node : TreeNode) → below (restored_node p forms node) (map (restored_side forms) sides) ≡ map (map (restored_side forms)) (below node sides)
 below_restored p forms sides (Branch s) = refl
 below_restored p forms sides (Empty w) = refl
 below_restored p forms sides (Bound w) = refl
 
-places_below : (sides : List Side) (places : List (List Side)) → AllByRecursion IsOfColumn sides → AllByRecursion (AllByRecursion IsOfColumn) places → (node : TreeNode) → IsNodeOfColumns node → AllByRecursion (AllByRecursion IsOfColumn) (below node sides ++ places)
+pub places_below : (sides : List Side) (places : List (List Side)) → AllByRecursion IsOfColumn sides → AllByRecursion (AllByRecursion IsOfColumn) places → (node : TreeNode) → IsNodeOfColumns node → AllByRecursion (AllByRecursion IsOfColumn) (below node sides ++ places)
 places_below sides places h k (Branch s) n = ((n, h), ((n, h), k))
 places_below sides places h k (Empty w) n = k
 places_below sides places h k (Bound w) n = k

@@ -3,3 +3,4 @@ pub mod Scaling
 pub mod Extended
 pub mod Extending
 pub mod Restored
+pub mod Partials

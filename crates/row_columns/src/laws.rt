@@ -7,8 +7,14 @@ ghost use Rattle.milp.specs.Points.{Feasible, objective_value};
 ghost use Rattle.std.specs.List.{list_all};
 ghost use Rattle.verdicts.specs.Certificate.{Certificate};
 ghost use Rattle.verdicts.specs.Proves.{is_whole_form, Proves};
+ghost use Rattle.partial_certificate.specs.Partial.{Partial};
+ghost use Rattle.partial_certificate.specs.Columns.{IsBySplitsOfColumns as IsPartialBySplits};
+ghost use Rattle.partial_certificate.specs.Shown.{Passes, Shows};
 ghost use Rattle.row_columns.specs.Extended.{IsExtended};
 ghost use Rattle.row_columns.specs.Restored.{restored, IsBySplitsOfColumns};
+ghost use Rattle.row_columns.specs.Partials.{restored_partial};
+
+use partial_certificate::accepted_partials_show;
 
 /// Where the forms are whole at each feasible point, a certificate by splits of columns that proves its verdict of the problem
 /// with columns for the forms proves it of the problem without them, once it is restored.
@@ -16,6 +22,17 @@ pub fn restored_prove()
     ensures { (p q : Problem) (forms : List (List Entry)) (c : Certificate) → IsExtended p forms q →
         list_all (is_whole_form p) forms ≡ true → IsBySplitsOfColumns c → Proves q c → Proves p (restored p forms c) }
 {}
+
+/// The same of a partial certificate by splits of columns of which all tests hold: those of the restored one hold, so that it shows
+/// what it says of the problem without columns for the forms.
+pub fn restored_partials_show()
+    ensures passes { (p q : Problem) (forms : List (List Entry)) (c : Partial) → IsExtended p forms q →
+        list_all (is_whole_form p) forms ≡ true → IsPartialBySplits c → Passes q c → Passes p (restored_partial p forms c) }
+    ensures shows { (p q : Problem) (forms : List (List Entry)) (c : Partial) → IsExtended p forms q →
+        list_all (is_whole_form p) forms ≡ true → IsPartialBySplits c → Passes q c → Shows p (restored_partial p forms c) }
+{
+    accepted_partials_show();
+}
 
 /// The points of the problem with columns for forms are those of the problem without them, with the values of the forms
 /// before their numbers.

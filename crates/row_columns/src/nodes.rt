@@ -32,7 +32,7 @@ pub(crate) fn restored_tree(
     Ok(made)
 }
 
-fn restored_node(
+pub(crate) fn restored_node(
     alloc: Global,
     problem: &Instance,
     forms: &Forms,

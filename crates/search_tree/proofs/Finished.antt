@@ -30,13 +30,13 @@ use Rattle.search_tree.proofs.Passing.{of_first, of_others}
 use Rattle.search_tree.specs.Finished.{IsThere, nodes_of, verdict_of, certificate_of, IsFinished}
 
 -- a test that passes, and then accepted ones
-then_accepted : (part : Part) (r : Result Bool NoFit) (rest : Outcome) → r ≡ Ok true → rest ≡ Acceptance → judged part r rest ≡ Acceptance
+pub then_accepted : (part : Part) (r : Result Bool NoFit) (rest : Outcome) → r ≡ Ok true → rest ≡ Acceptance → judged part r rest ≡ Acceptance
 then_accepted part r rest e h = rw e h
 
-both_accepted : (ts us : List Trial) → outcome ts ≡ Acceptance → outcome us ≡ Acceptance → outcome (ts ++ us) ≡ Acceptance
+pub both_accepted : (ts us : List Trial) → outcome ts ≡ Acceptance → outcome us ≡ Acceptance → outcome (ts ++ us) ≡ Acceptance
 both_accepted ts us h k = trials_then ts us ∙ ap (λ o. after o (outcome us)) h ∙ k
 
-cuts_accepted : (p : Problem) (before ds : List Derived) (n : ℕ) → ((k : ℕ) → IfSome (slice_get ds k) (λ d. derived_answer p Two (before ++ take k ds) d ≡ Ok true)) → outcome (derived_trials p Two n before ds) ≡ Acceptance
+pub cuts_accepted : (p : Problem) (before ds : List Derived) (n : ℕ) → ((k : ℕ) → IfSome (slice_get ds k) (λ d. derived_answer p Two (before ++ take k ds) d ≡ Ok true)) → outcome (derived_trials p Two n before ds) ≡ Acceptance
 cuts_accepted p before [] n h = refl
 cuts_accepted p before (d ∷ ds) n h =
     let P : List Derived → Derived → Type 0 = λ all e. derived_answer p Two all e ≡ Ok true in
@@ -76,7 +76,7 @@ int_self a = grind (arith, ints)
 self_same : (a : Rational) → is_same a a ≡ true
 self_same a = and_from _ _ (int_self a.numerator) (nat_self a.denominator)
 
-size_passes : (m n : ℕ) → ((m == m) && (n == n)) ≡ true
+pub size_passes : (m n : ℕ) → ((m == m) && (n == n)) ≡ true
 size_passes m n = and_from _ _ (nat_self m) (nat_self n)
 
 -- where the sums of the value fit, its test passes
@@ -87,7 +87,7 @@ claimed (Ok f) g v h = go (g f) h
     go : (s : Result Rational NoFit) → s ≡ Ok v → and_then (and_then s (λ t. Ok (if is_same v t then Some f else None))) (λ o. Ok (is_some o)) ≡ Ok true
     go s e = rw (e, self_same v) refl
 
-value_claimed : (p : Problem) (x : List Rational) → HasSums p x → value_answer p (Some x) (Some (objective_value p x)) ≡ Ok true
+pub value_claimed : (p : Problem) (x : List Rational) → HasSums p x → value_answer p (Some x) (Some (objective_value p x)) ≡ Ok true
 value_claimed p x h = claimed (sum_answer x zero_ℚ p.objective) (λ v. add_answer v p.constant) (objective_value p x) h.value
 
 by_best : (p : Problem) (c : Certificate) (best : Option (List Rational)) → IfSome best (λ x. Feasible p x × HasSums p x) → c.point ≡ best → c.value ≡ option_map (objective_value p) best → outcome (tree_trials p (form_goal p c.value) c) ≡ Acceptance → outcome (verdict_trials p c (verdict_of best)) ≡ Acceptance

@@ -11,7 +11,9 @@ pub use Rattle.search_tree.proofs.Covered.{covered}
 pub use Rattle.search_tree.proofs.Honest.{honest_columns}
 -- operations that do not fit
 pub use Rattle.search_tree.proofs.WorkFaults.{forms_ascend, forms_ascend_below, on_site_numbers}
--- the certificate of a finished board
-pub use Rattle.search_tree.proofs.Finished.{finished_accepted, finished_tree}
+-- the certificate of a finished board, and what the tests of a kept board's parts answer
+pub use Rattle.search_tree.proofs.Finished.{both_accepted, cuts_accepted, finished_accepted, finished_tree, size_passes, then_accepted, value_claimed}
+-- honest splits pass the test of a branch
+pub use Rattle.search_tree.proofs.HonestSplits.{whole_form}
 -- weights that name the splits on the way
 pub use Rattle.search_tree.proofs.NamedLeaves.{bound_named, empty_named, named_at_root}

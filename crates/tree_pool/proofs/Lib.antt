@@ -17,3 +17,5 @@ mod ClosedTrees
 mod Replays
 mod BestPoints
 mod ToldValues
+mod ShownTrees
+mod ShownBoards

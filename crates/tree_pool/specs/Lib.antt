@@ -7,3 +7,4 @@ pub mod Grown
 pub mod Placed
 pub mod Ledger
 pub mod Answers
+pub mod Shown

@@ -1,5 +1,6 @@
 // Boards.
 ghost use Rattle.std.specs.Prelude.{◌≡◌, [], length, option_map, cond, ◌+◌, ◌-◌, ◌^◌, ◌≤◌, min, true, false, None, Some, List, IfOk, IfSome, OnOk, OnErr, IfErr, MatchOption};
+ghost use Rattle.std.specs.List.{AllByRecursion};
 ghost use Rattle.rational.specs.Rational.{◌*ℚ◌};
 ghost use Rattle.rational.specs.Compare.{is_less};
 ghost use Rattle.milp.specs.Points.{Feasible, sign_of};
@@ -11,18 +12,23 @@ ghost use Rattle.search_tree.specs.Board.{value_of, most_granted, IsTold};
 ghost use Rattle.search_tree.specs.Kept.{AllPass, HasSums, IsKept, IsCovered};
 ghost use Rattle.search_tree.specs.Steps.{MayGraft, IsGraft, IsOffer, IsReclaim, IsReplay};
 ghost use Rattle.cert_check.specs.Outcome.{Acceptance, outcome, trials};
+ghost use Rattle.partial_certificate.specs.Columns.{IsOfColumns};
+ghost use Rattle.partial_certificate.specs.Outcome.{trials as partial_trials};
 ghost use Rattle.search_tree.specs.Finished.{IsFinished, certificate_of};
 ghost use Rattle.tree_pool.specs.Answers.{IsAnswer};
 ghost use Rattle.tree_pool.specs.Places.{IsOpen};
+ghost use Rattle.tree_pool.specs.Shown.{reached, shown_nodes, shown_of};
 
 use crate::answer::LeaseAnswer;
 use crate::choice::Order;
 use crate::ledger::Ledger;
+use crate::shown::with_value;
 use crate::verdict::certificate_with;
 use certificate::{Certificate, DerivedRows};
 use fraction::Frac;
 use instance::{Instance, Point, signed, value};
 use milp::Direction;
+use partial_certificate::{Best, PartialCertificate, PartialTree};
 use search_node::{Node, SplitsTaken};
 use search_tree::{Lease, MOST_GRANTED, Subtree};
 use std::alloc::{AllocError, Global};
@@ -327,6 +333,43 @@ impl Board {
             ..
         } = self;
         Ok(certificate_with(rows, columns, cuts, tree, best, best_value))
+    }
+
+    /// What the board has shown so far, at any time: its best point, and its tree, in which each leaf that is not closed is left
+    /// to do. The check of partial certificates accepts it, and its splits are of columns.
+    pub fn shown(&self, alloc: Global) -> Result<PartialCertificate, AllocError>
+        ensures same { IfOk result (λ c. c ≡ shown_of self.now) }
+        ensures splits { IfOk result (λ c. AllByRecursion IsOfColumns c.tree) }
+        ensures accepted { IfOk result (λ c. outcome (partial_trials self.now.problem c) ≡ Acceptance) }
+    {
+        self.keeps_its_log();
+        self.shown_parts(alloc)
+    }
+
+    // The same, without the check.
+    fn shown_parts(&self, alloc: Global) -> Result<PartialCertificate, AllocError>
+        ensures { IfOk result (λ c. c ≡ shown_of self.now) }
+    {
+        self.keeps_its_log();
+        let tree = self.shown_tree(alloc)?;
+        let best = self.shown_best(alloc)?;
+        let cuts = self.cuts().copy(alloc)?;
+        Ok(PartialCertificate::new(self.rows(), self.columns(), best, cuts, tree))
+    }
+
+    // The tree of a partial certificate.
+    fn shown_tree(&self, alloc: Global) -> Result<PartialTree, AllocError>
+        ensures { IfOk result (λ t. t ≡ shown_nodes self.now.tree) }
+    {
+        self.ledger.shown_tree(alloc)
+    }
+
+    // The best point with its value.
+    fn shown_best(&self, alloc: Global) -> Result<Option<Best>, AllocError>
+        ensures { IfOk result (λ best. best ≡ option_map (reached self.now.problem) self.now.best) }
+    {
+        let point = self.ledger.best_copy(alloc)?;
+        Ok(with_value(point, self.best_value))
     }
 
     // The number of rows of the problem.

@@ -46,7 +46,11 @@ fn add_closed(
 }
 
 // The node of a certificate, where one stands here.
-fn closed_at(alloc: Global, log: &[Entry], node: NodeRef) -> Result<Option<TreeNode>, AllocError>
+pub(crate) fn closed_at(
+    alloc: Global,
+    log: &[Entry],
+    node: NodeRef,
+) -> Result<Option<TreeNode>, AllocError>
     ensures { IfOk result (λ o. option_map node_of o ≡ closed_in (node_at log.now node)) }
 {
     match node {

@@ -15,6 +15,7 @@ ghost use Rattle.tree_pool.specs.Paths.{path_at};
 ghost use Rattle.tree_pool.specs.Standing.{way_of};
 ghost use Rattle.tree_pool.specs.Grown.{put_under};
 ghost use Rattle.tree_pool.specs.Ledger.{IsTaken, offered_by, offered_in};
+ghost use Rattle.tree_pool.specs.Shown.{shown_nodes};
 
 use crate::choice::{Order, add_all, add_from, add_open, chosen, hint_of, is_todo_at};
 use crate::closed::{are_closed, closed_tree};
@@ -24,10 +25,12 @@ use crate::paths::Paths;
 use crate::placing::put_tree;
 use crate::refs::NodeRef;
 use crate::scan::{forget, given_back, leased_count, place_under, remember, sides_of};
+use crate::shown::shown_tree;
 use crate::walk::in_preorder;
 use certificate::Tree;
 use fraction::Frac;
 use instance::Point;
+use partial_certificate::PartialTree;
 use search_node::SplitTaken;
 use search_tree::{Entry, Event, Hint, Lease, Reply, Subtree, Way};
 use std::alloc::{AllocError, Global};
@@ -301,6 +304,14 @@ impl Ledger {
         ensures no { result ≡ false → ¬ (AreClosed self.now.tree) }
     {
         are_closed(&self.log, &self.nodes)
+    }
+
+    /// The tree as a partial certificate has it.
+    pub(crate) fn shown_tree(&self, alloc: Global) -> Result<PartialTree, AllocError>
+        ensures { IfOk result (λ t. t ≡ shown_nodes self.now.tree) }
+    {
+        let nodes = self.in_preorder(alloc)?;
+        shown_tree(alloc, &self.log, &nodes)
     }
 
     /// The tree as a certificate has it, without the leaves that are not closed.

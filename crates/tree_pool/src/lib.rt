@@ -14,6 +14,7 @@ mod paths;
 mod placing;
 mod refs;
 mod scan;
+mod shown;
 mod verdict;
 mod walk;
 
