@@ -23,22 +23,41 @@ pub(crate) fn played(alloc: Global, problem: &Instance, asked: &str) -> Result<S
     format!(in alloc; "{told} {verdict}")
 }
 
-// A board at its start, without cuts.
-fn board_of(alloc: Global, problem: Instance, limit: usize) -> Result<Board, AllocError> {
+/// A board at its start, without cuts.
+pub(crate) fn board_of(
+    alloc: Global,
+    problem: Instance,
+    limit: usize,
+) -> Result<Board, AllocError> {
     Board::start(alloc, problem, DerivedRows::new(alloc), limit, 100)
 }
 
 // The number of splits, that of events, the best value, and how many leaves are not closed; or the first event whose reply is another than
 // the row's, with this reply.
 fn told(alloc: Global, board: &mut Board, steps: &str) -> Result<String, AllocError> {
+    match other_reply(alloc, board, steps)? {
+        Some(words) => Ok(words),
+        None => account(alloc, board),
+    }
+}
+
+/// The first event whose reply is another than the row's, with this reply.
+pub(crate) fn other_reply(
+    alloc: Global,
+    board: &mut Board,
+    steps: &str,
+) -> Result<Option<String>, AllocError> {
+    if steps.is_empty() {
+        return Ok(None);
+    }
     for step in steps.split("; ") {
         let (event, wanted) = step.split_once(" > ").unwrap_or((step, ""));
         let found = reply(alloc, board, event)?;
         if found.as_str() != wanted {
-            return format!(in alloc; "{event} > {found}");
+            return Ok(Some(format!(in alloc; "{event} > {found}")?));
         }
     }
-    account(alloc, board)
+    Ok(None)
 }
 
 fn account(alloc: Global, board: &mut Board) -> Result<String, AllocError> {
@@ -172,8 +191,8 @@ fn grafted(
     }
 }
 
-// A number, 0 for other words.
-fn number(word: &str) -> usize {
+/// A number, 0 for other words.
+pub(crate) fn number(word: &str) -> usize {
     word.parse::<usize>().unwrap_or(0)
 }
 

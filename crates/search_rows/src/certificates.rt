@@ -47,7 +47,8 @@ fn told(alloc: Global, bytes: &[u8], problem: Option<&Instance>) -> Result<Strin
     }
 }
 
-fn fault_words(alloc: Global, fault: CertFault) -> Result<String, AllocError> {
+/// The line and the kind of a text's first fault.
+pub(crate) fn fault_words(alloc: Global, fault: CertFault) -> Result<String, AllocError> {
     let line = fault.line;
     let kind = match fault.kind {
         FaultKind::BadLine => "BadLine",
@@ -67,16 +68,19 @@ fn certificate_told(
 ) -> Result<String, AllocError> {
     match problem {
         Some(problem) => check_words(alloc, check(alloc, problem, certificate)),
-        None => again(alloc, certificate, bytes),
+        None => {
+            let text = text(alloc, certificate)?;
+            same_words(alloc, &text, bytes)
+        }
     }
 }
 
-fn again(alloc: Global, certificate: &Certificate, bytes: &[u8]) -> Result<String, AllocError> {
-    let text = text(alloc, certificate)?;
-    if text.as_slice() == bytes {
+/// A text as a row has it, or `the same` where it is the one that was read.
+pub(crate) fn same_words(alloc: Global, text: &[u8], read: &[u8]) -> Result<String, AllocError> {
+    if text == read {
         "the same".to_string(alloc)
     } else {
-        in_marks(alloc, &text)
+        in_marks(alloc, text)
     }
 }
 

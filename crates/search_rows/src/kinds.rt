@@ -2,9 +2,10 @@
 use crate::boards::played;
 use crate::certificates::{checked, deep, read_back};
 use crate::linear::{judged, solved};
-use crate::partials::partly_checked;
+use crate::partials::{kind_named, partly_checked, partly_read_back};
 use crate::programs::{SearchBy, found_by_search, found_by_solve, shown_optimum, written_by_solve};
 use crate::ranged::found_ranges;
+use crate::shown::shown_after;
 use crate::subsets::found_subset;
 use crate::texts::bytes_of;
 use cplex_lp_reader::read_lp;
@@ -23,11 +24,14 @@ pub(crate) fn answer<R: Threads + Sync>(
     match word {
         "certificate" => read_back(alloc, shared, asked),
         "deep" => deep(alloc, shared, asked),
+        "undecided" => partly_read_back(alloc, shared, asked),
+        "kind" => kind_named(alloc, asked),
         "candidate" => judged(alloc, shared, asked),
         "linear" => solved(alloc, asked),
         "check" => of_model(rt, alloc, word, shared, asked),
         "partial" => of_model(rt, alloc, word, shared, asked),
         "board" => of_model(rt, alloc, word, shared, asked),
+        "shown" => of_model(rt, alloc, word, shared, asked),
         _ => of_model(rt, alloc, word, asked, shared),
     }
 }
@@ -72,6 +76,7 @@ fn of_problem<R: Threads + Sync>(
         "subset" => found_subset(alloc, problem, rest),
         "ranges" => found_ranges(alloc, problem, rest),
         "board" => played(alloc, problem, rest),
+        "shown" => shown_after(alloc, problem, rest),
         _ => "no such kind".to_string(alloc),
     }
 }

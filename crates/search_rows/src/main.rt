@@ -11,6 +11,7 @@ mod offers;
 mod partials;
 mod programs;
 mod ranged;
+mod shown;
 mod subsets;
 mod tables;
 mod texts;

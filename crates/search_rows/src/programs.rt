@@ -37,7 +37,7 @@ pub(crate) fn found_by_search(
 fn search_fault(fault: &SearchFault) -> &'static str {
     match fault {
         SearchFault::NoFit(_) => "overflow",
-        SearchFault::PivotLimit(_) => "steps",
+        SearchFault::PivotLimit(..) => "steps",
         SearchFault::SplitLimit(_) => "splits",
         SearchFault::Unbounded(_) => "ray",
         SearchFault::NoMemory => "no memory",
@@ -106,7 +106,7 @@ fn certificate_words(alloc: Global, certificate: &Certificate) -> Result<String,
 fn fault_words(alloc: Global, fault: &VerdictFault) -> Result<String, AllocError> {
     match fault {
         VerdictFault::NoFit(wanted, _) => with_wanted(alloc, "overflow", *wanted),
-        VerdictFault::PivotLimit(wanted, _) => with_wanted(alloc, "steps", *wanted),
+        VerdictFault::PivotLimit(wanted, ..) => with_wanted(alloc, "steps", *wanted),
         VerdictFault::SplitLimit(wanted, _) => with_wanted(alloc, "splits", *wanted),
         VerdictFault::NoMemory => Err(AllocError),
     }
