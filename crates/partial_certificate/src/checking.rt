@@ -1,5 +1,6 @@
 // The check of a partial certificate, part by part.
 ghost use Rattle.std.specs.Prelude.{◌≡◌, ◌==◌, ◌&&◌, length, Some, IfOk, IfErr};
+ghost use Rattle.fraction.specs.Answers.{DoesNotFit};
 ghost use Rattle.verdicts.specs.Proves.{first_failing};
 ghost use Rattle.cert_check.specs.Outcome.{outcome, outcome_of, part_of, IfRefused, HoldsUpTo};
 ghost use Rattle.partial_certificate.specs.Outcome.{trials, best_trials, value_trials, tree_trials};
@@ -28,6 +29,7 @@ pub fn check_partial(
     ensures accepted { IfOk result (λ r. r ≡ Checked.Accepted → Shows problem.now certificate.now) }
     ensures refused { IfOk result (λ r. IfRefused r (λ part. first_failing (tests problem.now certificate.now) ≡ Some part)) }
     ensures no_fit { IfErr result (λ e. HoldsUpTo (part_of e.part) (tests problem.now certificate.now)) }
+    ensures operation { IfErr result (λ e. DoesNotFit e.fault) }
 {
     check_parts(alloc, problem, certificate)
 }

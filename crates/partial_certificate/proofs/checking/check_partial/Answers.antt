@@ -1,4 +1,5 @@
 use Rattle.partial_certificate.proofs.Agreement.{check_accepted, check_refused, check_no_fit}
+use Rattle.partial_certificate.proofs.Faults.{check_operation}
 use Rattle.partial_certificate.proofs.checking.check_partial.Goals as goal
 
 pub returns-clause-accepted : goal.returns-clause-accepted
@@ -9,3 +10,6 @@ returns-clause-refused c = check_refused c.args.problem.now c.args.certificate.n
 
 pub returns-clause-no_fit : goal.returns-clause-no_fit
 returns-clause-no_fit c = check_no_fit c.args.problem.now c.args.certificate.now c.check_parts.result c.check_parts.ensures
+
+pub returns-clause-operation : goal.returns-clause-operation
+returns-clause-operation c = check_operation c.args.problem.now c.args.certificate.now c.check_parts.result c.check_parts.ensures
