@@ -21,7 +21,7 @@ use Rattle.branch_search.specs.Told.{ray_or_fault}
 
 told_ray : (p : Problem) (splits pivots : ℕ) (wanted : Wanted) (f : SearchFault) → of_search.IsFault p [] splits pivots f → IfOk (ray_or_fault wanted f) (IsEndlessAt p [] splits)
 told_ray p splits pivots wanted (in_search.NoFit site) h = tt
-told_ray p splits pivots wanted (in_search.PivotLimit bases) h = tt
+told_ray p splits pivots wanted (in_search.PivotLimit bases board) h = tt
 told_ray p splits pivots wanted (in_search.SplitLimit board) h = tt
 told_ray p splits pivots wanted (in_search.Unbounded ray) h = h
 told_ray p splits pivots wanted in_search.NoMemory h = tt
@@ -31,7 +31,7 @@ ray_found p splits pivots wanted f ray is h = subst (λ (r : Result EndlessAt Ve
 
 told_search : (p : Problem) (splits pivots : ℕ) (wanted : Wanted) (f : SearchFault) → IsWanted p wanted → of_search.IsFault (searched p wanted) [] splits pivots f → IfErr (ray_or_fault wanted f) (IsFault p splits pivots)
 told_search p splits pivots wanted (in_search.NoFit site) w h = (w, h)
-told_search p splits pivots wanted (in_search.PivotLimit bases) w h = (w, h)
+told_search p splits pivots wanted (in_search.PivotLimit bases board) w h = (w, h)
 told_search p splits pivots wanted (in_search.SplitLimit board) w h = (w, h)
 told_search p splits pivots wanted (in_search.Unbounded endless) w h = tt
 told_search p splits pivots wanted in_search.NoMemory w h = tt
@@ -60,7 +60,7 @@ any_fault p q splits pivots f r fault ray e told is found h =
 after : (p : Problem) (splits pivots : ℕ) (e : VerdictFault) → IsAfterSearch p splits e → IsFault p splits pivots e
 after p splits pivots (of.NoFit Best site) h = (tt, h)
 after p splits pivots (of.NoFit Any site) h = absurd h
-after p splits pivots (of.PivotLimit wanted bases) h = absurd h
+after p splits pivots (of.PivotLimit wanted bases board) h = absurd h
 after p splits pivots (of.SplitLimit wanted board) h = absurd h
 after p splits pivots of.NoMemory h = tt
 

@@ -15,13 +15,13 @@ use Rattle.search_tree.specs.declared.event.Event.TheVariants.{Reclaiming}
 use Rattle.search_tree.specs.declared.event.Reply.TheVariants.{Done}
 use Rattle.search_tree.specs.Tree.{Tree, Divided, AtLeaf, IsTodo, AllLeaves, lease_of, at_place, replaced, made, granted, given_back, reclaimed}
 use Rattle.search_tree.specs.Steps.{IsLease, IsReclaim, IsReplay}
-use Rattle.search_tree.proofs.Laws.{made_reclaimed}
+use Rattle.search_tree.proofs.Laws.{made_reclaimed, reclaimed_none_leased}
 use Rattle.tree_pool.specs.Answers.{IsAnswer}
 use Rattle.tree_pool.specs.declared.answer.LeaseAnswer.{LeaseAnswer}
 use Rattle.tree_pool.specs.declared.answer.LeaseAnswer.TheVariants as answers
 use Rattle.branch_search.specs.declared.settling.Round.{Round}
 use Rattle.branch_search.specs.declared.settling.Round.TheVariants as rounds
-use Rattle.branch_search.specs.declared.fault.SearchFault.{SearchFault}
+use Rattle.branch_search.specs.declared.fault.LeafFault.{LeafFault}
 use Rattle.branch_search.specs.Settled.{seat, IsSettled, IsRound}
 use Rattle.certificate.specs.declared.split.Side.TheVariants.{Low, High}
 use Rattle.search_tree.specs.Board.{Board, value_of, after}
@@ -30,7 +30,7 @@ use Rattle.search_tree.specs.Kept.{IsKept, closed_node}
 use Rattle.search_tree.specs.Finished.{IsFinished, IsThere}
 use Rattle.tree_pool.specs.Places.{IsOpen}
 use Rattle.branch_search.specs.Underway.{IsStanding, IsUnderway, IsAtEnd}
-use Rattle.branch_search.specs.Faults.{IsClosedOrTreated, IsOutOfSplits}
+use Rattle.branch_search.specs.Faults.{IsClosedOrTreated, IsStoppedBoard, IsOutOfSplits}
 use Rattle.branch_search.proofs.Leased.{all_of_both}
 use Rattle.branch_search.proofs.Growth.{closed_not_leased}
 
@@ -91,23 +91,26 @@ finished_before (AtLeaf leaf) sides h = closed_before leaf h
 all_made : (made granted limit : ℕ) → made + granted ≤ limit → limit ≤ made → made ≡ limit
 all_made made granted limit h k = omega (arith, h, k)
 
-pub out_of_splits : (b c : Board) → IsAtEnd b → ¬ (IsFinished b) → IsReclaim b c → IsReplay c → IsKept c → IsOutOfSplits b.problem b.cuts b.split_limit b.pivot_limit c
+-- the board on which leased leaves are given back
+pub stopped_board : (b c : Board) → IsReclaim b c → IsReplay c → IsStoppedBoard b.problem b.cuts b.split_limit b.pivot_limit c
+stopped_board b c back = subst P (sym back.new) (λ replay. record { replay = replay; problem = refl; cuts = refl; split_limit = refl; pivot_limit = refl; none_leased = reclaimed_none_leased b.tree [] })
+  where
+    P : Board → Type 0
+    P d = IsReplay d → IsStoppedBoard b.problem b.cuts b.split_limit b.pivot_limit d
+
+pub out_of_splits : (b c : Board) → IsAtEnd b → ¬ (IsFinished b) → IsReclaim b c → IsKept c → IsStoppedBoard b.problem b.cuts b.split_limit b.pivot_limit c → IsOutOfSplits b.problem b.cuts b.split_limit b.pivot_limit c
 out_of_splits b c h unfinished back = subst P (sym back.new) (go h.going.0 h.going.1)
   where
     P : Board → Type 0
-    P d = IsReplay d → IsKept d → IsOutOfSplits b.problem b.cuts b.split_limit b.pivot_limit d
+    P d = IsKept d → IsStoppedBoard b.problem b.cuts b.split_limit b.pivot_limit d → IsOutOfSplits b.problem b.cuts b.split_limit b.pivot_limit d
 
     go : (out : Bool) → IsUnderway b (value_of b) out → P (after b (reclaimed b.tree) b.best Reclaiming Done)
-    go false u replay kept = absurd (unfinished (all_of_both (IsStanding b.problem b.cuts (value_of b) false) (λ sides leaf. ¬ (IsTodo leaf)) (λ sides leaf. IsThere (closed_node leaf)) (closed b) b.tree [] u.leaves h.none_todo))
-    go true u replay kept =
+    go false u kept stopped = absurd (unfinished (all_of_both (IsStanding b.problem b.cuts (value_of b) false) (λ sides leaf. ¬ (IsTodo leaf)) (λ sides leaf. IsThere (closed_node leaf)) (closed b) b.tree [] u.leaves h.none_todo))
+    go true u kept stopped =
         let same = made_reclaimed b.tree in
         let all = u.all_made refl in
         record {
-          replay = replay;
-          problem = refl;
-          cuts = refl;
-          split_limit = refl;
-          pivot_limit = refl;
+          stopped = stopped;
           all_made = all_made (made (reclaimed b.tree)) (granted (reclaimed b.tree)) b.split_limit kept.within (omega (arith, same, all));
           honest = kept.splits;
           leaves = ends b b.tree [] u.leaves h.none_todo;
@@ -138,12 +141,12 @@ settled b way lease m c rounds.Worked l h = record { way = way; lease = lease; b
 settled b way lease m c rounds.Left l h = record { way = way; lease = lease; board = m; is_lease = l; settled = h }
 settled b way lease m c rounds.Idle l h = absurd h
 
-pub after_lease : (b m c : Board) (answer : LeaseAnswer) (lease : Lease) (hint : Unit {0}) (r : Result Round SearchFault) → answer ≡ answers.Leased lease hint → IsAnswer b seat answer m → IfOk r (λ round. IsSettled m lease round c) → IfOk r (λ round. IsRound b round c)
+pub after_lease : (b m c : Board) (answer : LeaseAnswer) (lease : Lease) (hint : Unit {0}) (r : Result Round LeafFault) → answer ≡ answers.Leased lease hint → IsAnswer b seat answer m → IfOk r (λ round. IsSettled m lease round c) → IfOk r (λ round. IsRound b round c)
 after_lease b m c answer lease hint r e h k =
     let P : LeaseAnswer → Type 0 = λ a. IsAnswer b seat a m in
     let l = subst P e h in
     go r k l
   where
-    go : (r : Result Round SearchFault) → IfOk r (λ round. IsSettled m lease round c) → (way : List Side) × IsLease b seat way lease m → IfOk r (λ round. IsRound b round c)
+    go : (r : Result Round LeafFault) → IfOk r (λ round. IsSettled m lease round c) → (way : List Side) × IsLease b seat way lease m → IfOk r (λ round. IsRound b round c)
     go (Ok round) k l = settled b l.0 lease m c round l.1 k
     go (Err fault) k l = tt

@@ -21,7 +21,7 @@ use Rattle.branch_search.specs.Grown.{AreTodoOrClosed, IsSplitOrClosed, IsOutcom
 use Rattle.branch_search.specs.Settled.{seat, IsPut, IsWorked, IsLeft, IsRound}
 use Rattle.branch_search.specs.declared.settling.Round.{Round}
 use Rattle.branch_search.specs.declared.settling.Round.TheVariants.{Worked, Left, Idle}
-use Rattle.branch_search.specs.Underway.{IsStanding, IsUnderway, IsGoing, to_do, not_ended, work_left, count_to_do, AreSame, IsAtEnd, IsLess, IsFurther, IsNext}
+use Rattle.branch_search.specs.Underway.{IsStanding, IsUnderway, IsGoing, to_do, not_ended, work_left, count_to_do, IsAtEnd, IsLess, IsFurther, IsNext}
 use Rattle.branch_search.proofs.Growth.{closed_not_leased, none_leased_in}
 use Rattle.branch_search.proofs.Leased.{OrLeased, all_leaves, leaves_replaced, grafted, stays_leased}
 
@@ -246,21 +246,12 @@ left b out lease c w h =
 abbrev pub KeepsSteps : Type 0
 KeepsSteps = (b c : Board) (event : Event) (reply : Reply) → IsKept b → Step b event reply c → IsKept c
 
-same_after : (b : Board) (t : Tree) (best : Option (List Rational)) (event : Event) (reply : Reply) (c : Board) → c ≡ after b t best event reply → AreSame b c
-same_after b t best event reply c e = subst (AreSame b) (sym e) (record { problem = refl; cuts = refl; splits = refl; pivots = refl })
-
-pub same_then : (b m c : Board) → AreSame b m → AreSame m c → AreSame b c
-same_then b m c h k = record { problem = k.problem ∙ h.problem; cuts = k.cuts ∙ h.cuts; splits = k.splits ∙ h.splits; pivots = k.pivots ∙ h.pivots }
-
-same_put : (b : Board) (lease : Lease) (c : Board) → IsPut b lease c → AreSame b c
-same_put b lease c h = let g = h.graft in same_after b (replaced b.tree g.way h.tree) b.best (Grafting seat lease h.tree) (Best h.best) c g.new
-
-worked : (b : Board) (out : Bool) (lease : Lease) (c : Board) → KeepsSteps → IsAtWork b (value_of b) out lease → IsKept b → IsWorked b lease c → (IsUnderway c (value_of c) out × (work_left c + 1 ≤ work_left b)) × AreSame b c
+worked : (b : Board) (out : Bool) (lease : Lease) (c : Board) → KeepsSteps → IsAtWork b (value_of b) out lease → IsKept b → IsWorked b lease c → IsUnderway c (value_of c) out × (work_left c + 1 ≤ work_left b)
 worked b out lease c keeps w kept (IsWorked.at_once h) =
     let k = put b (value_of b) out lease c w kept h in
     let g = h.graft in
     let Q : Option Rational → Type 0 = λ best. IsUnderway c best out in
-    ((subst Q (sym (same_value b _ (Grafting seat lease h.tree) (Best h.best) c g.new)) k.0, k.1), same_put b lease c h)
+    (subst Q (sym (same_value b _ (Grafting seat lease h.tree) (Best h.best) c g.new)) k.0, k.1)
 worked b out lease c keeps w kept (IsWorked.offered h) =
     let m = h.told in
     let d = h.closed in
@@ -269,10 +260,8 @@ worked b out lease c keeps w kept (IsWorked.offered h) =
     let r = taken_back d (value_of b) (value_of c) out c k.0 h.reclaim in
     let all = told.1 in
     let some = k.1 in
-    let last = r.1 in (
-      (r.0, omega (arith, all, some, last)),
-      same_then b m c (same_after b b.tree _ (Offering seat h.point) (Best h.best) m h.offer.new) (same_then m d c (same_put m lease d h.put) (same_after d _ d.best Reclaiming Done c h.reclaim.new)),
-    )
+    let last = r.1 in
+    (r.0, omega (arith, all, some, last))
 
 at_work : (b : Board) (out : Bool) (way : List Side) (lease : Lease) (m : Board) → IsUnderway b (value_of b) out → IsLease b seat way lease m → IsAtWork m (value_of m) out lease × (work_left m ≡ work_left b) × (count_to_do m + 1 ≡ count_to_do b)
 at_work b out way lease m u h =
@@ -280,37 +269,36 @@ at_work b out way lease m u h =
     let w = leased b (value_of b) out way lease m u h in
     (subst Q (sym (same_value b _ (Leasing seat) (Given way lease) m h.new)) w.0, w.1, w.2)
 
-after_worked : (b c : Board) → KeepsSteps → IsKept b → IsGoing b → IsRound b Worked c → IsFurther b c × AreSame b c
+after_worked : (b c : Board) → KeepsSteps → IsKept b → IsGoing b → IsRound b Worked c → IsFurther b c
 after_worked b c keeps kept (out, u) h =
     let m = h.board in
     let w = at_work b out h.way h.lease m u h.is_lease in
     let k = worked m out h.lease c keeps w.0 (keeps b m (Leasing seat) (Given h.way h.lease) kept h.is_lease) h.settled in
     let all = w.1 in
-    let some = k.0.1 in
-    (record { going = (out, k.0.0); less = inl (omega (arith, all, some)) }, same_then b m c (same_after b _ b.best (Leasing seat) (Given h.way h.lease) m h.is_lease.new) k.1)
+    let some = k.1 in
+    record { going = (out, k.0); less = inl (omega (arith, all, some)) }
 
-after_left : (b c : Board) → IsGoing b → IsRound b Left c → IsFurther b c × AreSame b c
+after_left : (b c : Board) → IsGoing b → IsRound b Left c → IsFurther b c
 after_left b c (out, u) h =
     let m = h.board in
     let w = at_work b out h.way h.lease m u h.is_lease in
     let k = left m out h.lease c w.0 h.settled in
     let count = w.2 in
     let same = k.2 in
-    let Q : Board → Type 0 = AreSame b in
-    (record { going = (true, k.0); less = inr (k.1 ∙ w.1, omega (arith, count, same)) }, subst Q (sym h.settled.same) (same_after b _ b.best (Leasing seat) (Given h.way h.lease) m h.is_lease.new))
+    record { going = (true, k.0); less = inr (k.1 ∙ w.1, omega (arith, count, same)) }
 
-after_idle : (b c : Board) → IsGoing b → IsRound b Idle c → IsAtEnd c × AreSame b c
+after_idle : (b c : Board) → IsGoing b → IsRound b Idle c → IsAtEnd c
 after_idle b c (out, u) h =
-    let Q : Board → Type 0 = λ d. IsAtEnd d × AreSame b d in
-    subst Q (sym h.is_idle.new) (record { going = (out, record { leaves = u.leaves; none_granted = u.none_granted; all_made = u.all_made }); none_todo = h.is_idle.none_todo }, record { problem = refl; cuts = refl; splits = refl; pivots = refl })
+    let Q : Board → Type 0 = λ d. IsAtEnd d in
+    subst Q (sym h.is_idle.new) (record { going = (out, record { leaves = u.leaves; none_granted = u.none_granted; all_made = u.all_made }); none_todo = h.is_idle.none_todo })
 
-pub next_worked : (b c : Board) (r : Round) → KeepsSteps → IsKept b → IsGoing b → r ≡ Worked → IsRound b r c → IsFurther b c × AreSame b c
+pub next_worked : (b c : Board) (r : Round) → KeepsSteps → IsKept b → IsGoing b → r ≡ Worked → IsRound b r c → IsFurther b c
 next_worked b c r keeps kept u e h = let P : Round → Type 0 = λ a. IsRound b a c in after_worked b c keeps kept u (subst P e h)
 
-pub next_left : (b c : Board) (r : Round) → IsGoing b → r ≡ Left → IsRound b r c → IsFurther b c × AreSame b c
+pub next_left : (b c : Board) (r : Round) → IsGoing b → r ≡ Left → IsRound b r c → IsFurther b c
 next_left b c r u e h = let P : Round → Type 0 = λ a. IsRound b a c in after_left b c u (subst P e h)
 
-pub next_idle : (b c : Board) (r : Round) → IsGoing b → r ≡ Idle → IsRound b r c → IsAtEnd c × AreSame b c
+pub next_idle : (b c : Board) (r : Round) → IsGoing b → r ≡ Idle → IsRound b r c → IsAtEnd c
 next_idle b c r u e h = let P : Round → Type 0 = λ a. IsRound b a c in after_idle b c u (subst P e h)
 
 -- ---- the loop

@@ -19,7 +19,7 @@ use Rattle.search_tree.specs.Kept.{IsNoBetter, closed_node}
 use Rattle.search_tree.specs.Finished.{IsThere}
 use Rattle.branch_search.specs.declared.treatment.Found.{Found}
 use Rattle.branch_search.specs.declared.treatment.Fractional.{Fractional}
-use Rattle.branch_search.specs.declared.fault.SearchFault.{SearchFault}
+use Rattle.branch_search.specs.declared.fault.LeafFault.{LeafFault}
 use Rattle.branch_search.specs.declared.growing.Progress.{Progress}
 use Rattle.branch_search.specs.declared.growing.Decided.{Decided}
 use Rattle.branch_search.specs.declared.growing.Decided.TheVariants.{Closed, ToSplit}
@@ -178,7 +178,7 @@ sides_below taken more t e = ap sides_of e ∙ side_of_last taken t
 -- ---- faults
 
 -- a fault that a `?` hands on
-pub handed_on : {A : Type 0} (r : Result A SearchFault) (fault : SearchFault) (P : SearchFault → Type 0) → IsErrAnd r (λ d. d ≡ fault) → P fault → IfErr r P
+pub handed_on : {A : Type 0} (r : Result A LeafFault) (fault : LeafFault) (P : LeafFault → Type 0) → IsErrAnd r (λ d. d ≡ fault) → P fault → IfErr r P
 handed_on (Ok a) fault P is h = tt
 handed_on (Err d) fault P is h = subst P (sym is) h
 

@@ -4,6 +4,7 @@ mod Leased
 pub mod Growth
 mod Standing
 mod Further
+mod SameSearch
 mod Ends
 mod Sites
 pub mod Without

@@ -1,5 +1,5 @@
 -- Trees that may be put in the place of a leased leaf.
-use Rattle.std.proofs.Common.{◌≡◌, ◌∙◌, ℕ, List, [], cond, false, refl, sym, ap, subst, Option, Some, None, IfSome, option_map, Result, Ok, Err, IfErr, IfOk, OnOk, is_err}
+use Rattle.std.proofs.Common.{◌≡◌, ◌∙◌, ℕ, List, [], cond, refl, sym, ap, subst, Option, Some, None, IfSome, option_map, Result, Ok, Err, IfErr, IfOk}
 use Rattle.std.specs.Result.{result_ok}
 use Rattle.std.proofs.lemmas.Option.{same_Some}
 use Rattle.rational.specs.Rational.{Rational}
@@ -15,11 +15,11 @@ use Rattle.search_tree.specs.Nodes.{Beats, IsTreated}
 use Rattle.search_tree.specs.Board.{Board, value_of, IsTold, better_of}
 use Rattle.search_tree.specs.Steps.{IsOffer, MayGraft}
 use Rattle.tree_pool.specs.Places.{IsOpen}
-use Rattle.branch_search.specs.declared.fault.SearchFault.{SearchFault}
+use Rattle.branch_search.specs.declared.fault.LeafFault.{LeafFault}
 use Rattle.branch_search.specs.declared.fragment.Fragment.{Fragment}
 use Rattle.branch_search.specs.declared.fragment.Grown.{Grown}
 use Rattle.branch_search.specs.declared.fragment.Grown.TheVariants.{Ready, Ungranted}
-use Rattle.branch_search.specs.Faults.{IsFault}
+use Rattle.branch_search.specs.Faults.{IsLeafFault}
 use Rattle.branch_search.specs.Grown.{IsHonestTree, IsOutcome, IsBetterPoint, best_with, IsUngranted, IsGrown}
 use Rattle.branch_search.specs.Places.{GrowsAt, IsFragmentAt, MayStand}
 use Rattle.branch_search.specs.Settled.{seat, IsLeft}
@@ -29,9 +29,10 @@ pub value_of_ok : {A E : Type 0} (r : Result A E) (x : A) (P : A → Type 0) →
 value_of_ok (Ok y) x P e h = subst P (same_Some y x e) h
 value_of_ok (Err f) x P e h = cc
 
-pub where_ok : {A E : Type 0} (r : Result A E) (P : Type 0) → is_err r ≡ false → OnOk r P → P
-where_ok (Ok x) P e h = h
-where_ok (Err f) P e h = cc
+-- what holds of a value that is handed on
+pub made_so : {A E : Type 0} (r : Result A E) (x : A) (P : A → Type 0) → IfOk r (λ y. y ≡ x) → P x → IfOk r P
+made_so (Ok y) x P is h = subst P (sym is) h
+made_so (Err e) x P is h = tt
 
 -- a tree that stands against the best value, which was told, may be grafted
 pub may_graft : (b : Board) (lease : Lease) (best : Option Rational) (t : Tree) → IsOpen b.tree lease → MayStand b lease t → IsOutcome lease.grant t → best ≡ value_of b → IfSome best (λ v. IsTold v b.log) → (way : List Side) × MayGraft b way lease t
@@ -99,9 +100,9 @@ open_then b lease x best c is_open o = subst (λ (d : Board). IsOpen d.tree leas
 
 -- ---- faults
 
-pub fault_on : {A : Type 0} (r : Result A SearchFault) (b : Board) (p : Problem) (ds : List Derived) (pivots : ℕ) → p ≡ b.problem → ds ≡ b.cuts → b.pivot_limit ≡ pivots → IfErr r (IsFault p ds b.split_limit pivots) → IfErr r (IsFault b.problem b.cuts b.split_limit b.pivot_limit)
+pub fault_on : {A : Type 0} (r : Result A LeafFault) (b : Board) (p : Problem) (ds : List Derived) (pivots : ℕ) → p ≡ b.problem → ds ≡ b.cuts → b.pivot_limit ≡ pivots → IfErr r (IsLeafFault p ds b.split_limit pivots) → IfErr r (IsLeafFault b.problem b.cuts b.split_limit b.pivot_limit)
 fault_on r b p ds pivots problem cuts limit h =
-    let P : Problem → Type 0 = λ q. IfErr r (IsFault q ds b.split_limit pivots) in
-    let D : List Derived → Type 0 = λ cs. IfErr r (IsFault b.problem cs b.split_limit pivots) in
-    let L : ℕ → Type 0 = λ n. IfErr r (IsFault b.problem b.cuts b.split_limit n) in
+    let P : Problem → Type 0 = λ q. IfErr r (IsLeafFault q ds b.split_limit pivots) in
+    let D : List Derived → Type 0 = λ cs. IfErr r (IsLeafFault b.problem cs b.split_limit pivots) in
+    let L : ℕ → Type 0 = λ n. IfErr r (IsLeafFault b.problem b.cuts b.split_limit n) in
     subst L (sym limit) (subst D cuts (subst P problem h))

@@ -10,7 +10,7 @@ use Rattle.branch_search.specs.declared.whole_fault.VerdictFault.TheVariants.{No
 -- the ray that a search has found, with its node, or why it found no verdict
 abbrev pub ray_or_fault : Wanted → SearchFault → Result EndlessAt VerdictFault
 ray_or_fault wanted (in_search.NoFit site) = Err (NoFit wanted site)
-ray_or_fault wanted (in_search.PivotLimit bases) = Err (PivotLimit wanted bases)
+ray_or_fault wanted (in_search.PivotLimit bases board) = Err (PivotLimit wanted bases board)
 ray_or_fault wanted (in_search.SplitLimit board) = Err (SplitLimit wanted board)
 ray_or_fault wanted (in_search.Unbounded endless) = Ok endless
 ray_or_fault wanted in_search.NoMemory = Err NoMemory

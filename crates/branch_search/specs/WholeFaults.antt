@@ -3,7 +3,7 @@ use Rattle.std.specs.Prelude.{ℕ, List, []}
 use Rattle.rational.specs.Rational.{Rational}
 use Rattle.milp.specs.Problem.{Problem}
 use Rattle.milp.specs.Points.{IsImprovingRay}
-use Rattle.branch_search.specs.Faults.{IsStuckAt, IsRunTooLong, IsOutOfSplits}
+use Rattle.branch_search.specs.Faults.{IsStuckAt, IsOutOfPivots, IsOutOfSplits}
 use Rattle.branch_search.specs.declared.whole_fault.Wanted.{Wanted}
 use Rattle.branch_search.specs.declared.whole_fault.Wanted.TheVariants.{Best, Any}
 use Rattle.branch_search.specs.declared.whole_fault.VerdictFault.{VerdictFault}
@@ -26,19 +26,19 @@ IsWanted p Any = (ray : List Rational) × IsImprovingRay p ray
 -- the cause of a fault, where each search may make so many splits, and each run so many pivots
 abbrev pub IsFault : Problem → ℕ → ℕ → VerdictFault → Type 0
 IsFault p splits pivots (NoFit wanted site) = IsWanted p wanted × IsStuckAt (searched p wanted) [] splits site
-IsFault p splits pivots (PivotLimit wanted bases) = IsWanted p wanted × IsRunTooLong (searched p wanted) [] splits pivots bases
+IsFault p splits pivots (PivotLimit wanted bases board) = IsWanted p wanted × IsOutOfPivots (searched p wanted) [] splits pivots bases board
 IsFault p splits pivots (SplitLimit wanted board) = IsWanted p wanted × IsOutOfSplits (searched p wanted) [] splits pivots board
 IsFault p splits pivots NoMemory = Unit {0}
 
 -- the fault is not that the limit of steps was met
 abbrev pub IsNotByPivots : VerdictFault → Type 0
-IsNotByPivots (PivotLimit wanted bases) = ⊥
+IsNotByPivots (PivotLimit wanted bases board) = ⊥
 IsNotByPivots fault = Unit {0}
 
 -- a fault after the last search: in the test of the ray that the first one found, or want of memory
 abbrev pub IsAfterSearch : Problem → ℕ → VerdictFault → Type 0
 IsAfterSearch p splits (NoFit Best site) = IsStuckAt p [] splits site
 IsAfterSearch p splits (NoFit Any site) = ⊥
-IsAfterSearch p splits (PivotLimit wanted bases) = ⊥
+IsAfterSearch p splits (PivotLimit wanted bases board) = ⊥
 IsAfterSearch p splits (SplitLimit wanted board) = ⊥
 IsAfterSearch p splits NoMemory = Unit {0}

@@ -27,7 +27,8 @@ use std::alloc::Global;
 /// search looks for any feasible point: with one the problem is unbounded, and without it infeasible.
 ///
 /// A fault tells of which search it is, and there an operation that does not fit, one in the test of the ray at the node
-/// where it was found included, a run that is too long, or the board on which all splits are made.
+/// where it was found included, a run that is too long, with the board on which the search stops, or the board on which all splits
+/// are made.
 pub fn solve(
     alloc: Global,
     problem: &Instance,

@@ -1,5 +1,6 @@
-// Why a search finds no verdict.
+// Why the work at a leaf, or a search, finds no verdict.
 ghost use Rattle.std.specs.Prelude.{◌≡◌};
+ghost use Rattle.branch_search.specs.declared.fault.LeafFault.TheVariants as at_leaf;
 ghost use Rattle.branch_search.specs.declared.fault.SearchFault.TheVariants.{NoMemory};
 
 use search_node::{Bases, Node, Site};
@@ -15,19 +16,41 @@ pub struct EndlessAt {
     pub endless: Endless,
 }
 
+/// Why the work at a leaf finds no verdict.
+#[derive(Drop)]
+pub enum LeafFault {
+    /// An operation of the work at a node does not fit.
+    NoFit(Site),
+    /// Bland's run at a node is longer than the limit of steps: the bases of the first steps.
+    PivotLimit(Bases),
+    /// A ray improves the problem without end, where it has a feasible point.
+    Unbounded(EndlessAt),
+    /// The memory is not there.
+    NoMemory,
+}
+
 /// Why a search finds no verdict.
 #[derive(Drop)]
 pub enum SearchFault {
     /// An operation of the work at a node does not fit.
     NoFit(Site),
-    /// Bland's run at a node is longer than the limit of steps: the bases of the first steps.
-    PivotLimit(Bases),
+    /// Bland's run at a node is longer than the limit of steps: the bases of the first steps, and the board on which the search
+    /// stops there.
+    PivotLimit(Bases, Boxed<Board>),
     /// All splits that are allowed are made on this board, and nodes are left that are to be split.
     SplitLimit(Boxed<Board>),
     /// A ray improves the problem without end, where it has a feasible point.
     Unbounded(EndlessAt),
     /// The memory is not there.
     NoMemory,
+}
+
+impl From<AllocError> for LeafFault {
+    ghost from_gives = { λ _ fault. fault ≡ at_leaf.NoMemory };
+
+    fn from(_error: AllocError) -> LeafFault {
+        LeafFault::NoMemory
+    }
 }
 
 impl From<AllocError> for SearchFault {

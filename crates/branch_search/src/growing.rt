@@ -8,10 +8,10 @@ ghost use Rattle.search_tree.specs.Honest.{AreHonest, IsHonestWay};
 ghost use Rattle.search_tree.specs.Work.{IsWorkFault};
 ghost use Rattle.branch_search.specs.Treatment.{IsToSplit};
 ghost use Rattle.branch_search.specs.Grown.{IsSplitOrClosed, IsGrowth, IsDecided, IsGrown};
-ghost use Rattle.branch_search.specs.Faults.{IsFault};
+ghost use Rattle.branch_search.specs.Faults.{IsLeafFault};
 ghost use Rattle.branch_search.specs.declared.fragment.Grown.TheVariants.{Ready};
 
-use crate::fault::{EndlessAt, SearchFault};
+use crate::fault::{EndlessAt, LeafFault};
 use crate::fragment::{Fragment, Grown};
 use crate::{Found, Fractional, Treatment, treat};
 use candidate::Proposer;
@@ -55,11 +55,11 @@ pub fn grow(
     hint: &Hint,
     pivot_limit: u32,
     proposer: &mut Proposer,
-) -> Result<Grown, SearchFault>
+) -> Result<Grown, LeafFault>
     requires cuts { cuts.now ≡ [] }
     requires honest { AreHonest problem.now cuts.now (sides_of node.splits) }
     ensures grown { IfOk result (IsGrown problem.now cuts.now pivot_limit (sides_of node.splits) lease.now.best lease.now.grant) }
-    ensures fault { (splits : ℕ) → length (sides_of node.splits) + lease.now.grant ≤ splits → IfErr result (IsFault problem.now cuts.now splits pivot_limit) }
+    ensures fault { (splits : ℕ) → length (sides_of node.splits) + lease.now.grant ≤ splits → IfErr result (IsLeafFault problem.now cuts.now splits pivot_limit) }
 {
     let mut progress = Progress {
         left: lease.grant,
@@ -91,12 +91,12 @@ fn grow_with(
     pivot_limit: u32,
     progress: &mut Progress,
     proposer: &mut Proposer,
-) -> Result<Grown, SearchFault>
+) -> Result<Grown, LeafFault>
     requires cuts { cuts.now ≡ [] }
     requires honest { AreHonest problem.now cuts.now (sides_of node.splits) }
     requires none_found { progress.old.found ≡ None }
     ensures grown { IfOk result (IsGrown problem.now cuts.now pivot_limit (sides_of node.splits) progress.old.best progress.old.left) }
-    ensures fault { (splits : ℕ) → length (sides_of node.splits) + progress.old.left ≤ splits → IfErr result (IsFault problem.now cuts.now splits pivot_limit) }
+    ensures fault { (splits : ℕ) → length (sides_of node.splits) + progress.old.left ≤ splits → IfErr result (IsLeafFault problem.now cuts.now splits pivot_limit) }
 {
     match decide(
         alloc,
@@ -132,13 +132,13 @@ fn grow_granted(
     pivot_limit: u32,
     progress: &mut Progress,
     proposer: &mut Proposer,
-) -> Result<Grown, SearchFault>
+) -> Result<Grown, LeafFault>
     requires cuts { cuts.now ≡ [] }
     requires honest { AreHonest problem.now cuts.now (sides_of node.now.splits) }
     requires to_split { IsToSplit problem.now cuts.now (sides_of node.now.splits) progress.old.best fractional.now }
     requires none_found { progress.old.found ≡ None }
     ensures grown { IfOk result (IsGrown problem.now cuts.now pivot_limit (sides_of node.now.splits) progress.old.best progress.old.left) }
-    ensures fault { (splits : ℕ) → length (sides_of node.now.splits) + progress.old.left ≤ splits → IfErr result (IsFault problem.now cuts.now splits pivot_limit) }
+    ensures fault { (splits : ℕ) → length (sides_of node.now.splits) + progress.old.left ≤ splits → IfErr result (IsLeafFault problem.now cuts.now splits pivot_limit) }
 {
     if progress.left == 0 {
         return Ok(Grown::Ungranted(hint_of(alloc, fractional)?));
@@ -177,14 +177,14 @@ fn grow_split(
     pivot_limit: u32,
     progress: &mut Progress,
     proposer: &mut Proposer,
-) -> Result<Subtree, SearchFault>
+) -> Result<Subtree, LeafFault>
     requires left { 1 ≤ progress.old.left }
     requires cuts { cuts.now ≡ [] }
     requires honest { AreHonest problem.now cuts.now (sides_of node.now.splits) }
     requires to_split { IsToSplit problem.now cuts.now (sides_of node.now.splits) progress.old.best fractional.now }
     ensures grown { IfOk result (IsGrowth problem.now cuts.now pivot_limit (sides_of node.now.splits) progress.old progress.new) }
     ensures split { IfOk result IsSplitOrClosed }
-    ensures fault { (splits : ℕ) → length (sides_of node.now.splits) + progress.old.left ≤ splits → IfErr result (IsFault problem.now cuts.now splits pivot_limit) }
+    ensures fault { (splits : ℕ) → length (sides_of node.now.splits) + progress.old.left ≤ splits → IfErr result (IsLeafFault problem.now cuts.now splits pivot_limit) }
 {
     bounded_leaves();
     treated_nodes();
@@ -226,12 +226,12 @@ fn grow_side(
     pivot_limit: u32,
     progress: &mut Progress,
     proposer: &mut Proposer,
-) -> Result<Subtree, SearchFault>
+) -> Result<Subtree, LeafFault>
     requires cuts { cuts.now ≡ [] }
     requires honest { AreHonest problem.now cuts.now (sides_of node.now.splits) }
     requires split { IsHonestSplit problem.now cuts.now (sides_of node.now.splits) fractional.now.split }
     ensures grown { IfOk result (IsGrowth problem.now cuts.now pivot_limit (side_of fractional.now.split side ∷ sides_of node.now.splits) progress.old progress.new) }
-    ensures fault { (splits : ℕ) → length (sides_of node.now.splits) + 1 + progress.old.left ≤ splits → IfErr result (IsFault problem.now cuts.now splits pivot_limit) }
+    ensures fault { (splits : ℕ) → length (sides_of node.now.splits) + 1 + progress.old.left ≤ splits → IfErr result (IsLeafFault problem.now cuts.now splits pivot_limit) }
 {
     let hint = hint_of(alloc, fractional)?;
     if !goes_on(progress, fractional.value) {
@@ -307,11 +307,11 @@ fn decide(
     pivot_limit: u32,
     progress: &mut Progress,
     proposer: &mut Proposer,
-) -> Result<Decided, SearchFault>
+) -> Result<Decided, LeafFault>
     requires cuts { cuts.now ≡ [] }
     requires honest { AreHonest problem.now cuts.now (sides_of node.splits) }
     ensures decided { IfOk result (IsDecided problem.now cuts.now pivot_limit node progress.old progress.new) }
-    ensures fault { (splits : ℕ) → length (sides_of node.splits) ≤ splits → IfErr result (IsFault problem.now cuts.now splits pivot_limit) }
+    ensures fault { (splits : ℕ) → length (sides_of node.splits) ≤ splits → IfErr result (IsLeafFault problem.now cuts.now splits pivot_limit) }
 {
     root_is_over_columns(problem);
     let best = progress.best;
@@ -329,9 +329,9 @@ fn decide(
         Treatment::Bounded(weights) => Ok(Decided::Closed(Leaf::Bounded(weights))),
         Treatment::Feasible(found) => Ok(Decided::Closed(keep(progress, found))),
         Treatment::ToSplit(fractional) => Ok(Decided::ToSplit(node, fractional)),
-        Treatment::Unbounded(endless) => Err(SearchFault::Unbounded(EndlessAt { node, endless })),
+        Treatment::Unbounded(endless) => Err(LeafFault::Unbounded(EndlessAt { node, endless })),
         Treatment::NotFitting(fault) => Err(stuck(problem, cuts, node, fault)),
-        Treatment::AtLimit(bases) => Err(SearchFault::PivotLimit(bases)),
+        Treatment::AtLimit(bases) => Err(LeafFault::PivotLimit(bases)),
     }
 }
 
@@ -351,11 +351,11 @@ fn keep(progress: &mut Progress, found: Found) -> Leaf
 }
 
 // An operation of the work at the node does not fit.
-fn stuck(problem: &Instance, cuts: &DerivedRows, node: Node, fault: NoFit) -> SearchFault
+fn stuck(problem: &Instance, cuts: &DerivedRows, node: Node, fault: NoFit) -> LeafFault
     requires cuts { cuts.now ≡ [] }
     requires fault { IsWorkFault problem.now cuts.now (sides_of node.splits) fault }
-    ensures { (splits pivots : ℕ) → IsHonestWay problem.now cuts.now splits (sides_of node.splits) → IsFault problem.now cuts.now splits pivots result }
+    ensures { (splits pivots : ℕ) → IsHonestWay problem.now cuts.now splits (sides_of node.splits) → IsLeafFault problem.now cuts.now splits pivots result }
 {
     problem.keeps_its_limits();
-    SearchFault::NoFit(Site { node, fault })
+    LeafFault::NoFit(Site { node, fault })
 }

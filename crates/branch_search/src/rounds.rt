@@ -6,9 +6,10 @@ ghost use Rattle.search_tree.specs.Honest.{AreHonest};
 ghost use Rattle.tree_pool.specs.Places.{IsOpen};
 ghost use Rattle.branch_search.specs.Places.{LeadTo, GrowsAt};
 ghost use Rattle.branch_search.specs.Settled.{IsSettled, IsRound};
-ghost use Rattle.branch_search.specs.Faults.{IsFault};
+ghost use Rattle.branch_search.specs.Underway.{AreSame};
+ghost use Rattle.branch_search.specs.Faults.{IsLeafFault};
 
-use crate::fault::SearchFault;
+use crate::fault::LeafFault;
 use crate::fragment::Grown;
 use crate::grow;
 use crate::settling::{Round, settle};
@@ -24,11 +25,12 @@ pub(crate) fn round(
     board: &mut Board,
     pivot_limit: u32,
     proposer: &mut Proposer,
-) -> Result<Round, SearchFault>
+) -> Result<Round, LeafFault>
     requires cuts { board.old.cuts ≡ [] }
     requires pivots { board.old.pivot_limit ≡ pivot_limit }
     ensures ok { IfOk result (λ round. IsRound board.old round board.new) }
-    ensures fault { IfErr result (IsFault board.old.problem board.old.cuts board.old.split_limit board.old.pivot_limit) }
+    ensures same { AreSame board.old board.new }
+    ensures fault { IfErr result (IsLeafFault board.old.problem board.old.cuts board.old.split_limit board.old.pivot_limit) }
 {
     match board.lease(alloc, 0)? {
         LeaseAnswer::Idle(_) => Ok(Round::Idle),
@@ -46,13 +48,14 @@ fn work(
     lease: Lease,
     hint: Hint,
     proposer: &mut Proposer,
-) -> Result<Round, SearchFault>
+) -> Result<Round, LeafFault>
     requires open { IsOpen board.old.tree lease }
     requires best { lease.best ≡ value_of board.old }
     requires cuts { board.old.cuts ≡ [] }
     requires pivots { board.old.pivot_limit ≡ pivot_limit }
     ensures ok { IfOk result (λ round. IsSettled board.old lease round board.new) }
-    ensures fault { IfErr result (IsFault board.old.problem board.old.cuts board.old.split_limit board.old.pivot_limit) }
+    ensures same { AreSame board.old board.new }
+    ensures fault { IfErr result (IsLeafFault board.old.problem board.old.cuts board.old.split_limit board.old.pivot_limit) }
 {
     let grown = grown_at(alloc, board, pivot_limit, &lease, &hint, proposer)?;
     Ok(settle(alloc, board, lease, grown)?)
@@ -66,12 +69,12 @@ fn grown_at(
     lease: &Lease,
     hint: &Hint,
     proposer: &mut Proposer,
-) -> Result<Grown, SearchFault>
+) -> Result<Grown, LeafFault>
     requires open { IsOpen board.now.tree lease.now }
     requires cuts { board.now.cuts ≡ [] }
     requires pivots { board.now.pivot_limit ≡ pivot_limit }
     ensures grown { IfOk result (GrowsAt board.now lease.now) }
-    ensures fault { IfErr result (IsFault board.now.problem board.now.cuts board.now.split_limit board.now.pivot_limit) }
+    ensures fault { IfErr result (IsLeafFault board.now.problem board.now.cuts board.now.split_limit board.now.pivot_limit) }
 {
     let node = leased_node(alloc, board, lease)?;
     let problem = board.problem();

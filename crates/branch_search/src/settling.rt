@@ -9,6 +9,7 @@ ghost use Rattle.tree_pool.specs.Places.{IsOpen};
 ghost use Rattle.branch_search.specs.Grown.{IsOutcome, IsBetterPoint};
 ghost use Rattle.branch_search.specs.Places.{GrowsAt, IsFragmentAt, MayStand};
 ghost use Rattle.branch_search.specs.Settled.{seat, IsPut, IsOffered, IsWorked, IsSettled};
+ghost use Rattle.branch_search.specs.Underway.{AreSame};
 
 use crate::fragment::{Fragment, Grown};
 use instance::Point;
@@ -37,7 +38,8 @@ pub(crate) fn settle(
     requires open { IsOpen board.old.tree lease }
     requires best { lease.best ≡ value_of board.old }
     requires grown { GrowsAt board.old lease grown }
-    ensures { IfOk result (λ round. IsSettled board.old lease round board.new) }
+    ensures settled { IfOk result (λ round. IsSettled board.old lease round board.new) }
+    ensures same { AreSame board.old board.new }
 {
     match grown {
         Grown::Ready(fragment) => {
@@ -53,7 +55,8 @@ fn put(alloc: Global, board: &mut Board, lease: Lease, fragment: Fragment) -> Re
     requires open { IsOpen board.old.tree lease }
     requires best { lease.best ≡ value_of board.old }
     requires fragment { IsFragmentAt board.old lease fragment }
-    ensures { OnOk result (IsWorked board.old lease board.new) }
+    ensures worked { OnOk result (IsWorked board.old lease board.new) }
+    ensures same { AreSame board.old board.new }
 {
     let Fragment { tree, found } = fragment;
     match found {
@@ -74,7 +77,8 @@ fn put_with(
     requires open { IsOpen board.old.tree lease }
     requires best { lease.best ≡ value_of board.old }
     requires fragment { IsFragmentAt board.old lease (record { tree = tree; found = Some point }) }
-    ensures { OnOk result (IsOffered board.old lease board.new) }
+    ensures offered { OnOk result (IsOffered board.old lease board.new) }
+    ensures same { AreSame board.old board.new }
 {
     offer(board, point)?;
     graft(alloc, board, lease, tree)?;
@@ -86,7 +90,8 @@ fn graft(alloc: Global, board: &mut Board, lease: Lease, tree: Subtree) -> Resul
     requires open { IsOpen board.old.tree lease }
     requires may { MayStand board.old lease tree }
     requires outcome { IsOutcome lease.grant tree }
-    ensures { OnOk result (IsPut board.old lease board.new) }
+    ensures put { OnOk result (IsPut board.old lease board.new) }
+    ensures same { AreSame board.old board.new }
 {
     board.best_value();
     match board.graft(alloc, 0, lease, tree).ok() {
@@ -98,7 +103,8 @@ fn graft(alloc: Global, board: &mut Board, lease: Lease, tree: Subtree) -> Resul
 fn offer(board: &mut Board, point: Point) -> Result<(), AllocError>
     requires feasible { Feasible board.old.problem point }
     requires sums { HasSums board.old.problem point }
-    ensures { OnOk result ((best : Option Rational) × IsOffer board.old seat point best board.new) }
+    ensures offer { OnOk result ((best : Option Rational) × IsOffer board.old seat point best board.new) }
+    ensures same { AreSame board.old board.new }
 {
     match board.offer(0, point).ok() {
         Some(_) => Ok(()),

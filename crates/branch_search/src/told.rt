@@ -12,7 +12,9 @@ pub fn ray_or_fault(wanted: Wanted, fault: SearchFault) -> Result<EndlessAt, Ver
     match fault {
         SearchFault::Unbounded(endless) => Ok(endless),
         SearchFault::NoFit(site) => Err(VerdictFault::NoFit(wanted, site)),
-        SearchFault::PivotLimit(bases) => Err(VerdictFault::PivotLimit(wanted, bases)),
+        SearchFault::PivotLimit(bases, board) => {
+            Err(VerdictFault::PivotLimit(wanted, bases, board))
+        }
         SearchFault::SplitLimit(board) => Err(VerdictFault::SplitLimit(wanted, board)),
         SearchFault::NoMemory => Err(VerdictFault::NoMemory),
     }

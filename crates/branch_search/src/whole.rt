@@ -6,18 +6,18 @@ ghost use Rattle.cert_check.specs.Outcome.{Acceptance, outcome, trials};
 ghost use Rattle.search_tree.specs.Finished.{IsFinished};
 ghost use Rattle.search_tree.specs.Tree.{AllLeaves, IsTodo};
 ghost use Rattle.branch_search.specs.Underway.{IsGoing, IsAtEnd, IsNext, AreSame};
-ghost use Rattle.branch_search.specs.Faults.{IsFault};
+ghost use Rattle.branch_search.specs.Faults.{IsLeafFault, IsFault};
 ghost use Rattle.branch_search.specs.Columns.{IsBySplitsOfColumns};
 ghost use Rattle.branch_search.specs.Plain.{NoneInteger, IsPlainCertificate};
 
-use crate::fault::SearchFault;
+use crate::fault::{LeafFault, SearchFault};
 use crate::rounds::round;
 use crate::settling::Round;
+use crate::stopping::{given_back, stopped};
 use candidate::Proposer;
 use certificate::{Certificate, DerivedRows};
 use instance::Instance;
 use search_tree::{finished_boards, kept_boards};
-use sqlite_items::Boxed;
 use std::alloc::Global;
 use tree_pool::Board;
 
@@ -26,8 +26,9 @@ use tree_pool::Board;
 /// most. The search makes at most `split_limit` splits, and at each node Bland's run, where nothing else decides, takes at most
 /// `pivot_limit` steps. Of the columns that may be split, those before `first_columns` come first, in their order.
 ///
-/// A fault tells an operation of the work at a node that does not fit, or a run that is too long, each on an honest way;
-/// the board on which all splits are made, and nodes are left that are to be split; or a ray that improves the problem.
+/// A fault tells an operation of the work at a node that does not fit, or a run that is too long, each on an honest way, and with
+/// the run the board on which the search stops there; the board on which all splits are made, and nodes are left that are to be
+/// split; or a ray that improves the problem. No leaf of such a board is leased.
 pub fn search(
     alloc: Global,
     problem: &Instance,
@@ -92,8 +93,10 @@ pub fn search_on(
     ensures plain { NoneInteger board.problem.columns → IfOk result (λ c. IsPlainCertificate board.problem c) }
     ensures fault { IfErr result (IsFault board.problem [] board.split_limit pivot_limit) }
 {
-    run(alloc, &mut board, pivot_limit, proposer)?;
-    ended(alloc, board)
+    match run(alloc, &mut board, pivot_limit, proposer) {
+        Ok(()) => ended(alloc, board),
+        Err(fault) => Err(stopped(alloc, board, fault)),
+    }
 }
 
 // Round after round, until no leaf is to be worked on.
@@ -102,13 +105,13 @@ fn run(
     board: &mut Board,
     pivot_limit: u32,
     proposer: &mut Proposer,
-) -> Result<(), SearchFault>
+) -> Result<(), LeafFault>
     requires cuts { board.old.cuts ≡ [] }
     requires pivots { board.old.pivot_limit ≡ pivot_limit }
     requires going { IsGoing board.old }
-    ensures same { IfOk result (λ done. AreSame board.old board.new) }
+    ensures same { AreSame board.old board.new }
     ensures at_end { IfOk result (λ done. IsAtEnd board.new) }
-    ensures fault { IfErr result (IsFault board.old.problem board.old.cuts board.old.split_limit board.old.pivot_limit) }
+    ensures fault { IfErr result (IsLeafFault board.old.problem board.old.cuts board.old.split_limit board.old.pivot_limit) }
 {
     let mut more = true;
     while more {
@@ -123,13 +126,13 @@ fn goes_on(
     board: &mut Board,
     pivot_limit: u32,
     proposer: &mut Proposer,
-) -> Result<bool, SearchFault>
+) -> Result<bool, LeafFault>
     requires cuts { board.old.cuts ≡ [] }
     requires pivots { board.old.pivot_limit ≡ pivot_limit }
     requires going { IsGoing board.old }
-    ensures same { IfOk result (λ more. AreSame board.old board.new) }
+    ensures same { AreSame board.old board.new }
     ensures next { IfOk result (λ more. IsNext board.old more board.new) }
-    ensures fault { IfErr result (IsFault board.old.problem board.old.cuts board.old.split_limit board.old.pivot_limit) }
+    ensures fault { IfErr result (IsLeafFault board.old.problem board.old.cuts board.old.split_limit board.old.pivot_limit) }
 {
     board.keeps_its_log();
     kept_boards();
@@ -162,18 +165,13 @@ fn ended(alloc: Global, board: Board) -> Result<Certificate, SearchFault>
     }
 }
 
-// Why a board is at its end and not finished: all splits are made. Leaves that were left are given back before it is told, so
-// that none is leased.
-fn out_of_splits(alloc: Global, mut board: Board) -> SearchFault
+// Why a board is at its end and not finished: all splits are made.
+fn out_of_splits(alloc: Global, board: Board) -> SearchFault
     requires at_end { IsAtEnd board }
     requires unfinished { ¬ (IsFinished board) }
     ensures { IsFault board.problem board.cuts board.split_limit board.pivot_limit result }
 {
-    if board.reclaim(alloc).is_err() {
-        return SearchFault::NoMemory;
-    }
-    board.keeps_its_log();
-    match Boxed::new(alloc, board) {
+    match given_back(alloc, board) {
         Ok(board) => SearchFault::SplitLimit(board),
         Err(_) => SearchFault::NoMemory,
     }

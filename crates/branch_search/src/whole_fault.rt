@@ -21,8 +21,9 @@ pub enum Wanted {
 pub enum VerdictFault {
     /// An operation of the work at a node does not fit.
     NoFit(Wanted, Site),
-    /// Bland's run at a node is longer than the limit of steps: the bases of the first steps.
-    PivotLimit(Wanted, Bases),
+    /// Bland's run at a node is longer than the limit of steps: the bases of the first steps, and the board on which the search
+    /// stops there.
+    PivotLimit(Wanted, Bases, Boxed<Board>),
     /// All splits that are allowed are made on this board, and nodes are left that are to be split.
     SplitLimit(Wanted, Boxed<Board>),
     /// The memory is not there.

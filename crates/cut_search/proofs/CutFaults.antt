@@ -22,7 +22,7 @@ behind_cuts false p r cuts e are is = cc
 
 fault_there : (cuts rows : Bool) (p r : Problem) (splits pivots : ℕ) (fault : VerdictFault) → MayHaveCuts cuts p r → IsRowFaultOf rows r splits pivots fault → IsFaultOf cuts rows p splits pivots fault
 fault_there cuts rows p r splits pivots (NoFit wanted site) may h = (h.0, record { cut = r; may_have_cuts = may; is_searched = h.1 }, h.2)
-fault_there cuts rows p r splits pivots (PivotLimit wanted bases) may h = (h.0, record { cut = r; may_have_cuts = may; is_searched = h.1 }, h.2)
+fault_there cuts rows p r splits pivots (PivotLimit wanted bases board) may h = (h.0, record { cut = r; may_have_cuts = may; is_searched = h.1 }, h.2)
 fault_there cuts rows p r splits pivots (SplitLimit wanted board) may h = (h.0, record { cut = r; may_have_cuts = may; is_searched = h.1 }, h.2)
 fault_there cuts rows p r splits pivots NoMemory may h = tt
 

@@ -28,6 +28,6 @@ pub record IsSearched (cuts rows : Bool) (p q : Problem) : Type 0 where
 -- the cause of a fault, in the problem that is searched
 abbrev pub IsFaultOf : Bool → Bool → Problem → ℕ → ℕ → VerdictFault → Type 0
 IsFaultOf cuts rows p splits pivots (NoFit wanted site) = (q : Problem) × IsSearched cuts rows p q × IsFault q splits pivots (NoFit wanted site)
-IsFaultOf cuts rows p splits pivots (PivotLimit wanted bases) = (q : Problem) × IsSearched cuts rows p q × IsFault q splits pivots (PivotLimit wanted bases)
+IsFaultOf cuts rows p splits pivots (PivotLimit wanted bases board) = (q : Problem) × IsSearched cuts rows p q × IsFault q splits pivots (PivotLimit wanted bases board)
 IsFaultOf cuts rows p splits pivots (SplitLimit wanted board) = (q : Problem) × IsSearched cuts rows p q × IsFault q splits pivots (SplitLimit wanted board)
 IsFaultOf cuts rows p splits pivots NoMemory = Unit {0}

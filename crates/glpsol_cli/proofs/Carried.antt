@@ -174,7 +174,7 @@ module _ (s : Settings) (texts : List (List ℕ)) (p : Problem) (later : Option 
 
   unfound_is : (files_rose out_rose : Type 0) (unfound : Unfound) → IsUnfound unfound s texts → CauseIn s texts files_rose out_rose (unfound_answer unfound)
   unfound_is files_rose out_rose (Solve (SearchNoFit wanted site)) h = h
-  unfound_is files_rose out_rose (Solve (PivotLimit wanted bases)) h = h
+  unfound_is files_rose out_rose (Solve (PivotLimit wanted bases board)) h = h
   unfound_is files_rose out_rose (Solve (SplitLimit wanted board)) h = h
   unfound_is files_rose out_rose (Solve SearchNoMemory) h = executed
   unfound_is files_rose out_rose (Check (CheckBadText fault)) h = h
@@ -189,7 +189,7 @@ module _ (s : Settings) (texts : List (List ℕ)) (p : Problem) (later : Option 
   unfound_line : (taken taken' : Option (List ℕ)) (told : ToldNames) (unfound : Unfound) → AppendsPrefix taken taken' (line_of (unfound_answer unfound))
       → LeftWritten s texts (record { taken = taken; told = told }) (record { taken = taken'; told = told }) (unfound_answer unfound)
   unfound_line taken taken' told (Solve (SearchNoFit wanted site)) line = line_alone _ taken taken' told line
-  unfound_line taken taken' told (Solve (PivotLimit wanted bases)) line = line_alone _ taken taken' told line
+  unfound_line taken taken' told (Solve (PivotLimit wanted bases board)) line = line_alone _ taken taken' told line
   unfound_line taken taken' told (Solve (SplitLimit wanted board)) line = line_alone _ taken taken' told line
   unfound_line taken taken' told (Solve SearchNoMemory) line = inl (line_alone _ taken taken' told line)
   unfound_line taken taken' told (Check (CheckBadText fault)) line = line_alone _ taken taken' told line

@@ -13,7 +13,7 @@ use Rattle.search_tree.specs.Kept.{IsKept}
 use Rattle.search_tree.specs.Steps.{IsReplay}
 use Rattle.search_tree.specs.Tree.{made}
 use Rattle.branch_search.specs.Plain.{NoneInteger}
-use Rattle.branch_search.specs.Faults.{IsStuckAt, IsRunTooLong, IsOutOfSplits}
+use Rattle.branch_search.specs.Faults.{IsStuckAt, IsOutOfPivots, IsOutOfSplits}
 use Rattle.branch_search.specs.WholeFaults.{IsWanted, searched}
 use Rattle.branch_search.specs.declared.whole_fault.Wanted.{Wanted}
 use Rattle.worked_problems.specs.Unhindered.{IsUnhindered, AreUnhindered}
@@ -75,15 +75,15 @@ module _ (text : List ℕ) (p : Problem) (count : ℕ) (declares : declared text
 
   never_all_made : (q : Problem) → IsUnhindered q count → (board : Board) → ¬ (IsOutOfSplits q [] 10000 100000 board)
   never_all_made q search board h =
-      let least : made board.tree ≤ count = search.few_splits board (replays board h.replay) h.problem h.cuts in
+      let least : made board.tree ≤ count = search.few_splits board (replays board h.stopped.replay) h.stopped.problem h.stopped.cuts in
       let all : made board.tree ≡ 10000 = h.all_made in
       absurd (omega (arith, few, least, all))
 
   ends : (limit : Limit) → ¬ (IsUndecided limit plain_settings (text ∷ []))
-  ends (Pivots wanted bases) h =
-      let long = of_this wanted (λ p settings. IsRunTooLong p [] settings.split_limit settings.pivot_limit bases) h in
+  ends (Pivots wanted bases board) h =
+      let long = of_this wanted (λ p settings. IsOutOfPivots p [] settings.split_limit settings.pivot_limit bases board) h in
       let search = free wanted long.0 in
-      search.ends 10000 100000 bases long.1
+      search.ends 10000 100000 bases long.1.run
   ends (SubsetPivots members bases) h = none_wanted h.wanted
   ends (Splits wanted board) h =
       let out = of_this wanted (λ p settings. IsOutOfSplits p [] settings.split_limit settings.pivot_limit board) h in

@@ -269,7 +269,7 @@ overflow_over (InPart part) e s ts h = declared_over s ts h.problem h.asked
 overflow_over (InSubset members) e s ts h = proved_over h.certificate s ts h.proved
 
 undecided_over : (limit : Limit) (s : Settings) (ts : List (List ℕ)) → IsUndecided limit s ts → IsOver s ts
-undecided_over (Pivots wanted bases) s ts h = declared_over s ts h.problem h.asked
+undecided_over (Pivots wanted bases board) s ts h = declared_over s ts h.problem h.asked
 undecided_over (SubsetPivots members bases) s ts h = proved_over h.certificate s ts h.proved
 undecided_over (Splits wanted board) s ts h = declared_over s ts h.problem h.asked
 
@@ -371,7 +371,7 @@ behind_them [] more text = refl
 behind_them (t ∷ texts) more text = behind_them texts more text
 
 undecided_solves : (limit : Limit) (s : Settings) (texts : List (List ℕ)) → IsUndecided limit s texts → Solves s
-undecided_solves (Pivots wanted bases) s texts h = h.solves
+undecided_solves (Pivots wanted bases board) s texts h = h.solves
 undecided_solves (SubsetPivots members bases) s texts h = h.proved.solves
 undecided_solves (Splits wanted board) s texts h = h.solves
 

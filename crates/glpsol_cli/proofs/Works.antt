@@ -131,7 +131,7 @@ module _ {X : Type 0} (f : X → List ℕ) (s : Settings) (xs others taken : Lis
 module _ (s : Settings) (texts : List (List ℕ)) (p : Problem) (asks : IsAsked s texts p) (solves : Solves s) where
   unsearched : (fault : VerdictFault) → IsFaultOf (uses_cuts s.task) (splits_rows s.task) p s.split_limit s.pivot_limit fault → IsUnfound (SolveStop fault) s texts
   unsearched (SearchNoFit wanted site) h = record { problem = p; asked = asks; solves = solves; searches = h.0; is_searched = h.1; is_wanted = h.2.0; holds = h.2.1 }
-  unsearched (PivotLimit wanted bases) h = record { problem = p; asked = asks; solves = solves; searches = h.0; is_searched = h.1; is_wanted = h.2.0; holds = h.2.1 }
+  unsearched (PivotLimit wanted bases board) h = record { problem = p; asked = asks; solves = solves; searches = h.0; is_searched = h.1; is_wanted = h.2.0; holds = h.2.1 }
   unsearched (SplitLimit wanted board) h = record { problem = p; asked = asks; solves = solves; searches = h.0; is_searched = h.1; is_wanted = h.2.0; holds = h.2.1 }
   unsearched SearchNoMemory h = tt
 

@@ -9,7 +9,7 @@ use Rattle.verdicts.specs.Certificate.{Certificate}
 use Rattle.verdicts.specs.Certificate as kind
 use Rattle.verdicts.specs.Proves.{Proves, Holds, tests, first_failing}
 use Rattle.search_node.specs.declared.node.Node.{Node}
-use Rattle.branch_search.specs.Faults.{IsStuckAt, IsRunTooLong, IsOutOfSplits}
+use Rattle.branch_search.specs.Faults.{IsStuckAt, IsOutOfPivots, IsOutOfSplits}
 use Rattle.branch_search.specs.Plain.{NoneInteger}
 use Rattle.gmpl_generate.specs.declared.fault.ModelFault.{ModelFault}
 use Rattle.branch_search.specs.WholeFaults.{IsWanted, searched}
@@ -248,10 +248,10 @@ IsOverflow (InPart part) e s texts = OfCertificate (IsCheckOverflow part e) s te
 IsOverflow (InSubset members) e s texts = OfInfeasible (λ p settings. IsSubsetStuck p members e) s texts
 
 -- the limit is too small: the bases are the first of the simplex method's run at a node to which honest splits lead, as many
--- steps as are allowed, and there is one more step; or the board is that of a search with these limits, as many splits are made
--- on it as are allowed, all honest, and each leaf that is not closed is of a node that would have to be split
+-- steps as are allowed, and there is one more step; or as many splits are made as are allowed, all honest, and each leaf that is
+-- not closed is of a node that would have to be split. The board is that on which a search with these limits stops
 abbrev pub IsUndecided : Limit → Settings → List (List ℕ) → Type 0
-IsUndecided (Pivots wanted bases) s texts = OfSearch wanted (λ p settings. IsRunTooLong p [] settings.split_limit settings.pivot_limit bases) s texts
+IsUndecided (Pivots wanted bases board) s texts = OfSearch wanted (λ p settings. IsOutOfPivots p [] settings.split_limit settings.pivot_limit bases board) s texts
 IsUndecided (SubsetPivots members bases) s texts = OfInfeasible (λ p settings. IsSubsetTooLong p settings.pivot_limit members bases) s texts
 IsUndecided (Splits wanted board) s texts = OfSearch wanted (λ p settings. IsOutOfSplits p [] settings.split_limit settings.pivot_limit board) s texts
 
@@ -293,7 +293,7 @@ reached_of (NoMemory reached) = reached
 
 -- the answer is not that the limit of steps was met
 abbrev pub IsNotByPivots : Answer → Type 0
-IsNotByPivots (Undecided (Pivots wanted bases)) = ⊥
+IsNotByPivots (Undecided (Pivots wanted bases board)) = ⊥
 IsNotByPivots (Undecided (SubsetPivots members bases)) = ⊥
 IsNotByPivots (Unranged fault c) = IsRangeNotByPivots fault
 IsNotByPivots answer = Unit {0}

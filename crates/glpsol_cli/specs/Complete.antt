@@ -54,7 +54,7 @@ AreTablesTold told s texts (text ∷ tables) = IsTableTold told s texts text × 
 -- there is no memory for ranges
 abbrev pub IsWantOfMemory : RangeFault → Type 0
 IsWantOfMemory (Search sought (SearchNoFit wanted site)) = ⊥
-IsWantOfMemory (Search sought (PivotLimit wanted bases)) = ⊥
+IsWantOfMemory (Search sought (PivotLimit wanted bases board)) = ⊥
 IsWantOfMemory (Search sought (SplitLimit wanted board)) = ⊥
 IsWantOfMemory (Search sought SearchNoMemory) = Unit {0}
 IsWantOfMemory (TooLarge sought) = ⊥

@@ -261,7 +261,7 @@ IsUnsolved p s IsIntegral = (wants_linear s.task ≡ true) × ¬ (NoneInteger p.
 -- why nothing is found
 abbrev pub IsUnfound : Unfound → Settings → List (List ℕ) → Type 0
 IsUnfound (Solve (SearchNoFit wanted site)) s texts = IsOverflow (AtNode wanted site.node) site.fault s texts
-IsUnfound (Solve (PivotLimit wanted bases)) s texts = IsUndecided (Pivots wanted bases) s texts
+IsUnfound (Solve (PivotLimit wanted bases board)) s texts = IsUndecided (Pivots wanted bases board) s texts
 IsUnfound (Solve (SplitLimit wanted board)) s texts = IsUndecided (Splits wanted board) s texts
 IsUnfound (Solve SearchNoMemory) s texts = Unit {0}
 IsUnfound (Check (BadText fault)) s texts = OfCertificate (IsNoCertificate fault) s texts
@@ -344,7 +344,7 @@ unread_answer reached name LoadNoMemory = NoMemory reached
 
 abbrev pub solve_answer : VerdictFault → Answer
 solve_answer (SearchNoFit wanted site) = Overflow (AtNode wanted site.node) site.fault
-solve_answer (PivotLimit wanted bases) = Undecided (Pivots wanted bases)
+solve_answer (PivotLimit wanted bases board) = Undecided (Pivots wanted bases board)
 solve_answer (SplitLimit wanted board) = Undecided (Splits wanted board)
 solve_answer SearchNoMemory = NoMemory Executed
 

@@ -30,7 +30,7 @@ text_line (Model fault) = model_line fault
 text_line (FileText fault) = file_line fault
 
 abbrev pub undecided_line : Limit → List ℕ
-undecided_line (Pivots wanted bases) = undecided_pivots_line
+undecided_line (Pivots wanted bases board) = undecided_pivots_line
 undecided_line (SubsetPivots members bases) = undecided_pivots_line
 undecided_line (Splits wanted board) = undecided_nodes_line
 
@@ -41,7 +41,7 @@ too_large_line = codes "too large\n"
 -- where there is no verdict of such a problem
 abbrev pub search_line : VerdictFault → List ℕ
 search_line (SearchNoFit wanted site) = overflow_line site.fault
-search_line (PivotLimit wanted bases) = undecided_pivots_line
+search_line (PivotLimit wanted bases board) = undecided_pivots_line
 search_line (SplitLimit wanted board) = undecided_nodes_line
 search_line SearchNoMemory = no_memory_line
 

@@ -54,8 +54,9 @@ pub enum OverflowSite {
 /// A limit that a search came to.
 #[derive(Drop)]
 pub enum Limit {
-    /// At a node the simplex method went through these bases, as many steps as are allowed, and has not ended.
-    Pivots(Wanted, Bases),
+    /// At a node the simplex method went through these bases, as many steps as are allowed, and has not ended; this is the board on
+    /// which the search stopped there.
+    Pivots(Wanted, Bases, Boxed<Board>),
     /// As many splits are made as are allowed on this board, and nodes are left that would have to be split.
     Splits(Wanted, Boxed<Board>),
     /// In the search for an infeasible subset, where the problem keeps these bounds alone, the simplex method went through these

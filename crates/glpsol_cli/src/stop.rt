@@ -102,7 +102,9 @@ fn solve_answer(fault: VerdictFault) -> Answer
             },
             fault: site.fault,
         },
-        VerdictFault::PivotLimit(wanted, bases) => Answer::Undecided(Limit::Pivots(wanted, bases)),
+        VerdictFault::PivotLimit(wanted, bases, board) => {
+            Answer::Undecided(Limit::Pivots(wanted, bases, board))
+        }
         VerdictFault::SplitLimit(wanted, board) => Answer::Undecided(Limit::Splits(wanted, board)),
         VerdictFault::NoMemory => no_memory(Reached::Executed),
     }

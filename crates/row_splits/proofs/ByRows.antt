@@ -59,7 +59,7 @@ found_size p q forms c h proves =
 -- the cause of a fault in the problem that is searched
 pub fault_of : (rows : Bool) (p q : Problem) (splits pivots : ℕ) (fault : VerdictFault) → IsSearched rows p q → IsFault q splits pivots fault → IsFaultOf rows p splits pivots fault
 fault_of rows p q splits pivots (NoFit wanted site) searched h = (q, searched, h)
-fault_of rows p q splits pivots (PivotLimit wanted bases) searched h = (q, searched, h)
+fault_of rows p q splits pivots (PivotLimit wanted bases board) searched h = (q, searched, h)
 fault_of rows p q splits pivots (SplitLimit wanted board) searched h = (q, searched, h)
 fault_of rows p q splits pivots NoMemory searched h = tt
 

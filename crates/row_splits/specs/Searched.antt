@@ -39,6 +39,6 @@ IsSearched true p q = IsSearchedByRows p q
 -- the cause of a fault, in the problem that is searched
 abbrev pub IsFaultOf : Bool → Problem → ℕ → ℕ → VerdictFault → Type 0
 IsFaultOf rows p splits pivots (NoFit wanted site) = (q : Problem) × IsSearched rows p q × IsFault q splits pivots (NoFit wanted site)
-IsFaultOf rows p splits pivots (PivotLimit wanted bases) = (q : Problem) × IsSearched rows p q × IsFault q splits pivots (PivotLimit wanted bases)
+IsFaultOf rows p splits pivots (PivotLimit wanted bases board) = (q : Problem) × IsSearched rows p q × IsFault q splits pivots (PivotLimit wanted bases board)
 IsFaultOf rows p splits pivots (SplitLimit wanted board) = (q : Problem) × IsSearched rows p q × IsFault q splits pivots (SplitLimit wanted board)
 IsFaultOf rows p splits pivots NoMemory = Unit {0}

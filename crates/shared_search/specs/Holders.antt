@@ -6,8 +6,8 @@ use Rattle.turn_pool.specs.Passes.{key_of}
 use Rattle.turn_pool.specs.Turns.{held}
 use Rattle.search_tree.specs.declared.event.Entry.{Entry}
 use Rattle.search_tree.specs.Board.{Board}
-use Rattle.branch_search.specs.declared.fault.SearchFault.{SearchFault}
-use Rattle.branch_search.specs.Faults.{IsFault}
+use Rattle.branch_search.specs.declared.fault.LeafFault.{LeafFault}
+use Rattle.branch_search.specs.Faults.{IsLeafFault}
 use Rattle.shared_search.specs.declared.task.Task.{Task}
 
 -- the board with which the pool began, as a pass knows it
@@ -34,6 +34,6 @@ pub record IsTaskOf (first : Board) (task : Task) : Type 0 where
   pub no_cuts : task.cuts ≡ []
   pub pivot_limit : task.pivot_limit ≡ first.pivot_limit
 
--- the fault is one of a search that began with this board
-abbrev pub IsFaultOf : Board → SearchFault → Type 0
-IsFaultOf first fault = IsFault first.problem first.cuts first.split_limit first.pivot_limit fault
+-- the fault is one of the work at a leaf, in a search that began with this board
+abbrev pub IsFaultOf : Board → LeafFault → Type 0
+IsFaultOf first fault = IsLeafFault first.problem first.cuts first.split_limit first.pivot_limit fault

@@ -9,7 +9,7 @@ use crate::task::Task;
 use crate::turns::{offer, put, put_leaf};
 use crate::worker::Step;
 use board_pool::{LeasedLeaf, SharedBoard, trees_of_leases};
-use branch_search::{Fragment, Grown, SearchFault, grow};
+use branch_search::{Fragment, Grown, LeafFault, grow};
 use candidate::Proposer;
 use instance::Point;
 use search_node::Node;
@@ -26,7 +26,7 @@ pub(crate) fn at_leaf(
     pass: &mut Pass<SharedBoard>,
     leaf: LeasedLeaf,
     proposer: &mut Proposer,
-) -> Result<Step, SearchFault>
+) -> Result<Step, LeafFault>
     requires pool { IsPassOf pool.now pass.old }
     requires task { IsTaskOf (first_of (view_of pass.old)) task.now }
     requires given { IsGiven (view_of pass.old) leaf }
@@ -36,7 +36,7 @@ pub(crate) fn at_leaf(
 {
     let LeasedLeaf { lease, hint, node } = leaf;
     match node {
-        None => Err(SearchFault::NoMemory),
+        None => Err(LeafFault::NoMemory),
         Some(node) => at_node(alloc, pool, task, pass, lease, &hint, node, proposer),
     }
 }
@@ -51,7 +51,7 @@ fn at_node(
     hint: &Hint,
     node: Node,
     proposer: &mut Proposer,
-) -> Result<Step, SearchFault>
+) -> Result<Step, LeafFault>
     requires pool { IsPassOf pool.now pass.old }
     requires task { IsTaskOf (first_of (view_of pass.old)) task.now }
     requires held { IsHeld (view_of pass.old) lease (sides_of node.splits) }

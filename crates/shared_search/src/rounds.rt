@@ -12,7 +12,7 @@ use crate::task::Task;
 use crate::turns::{TRIES, ask};
 use crate::worker::{Step, Worker};
 use board_pool::{Asked, LeasedLeaf, SharedBoard};
-use branch_search::SearchFault;
+use branch_search::LeafFault;
 use candidate::Proposer;
 use sqlite_items::Boxed;
 use std::alloc::Global;
@@ -166,7 +166,7 @@ fn with_leaf(
 }
 
 // A fault that is to be told at the end. Want of memory is none: who goes on alone may find it.
-fn kept(alloc: Global, fault: SearchFault) -> Option<Boxed<SearchFault>>
+fn kept(alloc: Global, fault: LeafFault) -> Option<Boxed<LeafFault>>
     ensures { IfSome result (λ kept. kept ≡ fault) }
 {
     if is_want_of_memory(&fault) {
@@ -175,9 +175,9 @@ fn kept(alloc: Global, fault: SearchFault) -> Option<Boxed<SearchFault>>
     Boxed::new(alloc, fault).ok()
 }
 
-fn is_want_of_memory(fault: &SearchFault) -> bool {
+fn is_want_of_memory(fault: &LeafFault) -> bool {
     match fault {
-        SearchFault::NoMemory => true,
+        LeafFault::NoMemory => true,
         _ => false,
     }
 }

@@ -5,7 +5,7 @@ ghost use Rattle.turn_pool.specs.Passes.{key_of, view_of};
 ghost use Rattle.search_tree.specs.Steps.{IsReclaim, opening};
 ghost use Rattle.branch_search.specs.Faults.{IsFault};
 ghost use Rattle.board_pool.specs.Searches.{IsOfSearch};
-ghost use Rattle.shared_search.specs.Holders.{first_in, IsTaskOf, IsFaultOf};
+ghost use Rattle.shared_search.specs.Holders.{first_in, IsTaskOf};
 ghost use Rattle.shared_search.specs.Crews.{IsReady, numbers, AnyHas};
 ghost use Rattle.shared_search.specs.Left.{IsLeft};
 
@@ -15,7 +15,7 @@ use crate::signals::Signals;
 use crate::task::Task;
 use crate::worker::Worker;
 use board_pool::SharedBoard;
-use branch_search::SearchFault;
+use branch_search::{SearchFault, stopped};
 use certificate::DerivedRows;
 use instance::Instance;
 use std::alloc::{AllocError, Global};
@@ -29,7 +29,8 @@ use turn_pool::Pool;
 /// nothing else decides, takes at most `pivot_limit` steps. Of the columns that may be split, those before `first_columns` come first.
 ///
 /// A fault is one that a worker met: an operation of the work at a node that does not fit, or a run that is too long, each on
-/// an honest way; or a ray that improves the problem. Or memory was wanting before the workers began or after they ended.
+/// an honest way, and with the run the board with which the workers end; or a ray that improves the problem. Or memory was wanting
+/// before the workers began or after they ended.
 pub fn search_together<R: Threads + Sync, G: Gate + Sync>(
     rt: &R,
     alloc: Global,
@@ -100,7 +101,7 @@ fn on_board<R: Threads + Sync, G: Gate + Sync>(
     requires start { board ≡ opening board }
     requires task { IsTaskOf board task.now }
     ensures board { IfOk result (IsLeft board.problem board.split_limit board.pivot_limit) }
-    ensures fault { IfErr result (IsFaultOf board) }
+    ensures fault { IfErr result (IsFault board.problem board.cuts board.split_limit board.pivot_limit) }
 {
     board.keeps_its_log();
     let (pool, pass) = Pool::start(alloc, SharedBoard::new(board), workers)?;
@@ -238,18 +239,18 @@ fn take_in(pool: &Pool<SharedBoard>, worker: &mut Worker, other: Worker)
     }
 }
 
-// The board at the end, or the fault that a worker met.
+// The board at the end, or the fault that a worker met, with the board where a run is too long.
 fn ended(alloc: Global, pool: Pool<SharedBoard>, last: Worker) -> Result<Board, SearchFault>
     requires ready { IsReady pool last }
     requires all { (k : ℕ) → k < (key_of pool).seats → Has (numbers last) k }
     requires cuts { (first_in pool).cuts ≡ [] }
     ensures board { IfOk result (IsLeft (first_in pool).problem (first_in pool).split_limit (first_in pool).pivot_limit) }
-    ensures fault { IfErr result (IsFaultOf (first_in pool)) }
+    ensures fault { IfErr result (IsFault (first_in pool).problem (first_in pool).cuts (first_in pool).split_limit (first_in pool).pivot_limit) }
 {
     let Worker { pass, fault } = last;
     let board = pool.close(pass).into_board();
     match fault {
-        Some(fault) => Err(fault.into_inner()),
+        Some(fault) => Err(stopped(alloc, board, fault.into_inner())),
         None => Ok(given_back(alloc, board)?),
     }
 }

@@ -1,7 +1,7 @@
 // Workers.
 
 use board_pool::SharedBoard;
-use branch_search::SearchFault;
+use branch_search::LeafFault;
 use sqlite_items::Boxed;
 use turn_pool::Pass;
 
@@ -9,7 +9,7 @@ use turn_pool::Pass;
 #[derive(Drop)]
 pub struct Worker {
     pub pass: Pass<SharedBoard>,
-    pub fault: Option<Boxed<SearchFault>>,
+    pub fault: Option<Boxed<LeafFault>>,
 }
 
 /// How a worker goes on.

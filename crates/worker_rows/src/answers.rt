@@ -197,7 +197,7 @@ fn board_word(board: &Board) -> &'static str {
 fn fault_word(fault: &SearchFault) -> &'static str {
     match fault {
         SearchFault::NoFit(_) => "overflow",
-        SearchFault::PivotLimit(_) => "steps",
+        SearchFault::PivotLimit(..) => "steps",
         SearchFault::SplitLimit(_) => "splits",
         SearchFault::Unbounded(_) => "ray",
         SearchFault::NoMemory => "no memory",

@@ -1,7 +1,7 @@
 use Rattle.std.proofs.Common.{◌-◌, refl, arith}
 use Rattle.certificate.specs.Ways.{side_of}
 use Rattle.search_node.specs.Sides.{sides_of}
-use Rattle.branch_search.specs.Faults.{IsFault}
+use Rattle.branch_search.specs.Faults.{IsLeafFault}
 use Rattle.branch_search.proofs.Growth.{closed_of, to_split_of, side_closed, split_grown, handed_on, short_below, room_below}
 use Rattle.branch_search.proofs.growing.+growth.Goals as goal
 
@@ -10,7 +10,7 @@ use Rattle.branch_search.proofs.growing.+growth.Goals as goal
 pub grow_side-returns-in_err-leaf-2-clause-fault : goal.grow_side-returns-in_err-leaf-2-clause-fault
 grow_side-returns-in_err-leaf-2-clause-fault t c = λ splits room.
     let short = short_below (sides_of c.args.node.now.splits) (sides_of c.in_ok-below.below.splits) (side_of c.args.fractional.now.split c.args.side) c.args.progress.now.left splits c.in_ok-below.ensures room in
-    handed_on c.from_residual-in_err-leaf-2.result c.in_err-leaf-2.field-0.0 (IsFault c.args.problem.now c.args.cuts.now splits c.args.pivot_limit) c.from_residual-in_err-leaf-2.ensures.1 (c.in_err-leaf-2.ensures.fault splits short)
+    handed_on c.from_residual-in_err-leaf-2.result c.in_err-leaf-2.field-0.0 (IsLeafFault c.args.problem.now c.args.cuts.now splits c.args.pivot_limit) c.from_residual-in_err-leaf-2.ensures.1 (c.in_err-leaf-2.ensures.fault splits short)
 
 pub grow_side-returns-in-Closed-clause-grown : goal.grow_side-returns-in-Closed-clause-grown
 grow_side-returns-in-Closed-clause-grown t c =
@@ -32,13 +32,13 @@ grow_side-returns-clause-fault t c = λ splits room.
 pub grow_split-returns-in_err-high-clause-fault : goal.grow_split-returns-in_err-high-clause-fault
 grow_split-returns-in_err-high-clause-fault t c = λ splits room.
     let one = c.requires.left in
-    handed_on c.from_residual.result c.in_err-high.field-0.0 (IsFault c.args.problem.now c.args.cuts.now splits c.args.pivot_limit) c.from_residual.ensures.1 (c.in_err-high.ensures.fault splits (omega (arith, room, one)))
+    handed_on c.from_residual.result c.in_err-high.field-0.0 (IsLeafFault c.args.problem.now c.args.cuts.now splits c.args.pivot_limit) c.from_residual.ensures.1 (c.in_err-high.ensures.fault splits (omega (arith, room, one)))
 
 pub grow_split-returns-in_err-low-clause-fault : goal.grow_split-returns-in_err-low-clause-fault
 grow_split-returns-in_err-low-clause-fault t c = λ splits room.
     let one = c.requires.left in
     let count = c.in_ok-high.ensures.grown.count in
-    handed_on c.from_residual-in_err-low.result c.in_err-low.field-0.0 (IsFault c.args.problem.now c.args.cuts.now splits c.args.pivot_limit) c.from_residual-in_err-low.ensures.1 (c.in_err-low.ensures.fault splits (omega (arith, room, one, count)))
+    handed_on c.from_residual-in_err-low.result c.in_err-low.field-0.0 (IsLeafFault c.args.problem.now c.args.cuts.now splits c.args.pivot_limit) c.from_residual-in_err-low.ensures.1 (c.in_err-low.ensures.fault splits (omega (arith, room, one, count)))
 
 pub grow_split-returns-clause-grown : goal.grow_split-returns-clause-grown
 grow_split-returns-clause-grown t c =

@@ -1,11 +1,11 @@
 use Rattle.std.proofs.Common.{arith}
-use Rattle.branch_search.specs.Faults.{IsFault}
+use Rattle.branch_search.specs.Faults.{IsLeafFault}
 use Rattle.branch_search.proofs.Growth.{to_split_of, handed_on, room_at}
 use Rattle.branch_search.proofs.growing.grow_with.Goals as goal
 
 pub returns-in_err-leaf-clause-fault : goal.returns-in_err-leaf-clause-fault
 returns-in_err-leaf-clause-fault c = λ splits room.
-    handed_on c.from_residual.result c.in_err-leaf.field-0.0 (IsFault c.args.problem.now c.args.cuts.now splits c.args.pivot_limit) c.from_residual.ensures.1 (c.in_err-leaf.ensures.fault splits (omega (arith, room)))
+    handed_on c.from_residual.result c.in_err-leaf.field-0.0 (IsLeafFault c.args.problem.now c.args.cuts.now splits c.args.pivot_limit) c.from_residual.ensures.1 (c.in_err-leaf.ensures.fault splits (omega (arith, room)))
 
 pub returns-in-ToSplit-clause-fault : goal.returns-in-ToSplit-clause-fault
 returns-in-ToSplit-clause-fault c = λ splits room.
