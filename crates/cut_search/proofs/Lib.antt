@@ -1,1 +1,2 @@
-mod CutFaults
+mod CutsLeft
+mod RootCutsShown

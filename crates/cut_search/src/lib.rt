@@ -3,6 +3,7 @@
 
 mod by_cuts;
 mod plan;
+mod restoring;
 mod verdict;
 mod worth;
 

@@ -6,18 +6,16 @@ use Rattle.std.specs.List.{AllByRecursion}
 use Rattle.milp.specs.Form.{Entry}
 use Rattle.milp.specs.Problem.{Column, Problem}
 use Rattle.verdicts.specs.Certificate.{Two, TreeNode, Branch, Empty, Bound, Certificate}
-use Rattle.std.specs.Prelude.{Result, Ok, Err, IfErr}
+use Rattle.std.specs.Prelude.{Ok, Err}
 use Rattle.verdicts.specs.Proves.{Part, first_failing, verdict_tests, Proves}
-use Rattle.branch_search.specs.WholeFaults.{IsFault}
-use Rattle.branch_search.specs.Plain.{NoneInteger}
-use Rattle.branch_search.specs.declared.whole_fault.VerdictFault.{VerdictFault}
-use Rattle.branch_search.specs.declared.whole_fault.VerdictFault.TheVariants.{NoFit, PivotLimit, SplitLimit, NoMemory}
+use Rattle.partial_certificate.specs.Partial.{Partial}
+use Rattle.partial_certificate.specs.Shown.{best_tests, Passes}
 use Rattle.cert_check.specs.Outcome.{Acceptance, Refusal, Fault, outcome, outcome_of, part_of, trials}
 use Rattle.cert_check.specs.declared.part.CheckFault.{CheckFault}
 use Rattle.cert_check.specs.declared.part.Checked.{Checked}
 use Rattle.cert_check.specs.declared.part.Checked.TheVariants.{Accepted, Refused}
 use Rattle.cert_check.specs.declared.part.Part.{Part as CheckedPart}
-use Rattle.row_splits.specs.Searched.{again, continuous, IsSearched, IsFaultOf}
+use Rattle.row_splits.specs.Searched.{IsNotRestored}
 use Rattle.branch_search.specs.Columns as found
 use Rattle.row_columns.specs.Extended.{AreFormColumns, IsExtended}
 use Rattle.row_columns.specs.RowForms.{AreRowForms}
@@ -51,30 +49,23 @@ own_size q c h =
     let both = and_parts (c.rows == length q.rows) (c.columns == length q.columns) (passes_so ((c.rows == length q.rows) && (c.columns == length q.columns)) (first_failing (verdict_tests q c c.verdict)) Part.Size h) in
     eqb-true c.columns (length q.columns) both.1
 
+-- so has a partial certificate of which all tests hold
+own_partial_size : (q : Problem) (c : Partial) → Passes q c → c.columns ≡ length q.columns
+own_partial_size q c h =
+    let both = and_parts (c.rows == length q.rows) (c.columns == length q.columns) (passes_so ((c.rows == length q.rows) && (c.columns == length q.columns)) (first_failing (best_tests q c c.best)) Part.Size h) in
+    eqb-true c.columns (length q.columns) both.1
+
+-- there is a column for each form, and for each column of the problem without them
+all_columns : (p q : Problem) (forms : List (List Entry)) → IsExtended p forms q → length q.columns ≡ length forms + length p.columns
+all_columns p q forms h = ap length h.all_columns ∙ length-append h.columns p.columns ∙ ap (λ n. n + length p.columns) (columns_count forms h.columns h.are_columns)
+
 -- what is found has a number for each form and each column
 pub found_size : (p q : Problem) (forms : List (List Entry)) (c : Certificate) → IsExtended p forms q → Proves q c → c.columns ≡ length forms + length p.columns
-found_size p q forms c h proves =
-    own_size q c proves ∙ ap length h.all_columns ∙ length-append h.columns p.columns ∙ ap (λ n. n + length p.columns) (columns_count forms h.columns h.are_columns)
+found_size p q forms c h proves = own_size q c proves ∙ all_columns p q forms h
 
--- the cause of a fault in the problem that is searched
-pub fault_of : (rows : Bool) (p q : Problem) (splits pivots : ℕ) (fault : VerdictFault) → IsSearched rows p q → IsFault q splits pivots fault → IsFaultOf rows p splits pivots fault
-fault_of rows p q splits pivots (NoFit wanted site) searched h = (q, searched, h)
-fault_of rows p q splits pivots (PivotLimit wanted bases board) searched h = (q, searched, h)
-fault_of rows p q splits pivots (SplitLimit wanted board) searched h = (q, searched, h)
-fault_of rows p q splits pivots NoMemory searched h = tt
-
-pub fault_in : (rows : Bool) (p q : Problem) (splits pivots : ℕ) (r : Result Certificate VerdictFault) → IsSearched rows p q → IfErr r (IsFault q splits pivots) → IfErr r (IsFaultOf rows p splits pivots)
-fault_in rows p q splits pivots (Ok c) searched h = tt
-fault_in rows p q splits pivots (Err fault) searched h = fault_of rows p q splits pivots fault searched h
-
--- the problem itself is searched where no splits on rows are asked for, and where no column is integer
-pub itself : (rows : Bool) (p : Problem) → rows ≡ false → IsSearched rows p p
-itself false p h = refl
-itself true p h = cc
-
-pub continuous_itself : (rows : Bool) (p : Problem) → rows ≡ true → NoneInteger p.columns → IsSearched rows p p
-continuous_itself true p h none = continuous none refl
-continuous_itself false p h none = cc
+-- and so has what is shown
+pub shown_size : (p q : Problem) (forms : List (List Entry)) (c : Partial) → IsExtended p forms q → Passes q c → c.columns ≡ length forms + length p.columns
+shown_size p q forms c h passes = own_partial_size q c passes ∙ all_columns p q forms h
 
 -- a certificate that the checker refuses, or of which an operation does not fit, is not accepted
 pub refused : (p : Problem) (c : Certificate) (r : Checked) (part : CheckedPart) → r ≡ Refused part → outcome_of (Ok r) ≡ outcome (trials p c) → outcome (trials p c) ≢ Acceptance
@@ -84,10 +75,10 @@ refused p c (Refused other) part h is accepted = let never : Refusal (part_of ot
 pub unfit : (p : Problem) (c : Certificate) (e : CheckFault) → outcome_of (Err e) ≡ outcome (trials p c) → outcome (trials p c) ≢ Acceptance
 unfit p c e is accepted = let never : Fault (part_of e.part) e.fault ≡ Acceptance = is ∙ accepted in cc
 
--- the problem itself is searched again where what is found is not accepted once it is restored
+-- what is found can't be restored where it is not accepted then
 module _ (p q : Problem) (forms : List (List Entry)) (are_forms : AreRowForms p p.rows forms) (extended : IsExtended p forms q) (c : Certificate) (version : c.version ≡ Two) (splits : found.IsBySplitsOfColumns c) (accepted : outcome (trials q c) ≡ Acceptance) where
-  pub searched_again : (made : Certificate) → made ≡ restored p forms c → outcome (trials p made) ≢ Acceptance → IsSearched true p p
-  searched_again made is none = again (record {
+  pub not_restored : (made : Certificate) → made ≡ restored p forms c → outcome (trials p made) ≢ Acceptance → IsNotRestored p
+  not_restored made is none = record {
     forms = forms;
     are_forms = are_forms;
     problem = q;
@@ -96,4 +87,4 @@ module _ (p q : Problem) (forms : List (List Entry)) (are_forms : AreRowForms p 
     splits = by_columns c version splits;
     accepted = accepted;
     not_accepted = λ h. none (ap (λ d. outcome (trials p d)) is ∙ h);
-  }) refl
+  }

@@ -1,2 +1,3 @@
 mod ByRows
+mod Left
 pub mod Laws

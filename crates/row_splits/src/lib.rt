@@ -2,6 +2,8 @@
 #![tactic(auto)]
 
 mod by_rows;
+mod itself;
+mod restoring;
 mod verdict;
 
 pub use verdict::solve;

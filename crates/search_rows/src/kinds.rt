@@ -3,7 +3,7 @@ use crate::boards::played;
 use crate::certificates::{checked, deep, read_back};
 use crate::linear::{judged, solved};
 use crate::partials::{kind_named, partly_checked, partly_read_back};
-use crate::programs::{SearchBy, found_by_search, found_by_solve, shown_optimum, written_by_solve};
+use crate::programs::{SearchBy, Told, found_by_search, shown_optimum, told_by_solve};
 use crate::ranged::found_ranges;
 use crate::shown::shown_after;
 use crate::subsets::found_subset;
@@ -66,17 +66,37 @@ fn of_problem<R: Threads + Sync>(
         "check" => checked(alloc, problem, rest),
         "partial" => partly_checked(alloc, problem, rest),
         "search" => found_by_search(alloc, problem, rest),
-        "solve" => found_by_solve(rt, alloc, problem, SearchBy::Columns, rest),
-        "solve_by_rows" => found_by_solve(rt, alloc, problem, SearchBy::Rows, rest),
-        "solve_by_cuts" => found_by_solve(rt, alloc, problem, SearchBy::Cuts, rest),
-        "written" => written_by_solve(rt, alloc, problem, SearchBy::Columns, rest),
-        "written_by_rows" => written_by_solve(rt, alloc, problem, SearchBy::Rows, rest),
-        "written_by_cuts" => written_by_solve(rt, alloc, problem, SearchBy::Cuts, rest),
         "optimum" => shown_optimum(alloc, problem),
         "subset" => found_subset(alloc, problem, rest),
         "ranges" => found_ranges(alloc, problem, rest),
         "board" => played(alloc, problem, rest),
         "shown" => shown_after(alloc, problem, rest),
+        _ => of_search(rt, alloc, word, problem, rest),
+    }
+}
+
+// What is told of a search, and behind `_by_` what it splits on, or that it begins with cuts.
+fn of_search<R: Threads + Sync>(
+    rt: &R,
+    alloc: Global,
+    word: &str,
+    problem: &Instance,
+    limits: &str,
+) -> Result<String, AllocError> {
+    let (told, by) = word.split_once("_by_").unwrap_or((word, ""));
+    let by = search_by(by);
+    match told {
+        "solve" => told_by_solve(rt, alloc, problem, by, Told::Verdict, limits),
+        "written" => told_by_solve(rt, alloc, problem, by, Told::Certificate, limits),
+        "left" => told_by_solve(rt, alloc, problem, by, Told::Shown, limits),
         _ => "no such kind".to_string(alloc),
+    }
+}
+
+fn search_by(word: &str) -> SearchBy {
+    match word {
+        "rows" => SearchBy::Rows,
+        "cuts" => SearchBy::Cuts,
+        _ => SearchBy::Columns,
     }
 }

@@ -1,4 +1,5 @@
 // Integer programs, and problems of all kinds, with their verdicts; and optimal points of relaxations.
+use crate::shown::partial_words;
 use crate::texts::{cut, in_marks, numbers_of};
 use branch_search::{SearchFault, VerdictFault, Wanted, search};
 use candidate::{Candidate, ProposedOptimum, Proposer};
@@ -10,6 +11,7 @@ use search_tree::{Path, is_optimal};
 use shared_search::OpenGate;
 use std::alloc::{AllocError, Global};
 use std::thread::Threads;
+use stopped_search::Unsolved;
 
 // The limit of splits and that of steps.
 fn limits_of(words: &str) -> (usize, u32) {
@@ -64,39 +66,67 @@ fn plan_of(by: SearchBy, limits: &str) -> Plan {
     }
 }
 
-/// The verdict of any problem within limits, by splits of columns alone or of rows too, or by cuts, or why there is none and what was
-/// wanted.
-pub(crate) fn found_by_solve<R: Threads + Sync>(
+/// What is told of a search.
+#[derive(Clone, Copy)]
+pub(crate) enum Told {
+    /// The verdict, or why there is none and what was wanted.
+    Verdict,
+    /// The certificate that is written, or why there is no verdict and what was wanted.
+    Certificate,
+    /// What a search without a verdict has shown of the problem.
+    Shown,
+}
+
+/// What is told of the search for the verdict of any problem within limits, by splits of columns alone or of rows too, or by cuts.
+pub(crate) fn told_by_solve<R: Threads + Sync>(
     rt: &R,
     alloc: Global,
     problem: &Instance,
     by: SearchBy,
+    told: Told,
     limits: &str,
 ) -> Result<String, AllocError> {
     let verdict = solve(rt, alloc, problem, plan_of(by, limits), &OpenGate);
     let words = match &verdict {
-        Ok(certificate) => verdict_words(alloc, certificate),
-        Err(fault) => fault_words(alloc, fault),
+        Ok(certificate) => solved_words(alloc, certificate, told),
+        Err(unsolved) => unsolved_words(alloc, problem, unsolved, told),
     };
     std::mem::drop(verdict);
     words
 }
 
-/// The certificate that is written for any problem, or why there is none and what was wanted.
-pub(crate) fn written_by_solve<R: Threads + Sync>(
-    rt: &R,
+fn solved_words(
+    alloc: Global,
+    certificate: &Certificate,
+    told: Told,
+) -> Result<String, AllocError> {
+    match told {
+        Told::Certificate => certificate_words(alloc, certificate),
+        Told::Verdict | Told::Shown => verdict_words(alloc, certificate),
+    }
+}
+
+fn unsolved_words(
     alloc: Global,
     problem: &Instance,
-    by: SearchBy,
-    limits: &str,
+    unsolved: &Unsolved,
+    told: Told,
 ) -> Result<String, AllocError> {
-    let verdict = solve(rt, alloc, problem, plan_of(by, limits), &OpenGate);
-    let words = match &verdict {
-        Ok(certificate) => certificate_words(alloc, certificate),
-        Err(fault) => fault_words(alloc, fault),
-    };
-    std::mem::drop(verdict);
-    words
+    match told {
+        Told::Shown => left_words(alloc, problem, unsolved),
+        Told::Verdict | Told::Certificate => fault_words(alloc, &unsolved.fault),
+    }
+}
+
+fn left_words(
+    alloc: Global,
+    problem: &Instance,
+    unsolved: &Unsolved,
+) -> Result<String, AllocError> {
+    match &unsolved.shown {
+        None => "nothing".to_string(alloc),
+        Some(shown) => partial_words(alloc, problem, shown.get()),
+    }
 }
 
 fn certificate_words(alloc: Global, certificate: &Certificate) -> Result<String, AllocError> {

@@ -1,13 +1,17 @@
-use Rattle.row_splits.proofs.ByRows.{continuous_itself, fault_in, itself}
+use Rattle.std.proofs.Common.{true, false}
+use Rattle.row_splits.proofs.Left.{left_asked, left_continuous}
 use Rattle.row_splits.proofs.verdict.solve.Goals as goal
 
 pub returns-then-not-row_splits-clause-fault : goal.returns-then-not-row_splits-clause-fault
 returns-then-not-row_splits-clause-fault g c =
-    let p = c.args.problem.now in
-    fault_in c.args.row_splits p p c.args.split_limit c.args.pivot_limit c.solve_with_workers.result (itself c.args.row_splits p c.if-not-row_splits.true) c.solve_with_workers.ensures.fault
+    left_asked c.args.row_splits false c.args.problem.now c.args.split_limit c.args.pivot_limit c.solved_itself.result c.if-not-row_splits.true c.solved_itself.ensures.fault
 
 pub returns-then-has_no_integer_column-clause-fault : goal.returns-then-has_no_integer_column-clause-fault
 returns-then-has_no_integer_column-clause-fault g c =
     let p = c.args.problem.now in
-    fault_in c.args.row_splits p p c.args.split_limit c.args.pivot_limit c.solve.result
-    (continuous_itself c.args.row_splits p c.if-not-row_splits.false (c.has_no_integer_column.ensures.yes c.if-has_no_integer_column.true)) c.solve.ensures.fault
+    left_asked c.args.row_splits true p c.args.split_limit c.args.pivot_limit c.solved_alone.result c.if-not-row_splits.false
+    (left_continuous p (c.has_no_integer_column.ensures.yes c.if-has_no_integer_column.true) c.args.split_limit c.args.pivot_limit c.solved_alone.result c.solved_alone.ensures.fault)
+
+pub returns-clause-fault : goal.returns-clause-fault
+returns-clause-fault g c =
+    left_asked c.args.row_splits true c.args.problem.now c.args.split_limit c.args.pivot_limit c.solved_by_rows.result c.if-not-row_splits.false c.solved_by_rows.ensures.fault

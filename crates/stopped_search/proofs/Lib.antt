@@ -1,0 +1,4 @@
+mod Results
+mod OpenedAgain
+mod WithoutBest
+mod ShownParts
