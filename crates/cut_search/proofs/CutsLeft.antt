@@ -49,14 +49,14 @@ made_of f g h same (Some c) (Some m) all k l = joined_map f g h same all ∙ ap 
 module _ (cuts rows : Bool) (p r : Problem) (splits pivots : ℕ) (may : MayHaveCuts cuts p r) (f : Partial → Partial) (same : (c : Partial) → uncut cuts p r may c ≡ f c) where
   left_by : (u v : Unsolved) → v.fault ≡ u.fault → IfSome v.shown (λ made. option_map f u.shown ≡ Some made) → IsRowUnsolvedBy rows r splits pivots u → IsUnsolvedBy cuts rows p splits pivots v
   left_by u v e made h =
-    let searched : IsSearched cuts rows p h.problem = record { cut = r; may_have_cuts = may; is_searched = h.is_searched } in
-    record {
-      problem = h.problem;
-      is_searched = searched;
-      is_fault = subst (λ (fault : VerdictFault). IsFault h.problem splits pivots fault) (sym e) h.is_fault;
-      shown = subst (λ (fault : VerdictFault). IfSome v.shown (λ c. option_map (shown_of_search cuts rows p h.problem searched) (shown_at fault) ≡ Some c)) (sym e)
-      (made_of f (shown_of_rows rows r h.problem h.is_searched) (shown_of_search cuts rows p h.problem searched) (λ c. same (shown_of_rows rows r h.problem h.is_searched c)) u.shown v.shown (shown_at u.fault) h.shown made);
-    }
+      let searched : IsSearched cuts rows p h.problem = record { cut = r; may_have_cuts = may; is_searched = h.is_searched } in
+      record {
+        problem = h.problem;
+        is_searched = searched;
+        is_fault = subst (λ (fault : VerdictFault). IsFault h.problem splits pivots fault) (sym e) h.is_fault;
+        shown = subst (λ (fault : VerdictFault). IfSome v.shown (λ c. option_map (shown_of_search cuts rows p h.problem searched) (shown_at fault) ≡ Some c)) (sym e)
+            (made_of f (shown_of_rows rows r h.problem h.is_searched) (shown_of_search cuts rows p h.problem searched) (λ c. same (shown_of_rows rows r h.problem h.is_searched c)) u.shown v.shown (shown_at u.fault) h.shown made);
+      }
 
   nothing : (shown made : Option Partial) → shown ≡ None → IfSome made (λ c. option_map f shown ≡ Some c) → made ≡ None
   nothing shown None e h = refl

@@ -1,3 +1,2 @@
--- What other crates cite of certificates that are found, and of results.
+-- What other crates cite of certificates that are found.
 pub use Rattle.row_splits.proofs.ByRows.{own_size}
-pub use Rattle.row_splits.proofs.Left.{err_from, if_ok}

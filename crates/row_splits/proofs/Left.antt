@@ -1,6 +1,5 @@
 -- What searches leave that find no verdict, as what is left of the problem.
-use Rattle.std.proofs.Common.{◌≡◌, ◌∙◌, ℕ, Bool, true, false, [], refl, sym, ap, subst, Option, Some, None, IfSome, Result, Ok, Err, IfOk, IfErr, option_map}
-use Rattle.std.specs.Prelude.{IsErrAnd}
+use Rattle.std.proofs.Common.{◌≡◌, ◌∙◌, ℕ, Bool, true, false, [], refl, sym, ap, subst, Option, Some, None, IfSome, Result, Ok, Err, IfErr, option_map}
 use Rattle.milp.specs.Problem.{Problem}
 use Rattle.partial_certificate.specs.Partial.{Partial}
 use Rattle.partial_certificate.specs.Columns.{IsBySplitsOfColumns}
@@ -10,21 +9,10 @@ use Rattle.branch_search.specs.declared.whole_fault.VerdictFault.{VerdictFault}
 use Rattle.branch_search.specs.declared.whole_fault.VerdictFault.TheVariants.{NoFit, PivotLimit, SplitLimit, NoMemory}
 use Rattle.stopped_search.specs.Stopped.{shown_at}
 use Rattle.stopped_search.specs.declared.fault.Unsolved.{Unsolved}
+use Rattle.stopped_search.proofs.Results.{if_some}
 use Rattle.row_columns.specs.Extended.{HasRowColumns}
 use Rattle.row_columns.specs.Partials.{restored_partial}
 use Rattle.row_splits.specs.Searched.{by_rows, continuous, again, IsNotRestored, IsSearchedByRows, restored_of, shown_of_rows, IsUnsolvedBy, IsUnsolvedAt, IsUnsolved}
-
-pub err_from : {A E : Type 0} (r : Result A E) (e : E) (P : E → Type 0) → IsErrAnd r (λ d. d ≡ e) → P e → IfErr r P
-err_from (Ok x) e P h k = tt
-err_from (Err d) e P h k = subst P (sym h) k
-
-pub if_ok : {A E : Type 0} (r : Result A E) (P Q : A → Type 0) → ((x : A) → P x → Q x) → IfOk r P → IfOk r Q
-if_ok (Ok x) P Q f h = f x h
-if_ok (Err e) P Q f h = tt
-
-pub if_some : {A : Type 0} (o : Option A) (P Q : A → Type 0) → ((x : A) → P x → Q x) → IfSome o P → IfSome o Q
-if_some None P Q f h = tt
-if_some (Some x) P Q f h = f x h
 
 pub none_derived : (o : Option Partial) → IfSome o IsBySplitsOfColumns → IfSome o (λ c. c.derived ≡ [])
 none_derived o h = if_some o IsBySplitsOfColumns (λ c. c.derived ≡ []) (λ c k. k.derived) h
@@ -90,7 +78,7 @@ module _ (p : Problem) (by_itself : (q : Problem) → q ≡ p → IsSearchedByRo
     is_searched = by_itself h.problem h.is_searched;
     is_fault = h.is_fault;
     shown = if_some u.shown (λ c. option_map (shown_of_rows false p h.problem h.is_searched) (shown_at u.fault) ≡ Some c) (λ c. option_map (shown_of_rows true p h.problem (by_itself h.problem h.is_searched)) (shown_at u.fault) ≡ Some c)
-    (λ c k. same_mapped (shown_of_rows true p h.problem (by_itself h.problem h.is_searched)) (shown_of_rows false p h.problem h.is_searched) (same h.problem h.is_searched) (shown_at u.fault) ∙ k) h.shown;
+        (λ c k. same_mapped (shown_of_rows true p h.problem (by_itself h.problem h.is_searched)) (shown_of_rows false p h.problem h.is_searched) (same h.problem h.is_searched) (shown_at u.fault) ∙ k) h.shown;
   }
 
   turned_at : (u : Unsolved) (fault : VerdictFault) → IsUnsolvedAt fault false p splits pivots u → IsUnsolvedAt fault true p splits pivots u

@@ -146,14 +146,6 @@ fn from_found<R: Threads + Sync, G: Gate + Sync>(
             workers,
             gate,
         ),
-        Err(_) => solved_itself(
-            rt,
-            alloc,
-            problem,
-            split_limit,
-            pivot_limit,
-            workers,
-            gate,
-        ),
+        Err(_) => solved_itself(rt, alloc, problem, split_limit, pivot_limit, workers, gate),
     }
 }

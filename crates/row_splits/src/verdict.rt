@@ -46,15 +46,7 @@ pub fn solve<R: Threads + Sync, G: Gate + Sync>(
     ensures unlimited { pivot_limit ≡ 0 → IfErr result (λ u. IsNotByPivots u.fault) }
 {
     if !row_splits {
-        return solved_itself(
-            rt,
-            alloc,
-            problem,
-            split_limit,
-            pivot_limit,
-            workers,
-            gate,
-        );
+        return solved_itself(rt, alloc, problem, split_limit, pivot_limit, workers, gate);
     }
     if has_no_integer_column(problem) {
         return solved_alone(alloc, problem, split_limit, pivot_limit);

@@ -1,4 +1,4 @@
-mod Results
+pub mod Results
 mod OpenedAgain
 mod WithoutBest
 mod ShownParts

@@ -1,5 +1,5 @@
 -- What the board of a stopped search has shown, as something shown of the problem.
-use Rattle.std.proofs.Common.{◌≡◌, ◌∙◌, ℕ, [], ap, sym, subst, Option, Some, IfSome, Result, IfOk}
+use Rattle.std.proofs.Common.{◌≡◌, ◌∙◌, [], ap, sym, subst}
 use Rattle.std.specs.List.{AllByRecursion}
 use Rattle.milp.specs.Problem.{Problem}
 use Rattle.partial_certificate.specs.Partial.{Partial}
@@ -7,11 +7,8 @@ use Rattle.partial_certificate.specs.Columns.{IsOfColumns, IsBySplitsOfColumns}
 use Rattle.partial_certificate.specs.Shown.{Passes}
 use Rattle.search_tree.specs.Board.{Board}
 use Rattle.tree_pool.specs.Shown.{shown_of}
-use Rattle.branch_search.specs.WholeFaults.{without_objective, searched, IsFault}
-use Rattle.branch_search.specs.declared.whole_fault.Wanted.{Wanted}
-use Rattle.branch_search.specs.declared.whole_fault.VerdictFault.{VerdictFault}
-use Rattle.stopped_search.specs.Stopped.{without_best, shown_for, shown_at}
-use Rattle.stopped_search.proofs.Results.{if_some}
+use Rattle.branch_search.specs.WholeFaults.{without_objective}
+use Rattle.stopped_search.specs.Stopped.{without_best}
 use Rattle.stopped_search.proofs.OpenedAgain.{nodes_columns}
 use Rattle.stopped_search.proofs.WithoutBest.{passes_without_best}
 

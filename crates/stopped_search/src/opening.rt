@@ -40,11 +40,7 @@ fn opened_tree(alloc: Global, tree: &PartialTree) -> Result<PartialTree, AllocEr
 }
 
 // Adds the node, or a leaf that is left to do.
-fn add_opened(
-    alloc: Global,
-    made: &mut PartialTree,
-    node: &PartialNode,
-) -> Result<(), AllocError>
+fn add_opened(alloc: Global, made: &mut PartialTree, node: &PartialNode) -> Result<(), AllocError>
     ensures { OnOk result (made.new ≡ made.old ++ open_again (partial_of node.now) ∷ []) }
 {
     match kept_node(alloc, node)? {

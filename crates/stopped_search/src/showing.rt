@@ -63,11 +63,7 @@ fn boxed(
     Boxed::new(alloc, shown)
 }
 
-fn shown_for(
-    alloc: Global,
-    wanted: Wanted,
-    board: &Board,
-) -> Result<PartialCertificate, AllocError>
+fn shown_for(alloc: Global, wanted: Wanted, board: &Board) -> Result<PartialCertificate, AllocError>
     ensures shown { IfOk result (λ c. c ≡ shown_for wanted board.now) }
     ensures passes { (p : Problem) → board.now.problem ≡ searched p wanted → board.now.cuts ≡ [] → IfOk result (Passes p) }
     ensures columns { board.now.cuts ≡ [] → IfOk result IsBySplitsOfColumns }
