@@ -1,5 +1,5 @@
 -- Where all tests of a partial certificate hold of a problem without its objective, they hold of the problem itself once the best point is left out.
-use Rattle.std.proofs.Common.{◌≡◌, ◌∙◌, ℕ, ◌+◌, List, [], ◌∷◌, ◌++◌, map, slice_get, Bool, true, ◌&&◌, ◌==◌, refl, sym, ap, subst, Option, Some, None, length}
+use Rattle.std.proofs.Common.{◌≡◌, ◌∙◌, ℕ, ◌+◌, List, [], ◌∷◌, ◌++◌, map, slice_get, Bool, true, ◌&&◌, ◌==◌, refl, sym, ap, Option, Some, None, length}
 use Rattle.rational.specs.Rational.{Rational}
 use Rattle.rational.specs.Compare.{is_same, is_whole}
 use Rattle.milp.specs.Form.{Entry}
