@@ -1,11 +1,11 @@
 use Rattle.row_splits.proofs.Left.{left_by_rows}
 use Rattle.row_splits.proofs.restoring.without_row_columns.Goals as goal
 
-pub restored_shown-requires-clause-columns : goal.restored_shown-requires-clause-columns
-restored_shown-requires-clause-columns c = c.unsolved-fault.ensures.columns c.args.extension.now.problem c.args.split_limit c.args.pivot_limit c.requires.fault
+pub restored_shown-shown-requires-clause-columns : goal.restored_shown-shown-requires-clause-columns
+restored_shown-shown-requires-clause-columns c = c.unsolved-fault.ensures.columns c.args.extension.now.problem c.args.split_limit c.args.pivot_limit c.requires.fault
 
-pub restored_shown-requires-clause-passes : goal.restored_shown-requires-clause-passes
-restored_shown-requires-clause-passes c = c.unsolved-fault.ensures.passes c.args.extension.now.problem c.args.split_limit c.args.pivot_limit c.requires.fault
+pub restored_shown-shown-requires-clause-passes : goal.restored_shown-shown-requires-clause-passes
+restored_shown-shown-requires-clause-passes c = c.unsolved-fault.ensures.passes c.args.extension.now.problem c.args.split_limit c.args.pivot_limit c.requires.fault
 
 pub returns-clause-fault : goal.returns-clause-fault
 returns-clause-fault c =
