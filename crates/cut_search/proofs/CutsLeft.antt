@@ -14,7 +14,7 @@ use Rattle.cut_rows.specs.Partials.{restored_partial}
 use Rattle.root_cuts.specs.RootCuts.{AreRootCuts}
 use Rattle.row_splits.specs.Searched.{IsUnsolvedBy as IsRowUnsolvedBy, IsUnsolvedAt as IsRowUnsolvedAt, IsUnsolved as IsRowUnsolved, shown_of_rows}
 use Rattle.row_splits.proofs.Laws.{own_size}
-use Rattle.cut_search.specs.Searched.{IsWithCuts, itself, with_cuts, MayHaveCuts, uncut, IsSearched, shown_of_search, IsUnsolvedBy, IsUnsolvedAt, IsUnsolved}
+use Rattle.cut_search.specs.Searched.{itself, with_cuts, MayHaveCuts, uncut, IsSearched, shown_of_search, IsUnsolvedBy, IsUnsolvedAt, IsUnsolved}
 
 -- ---- the problem itself, or with cuts
 
@@ -23,6 +23,7 @@ by_itself false p = refl
 by_itself true p = itself refl
 
 uncut_itself : (cuts : Bool) (p : Problem) (c : Partial) → uncut cuts p p (by_itself cuts p) c ≡ c
+unfolding by_itself
 uncut_itself false p c = refl
 uncut_itself true p c = refl
 
@@ -31,6 +32,7 @@ behind_cuts true p r cuts e are is = with_cuts cuts are is
 behind_cuts false p r cuts e are is = cc
 
 uncut_behind : (asked : Bool) (p r : Problem) (cuts : List Derived) (e : asked ≡ true) (are : AreRootCuts p cuts) (is : IsCutProblem p cuts r) (c : Partial) → uncut asked p r (behind_cuts asked p r cuts e are is) c ≡ restored_partial p cuts c
+unfolding behind_cuts
 uncut_behind true p r cuts e are is c = refl
 uncut_behind false p r cuts e are is c = cc
 

@@ -1,6 +1,5 @@
 -- What holds of results and options.
-use Rattle.std.proofs.Common.{◌≡◌, Result, Ok, Err, IfOk, IfErr, Option, Some, None, IfSome, sym, subst}
-use Rattle.std.specs.Prelude.{IsErrAnd}
+use Rattle.std.proofs.Common.{◌≡◌, Result, Ok, Err, IfOk, Option, Some, None, IfSome, sym, subst}
 use Rattle.std.specs.Result.{result_ok}
 
 pub if_ok : {A E : Type 0} (r : Result A E) (P Q : A → Type 0) → ((x : A) → P x → Q x) → IfOk r P → IfOk r Q
@@ -20,8 +19,3 @@ made_so (Err e) x P is h = tt
 pub some_of : {A E : Type 0} (r : Result A E) (o : Option A) (P : A → Type 0) → o ≡ result_ok r → IfOk r P → IfSome o P
 some_of {A} (Ok x) o P is h = subst (λ (a : Option A). IfSome a P) (sym is) h
 some_of {A} (Err e) o P is h = subst (λ (a : Option A). IfSome a P) (sym is) tt
-
--- a fault that is handed on
-pub err_from : {A E : Type 0} (r : Result A E) (e : E) (P : E → Type 0) → IsErrAnd r (λ d. d ≡ e) → P e → IfErr r P
-err_from (Ok x) e P h k = tt
-err_from (Err d) e P h k = subst P (sym h) k
