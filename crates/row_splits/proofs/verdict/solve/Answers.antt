@@ -11,7 +11,3 @@ returns-then-has_no_integer_column-clause-fault g c =
     let p = c.args.problem.now in
     left_asked c.args.row_splits true p c.args.split_limit c.args.pivot_limit c.solved_alone.result c.if-not-row_splits.false
     (left_continuous p (c.has_no_integer_column.ensures.yes c.if-has_no_integer_column.true) c.args.split_limit c.args.pivot_limit c.solved_alone.result c.solved_alone.ensures.fault)
-
-pub returns-clause-fault : goal.returns-clause-fault
-returns-clause-fault g c =
-    left_asked c.args.row_splits true c.args.problem.now c.args.split_limit c.args.pivot_limit c.solved_by_rows.result c.if-not-row_splits.false c.solved_by_rows.ensures.fault
