@@ -9,7 +9,7 @@ use Rattle.glpsol_cli.specs.Asked.{ToldNames, IsInTurn}
 use Rattle.glpsol_cli.specs.Pieces.{Piece, Outside, AllWritten, IsWrittenInPart, Part}
 use Rattle.glpsol_cli.specs.Meaning.{HasDone, HasFound}
 use Rattle.glpsol_cli.specs.Texts.{IsTableInTurn, OfPieces, OfTexts}
-use Rattle.glpsol_cli.specs.Cause.{Cause, EndsBehind, EndsWithoutRanges, HasRanges, HasSubset, LacksRanges, IsNotLinear, IsProved, IsReached, IsTranslated, OfCertificate, IsAccepted, IsRefusedAt, IsNoCertificate, IsOverflow, IsUndecided, RoseAt}
+use Rattle.glpsol_cli.specs.Cause.{Cause, EndsBehind, EndsWithoutRanges, HasRanges, HasSubset, LacksRanges, IsNotLinear, IsProved, IsReached, IsTested, IsTranslated, OfCertificate, IsAccepted, IsRefusedAt, IsNoCertificate, IsOverflow, IsUndecided, RoseAt}
 use Rattle.glpsol_cli.specs.Meaning.{IsRefused}
 use Rattle.glpsol_cli.specs.Written.{ThenLine, Written, line_of}
 use Rattle.glpsol_cli.specs.Stages.{AreRead, IsStop, IsUnread, WrittenSince, stop_answer, unread_answer}
@@ -17,7 +17,7 @@ use Rattle.glpsol_cli.specs.Together.{CauseIn, ReachedIn, PiecesIn}
 use Rattle.glpsol_cli.specs.declared.answer.Answer.{Answer}
 use Rattle.glpsol_cli.specs.declared.answer.Answer.TheVariants.{Optimal, Ranged, Infeasible, Irreducible, Unbounded, Translated, Accepted, Usage, Missing, OpenFault, ReadFault, WriteFault, TooLong, BadText, FaultBehindSolve, Unranged, BadCertificate, NotLinear, Overflow, Undecided, Refused, NoMemory}
 use Rattle.glpsol_cli.specs.declared.answer.Reached.{Reached}
-use Rattle.glpsol_cli.specs.declared.answer.Reached.TheVariants.{Nothing, Executed, Size, Acceptance, Verdict, Subset, Ranges}
+use Rattle.glpsol_cli.specs.declared.answer.Reached.TheVariants.{Nothing, Executed, Size, Shown, Acceptance, Verdict, Subset, Ranges}
 use Rattle.glpsol_cli.specs.declared.answer.Target.{Target}
 use Rattle.glpsol_cli.specs.declared.answer.Target.TheVariants.{Out, File as FileTarget}
 use Rattle.glpsol_cli.specs.declared.stop.Stop.{Stop}
@@ -85,6 +85,7 @@ module _ (words : List (List ℕ)) (told : ToldNames) (s : Settings) (texts : Li
   reached_of_texts Nothing h = tt
   reached_of_texts Executed h = of_these (HasDone (λ done. Unit {0})) h
   reached_of_texts Size h = of_these IsTranslated h
+  reached_of_texts (Shown c) h = of_these (IsTested c) h
   reached_of_texts (Acceptance c) h = of_these (OfCertificate (IsAccepted c)) h
   reached_of_texts (Verdict c) h = of_these (IsProved c) h
   reached_of_texts (Subset c w) h = of_these (HasSubset c w) h
@@ -118,6 +119,7 @@ module _ (words : List (List ℕ)) (told : ToldNames) (s : Settings) (texts : Li
   pieces_of_texts Nothing P h = h
   pieces_of_texts Executed P h = of_these (HasDone P) h
   pieces_of_texts Size P h = of_these (HasFound Size P) h
+  pieces_of_texts (Shown c) P h = of_these (HasFound (Shown c) P) h
   pieces_of_texts (Acceptance c) P h = of_these (HasFound (Acceptance c) P) h
   pieces_of_texts (Verdict c) P h = of_these (HasFound (Verdict c) P) h
   pieces_of_texts (Subset c w) P h = of_these (HasFound (Subset c w) P) h

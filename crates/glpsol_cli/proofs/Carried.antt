@@ -10,8 +10,9 @@ use Rattle.verdicts.specs.Certificate as kind
 use Rattle.gmpl_solution.specs.Solution.{Duals}
 use Rattle.gmpl_generate.specs.declared.fault.ModelFault.{ModelFault}
 use Rattle.dual_values.specs.Duals.{duals_of}
+use Rattle.stopped_search.specs.declared.fault.Unsolved.{Unsolved}
 use Rattle.outside.specs.Told.{AppendsPrefix}
-use Rattle.branch_search.specs.declared.whole_fault.VerdictFault.TheVariants.{NoFit as SearchNoFit, PivotLimit, SplitLimit, NoMemory as SearchNoMemory}
+use Rattle.infeasible_subset.specs.declared.fault.SubsetFault.{SubsetFault}
 use Rattle.infeasible_subset.specs.declared.fault.SubsetFault.TheVariants.{NoFit as SubsetNoFit, PivotLimit as SubsetPivotLimit, NoMemory as SubsetNoMemory}
 use Rattle.infeasible_subset.specs.declared.witness.Subset.{Subset as FoundSubset}
 use Rattle.exact_ranges.specs.Faults.{IsFault as IsRangeFault, IsNotByPivots as IsRangeNotByPivots}
@@ -22,17 +23,17 @@ use Rattle.exact_ranges.specs.declared.fault.RangeFault.{RangeFault}
 use Rattle.solution_writer.specs.Report.{IsShownPoint}
 use Rattle.command_line.specs.declared.settings.Settings.{Settings}
 use Rattle.command_line.specs.declared.settings.Task.{Task}
-use Rattle.glpsol_cli.specs.Asked.{ToldNames, sources_of, ranges_file, wants_ranges}
-use Rattle.glpsol_cli.specs.Pieces.{Piece, Outside, SameNames, WrittenUpTo, Whole}
+use Rattle.glpsol_cli.specs.Asked.{ToldNames, certificate_file, sources_of, ranges_file, wants_ranges}
+use Rattle.glpsol_cli.specs.Pieces.{Piece, Outside, Extent, Part, SameNames, UpTo, WrittenTo, WrittenUpTo, Whole}
 use Rattle.glpsol_cli.specs.Meaning.{Behind, Declared, End, IsAsked, Meaning, behind_at, behind_of, behind_with, found_pieces, meaning_in, meaning_of, saved_in}
 use Rattle.glpsol_cli.specs.Cause.{AreRanges, Cause, EndsBehind, HasRanges, HasSubset, LacksRanges, IsAccepted, IsProved, IsTranslated, OfCertificate, reached_of}
 use Rattle.glpsol_cli.specs.Written.{Written, ThenLine, extent_of, line_of}
-use Rattle.glpsol_cli.specs.Stages.{ComesTo, same, to_ranges, EndsWriting, HasFailed, IsEndAtBest, without_ranges, ranged, unranged, ranges_unwritten, IsEndBehind, at_best, at_fault, unwritten, IsEndIn, IsFinding, IsKept, IsPublished, IsStop, IsSubject, IsUnfound, LeftIn, LeftWritten, RestWritten, TellsBehind, behind_in, pieces_of, range_pieces, reached_by, stop_answer, unfound_answer, unwritten_answer}
+use Rattle.glpsol_cli.specs.Stages.{ComesTo, same, to_ranges, EndsWriting, HasFailed, IsEndAtBest, without_ranges, ranged, unranged, ranges_unwritten, IsEndBehind, at_best, at_fault, unwritten, IsEndIn, IsFinding, IsKept, IsPublished, IsStop, IsSubject, IsUnsolvedAnswer, LeftIn, LeftWritten, OfUnsolved, RestWritten, TellsBehind, behind_in, check_answer, left_pieces, pieces_of, range_pieces, reached_by, stop_answer, subset_answer, unwritten_answer}
 use Rattle.glpsol_cli.specs.Together.{CauseIn, PiecesIn, ReachedIn}
 use Rattle.glpsol_cli.specs.declared.answer.Answer.{Answer}
-use Rattle.glpsol_cli.specs.declared.answer.Answer.TheVariants.{Infeasible, Irreducible, Unbounded, Translated, Accepted, BadText, NoMemory}
+use Rattle.glpsol_cli.specs.declared.answer.Answer.TheVariants.{Infeasible, Irreducible, Unbounded, Translated, Accepted, BadText, NotLinear, NoMemory}
 use Rattle.glpsol_cli.specs.declared.answer.Reached.{Reached}
-use Rattle.glpsol_cli.specs.declared.answer.Reached.TheVariants.{Nothing, Executed, Size, Acceptance, Verdict, Subset, Ranges}
+use Rattle.glpsol_cli.specs.declared.answer.Reached.TheVariants.{Nothing, Executed, Size, Shown, Acceptance, Verdict, Subset, Ranges}
 use Rattle.glpsol_cli.specs.declared.answer.TextFault.{TextFault}
 use Rattle.glpsol_cli.specs.declared.behind.Behind.{Behind as BehindHeld}
 use Rattle.glpsol_cli.specs.declared.execution.ExecutionEnd.TheVariants.{Problem as AtProblem, Fault as AtFault}
@@ -42,11 +43,11 @@ use Rattle.glpsol_cli.specs.declared.found.Finding.TheVariants.{Size as SizeFoun
 use Rattle.glpsol_cli.specs.declared.answer.Target.TheVariants.{Out}
 use Rattle.glpsol_cli.specs.declared.publish.PublishFault.{PublishFault}
 use Rattle.glpsol_cli.specs.declared.publish.PublishFault.TheVariants.{Write, CutOutput, NoMemory as PublishNoMemory}
+use Rattle.glpsol_cli.specs.declared.stop.CheckStop.{CheckStop}
 use Rattle.glpsol_cli.specs.declared.stop.CheckStop.TheVariants.{BadText as CheckBadText, Refused as CheckRefused, NoFit as CheckNoFit, NoMemory as CheckNoMemory}
 use Rattle.glpsol_cli.specs.declared.stop.Stop.{Stop}
-use Rattle.glpsol_cli.specs.declared.stop.Unfound.{Unfound}
-use Rattle.glpsol_cli.specs.declared.stop.Unfound.TheVariants.{Solve, Check, Subset as SubsetStop, NotLinear as NotLinearStop}
 use Rattle.glpsol_cli.proofs.Writing.{nothing, none_written, line_after, line_alone, no_line, ends_of_more}
+use Rattle.glpsol_cli.proofs.Leaving.{IsOfLimit, of_unsolved, unsolved_is}
 use Rattle.glpsol_cli.proofs.Reports.{best_shown}
 use Rattle.glpsol_cli.proofs.Parts.{enough_read, means_of}
 use Rattle.glpsol_cli.proofs.Answers.{stop_cause, stop_written}
@@ -100,6 +101,15 @@ module _ (s : Settings) (texts : List (List ℕ)) where
     found = h.found;
     are = h.are;
     has = subst (λ (n : Meaning). Q (n.done ++ (h.found ++ (behind_of s.task h.meaning Size).pieces))) (some_same (sym means ∙ h.means)) (f (h.found ++ (behind_of s.task h.meaning Size).pieces) h.has);
+  }
+  left_in m means (Shown c) P Q f h = record {
+    meaning = h.meaning;
+    means = h.means;
+    problem = h.problem;
+    end = h.end;
+    found = h.found;
+    are = h.are;
+    has = subst (λ (n : Meaning). Q (n.done ++ (h.found ++ (behind_of s.task h.meaning (Shown c)).pieces))) (some_same (sym means ∙ h.means)) (f (h.found ++ (behind_of s.task h.meaning (Shown c)).pieces) h.has);
   }
   left_in m means (Acceptance c) P Q f h = record {
     meaning = h.meaning;
@@ -172,43 +182,80 @@ module _ (s : Settings) (texts : List (List ℕ)) (p : Problem) (later : Option 
   executed : ReachedIn s texts Executed
   executed = record { meaning = meaning_in s subject.text subject.data_texts subject.tables; means = subject.means; has = tt }
 
-  unfound_is : (files_rose out_rose : Type 0) (unfound : Unfound) → IsUnfound unfound s texts → CauseIn s texts files_rose out_rose (unfound_answer unfound)
-  unfound_is files_rose out_rose (Solve (SearchNoFit wanted site)) h = h
-  unfound_is files_rose out_rose (Solve (PivotLimit wanted bases board)) h = h
-  unfound_is files_rose out_rose (Solve (SplitLimit wanted board)) h = h
-  unfound_is files_rose out_rose (Solve SearchNoMemory) h = executed
-  unfound_is files_rose out_rose (Check (CheckBadText fault)) h = h
-  unfound_is files_rose out_rose (Check (CheckRefused part)) h = h
-  unfound_is files_rose out_rose (Check (CheckNoFit f)) h = h
-  unfound_is files_rose out_rose (Check CheckNoMemory) h = executed
-  unfound_is files_rose out_rose (SubsetStop (SubsetNoFit stuck)) h = h
-  unfound_is files_rose out_rose (SubsetStop (SubsetPivotLimit long)) h = h
-  unfound_is files_rose out_rose (SubsetStop SubsetNoMemory) h = executed
-  unfound_is files_rose out_rose NotLinearStop h = h
+  check_line : (taken taken' : Option (List ℕ)) (told : ToldNames) (stop : CheckStop) → AppendsPrefix taken taken' (line_of (check_answer stop))
+      → LeftWritten s texts (record { taken = taken; told = told }) (record { taken = taken'; told = told }) (check_answer stop)
+  check_line taken taken' told (CheckBadText fault) line = line_alone _ taken taken' told line
+  check_line taken taken' told (CheckRefused part) line = line_alone _ taken taken' told line
+  check_line taken taken' told (CheckNoFit f) line = line_alone _ taken taken' told line
+  check_line taken taken' told CheckNoMemory line = inl (line_alone _ taken taken' told line)
 
-  unfound_line : (taken taken' : Option (List ℕ)) (told : ToldNames) (unfound : Unfound) → AppendsPrefix taken taken' (line_of (unfound_answer unfound))
-      → LeftWritten s texts (record { taken = taken; told = told }) (record { taken = taken'; told = told }) (unfound_answer unfound)
-  unfound_line taken taken' told (Solve (SearchNoFit wanted site)) line = line_alone _ taken taken' told line
-  unfound_line taken taken' told (Solve (PivotLimit wanted bases board)) line = line_alone _ taken taken' told line
-  unfound_line taken taken' told (Solve (SplitLimit wanted board)) line = line_alone _ taken taken' told line
-  unfound_line taken taken' told (Solve SearchNoMemory) line = inl (line_alone _ taken taken' told line)
-  unfound_line taken taken' told (Check (CheckBadText fault)) line = line_alone _ taken taken' told line
-  unfound_line taken taken' told (Check (CheckRefused part)) line = line_alone _ taken taken' told line
-  unfound_line taken taken' told (Check (CheckNoFit f)) line = line_alone _ taken taken' told line
-  unfound_line taken taken' told (Check CheckNoMemory) line = inl (line_alone _ taken taken' told line)
-  unfound_line taken taken' told (SubsetStop (SubsetNoFit stuck)) line = line_alone _ taken taken' told line
-  unfound_line taken taken' told (SubsetStop (SubsetPivotLimit long)) line = line_alone _ taken taken' told line
-  unfound_line taken taken' told (SubsetStop SubsetNoMemory) line = inl (line_alone _ taken taken' told line)
-  unfound_line taken taken' told NotLinearStop line = line_alone _ taken taken' told line
+  subset_line : (taken taken' : Option (List ℕ)) (told : ToldNames) (fault : SubsetFault) → AppendsPrefix taken taken' (line_of (subset_answer fault))
+      → LeftWritten s texts (record { taken = taken; told = told }) (record { taken = taken'; told = told }) (subset_answer fault)
+  subset_line taken taken' told (SubsetNoFit stuck) line = line_alone _ taken taken' told line
+  subset_line taken taken' told (SubsetPivotLimit long) line = line_alone _ taken taken' told line
+  subset_line taken taken' told SubsetNoMemory line = inl (line_alone _ taken taken' told line)
 
-  module _ (unfound : Unfound) (made answer : Answer) (means : made ≡ unfound_answer unfound) (told_is : answer ≡ made) where
-    pub unfound_cause : (files_rose out_rose : Type 0) → IsUnfound unfound s texts → CauseIn s texts files_rose out_rose answer
-    unfound_cause files_rose out_rose h = subst (CauseIn s texts files_rose out_rose) (sym (told_is ∙ means)) (unfound_is files_rose out_rose unfound h)
-
-    pub unfound_written : (taken taken' : Option (List ℕ)) (told : ToldNames) → AppendsPrefix taken taken' (line_of made) → LeftWritten s texts (record { taken = taken; told = told }) (record { taken = taken'; told = told }) answer
-    unfound_written taken taken' told line =
+  -- an answer of which a line is told, and nothing else is written
+  module _ (built made answer : Answer) (means : made ≡ built) (told_is : answer ≡ made) where
+    told_written : (taken taken' : Option (List ℕ)) (told : ToldNames)
+        → (AppendsPrefix taken taken' (line_of built) → LeftWritten s texts (record { taken = taken; told = told }) (record { taken = taken'; told = told }) built)
+        → AppendsPrefix taken taken' (line_of made) → LeftWritten s texts (record { taken = taken; told = told }) (record { taken = taken'; told = told }) answer
+    told_written taken taken' told written line =
         subst (LeftWritten s texts (record { taken = taken; told = told }) (record { taken = taken'; told = told })) (sym (told_is ∙ means))
-        (unfound_line taken taken' told unfound (subst (λ a. AppendsPrefix taken taken' (line_of a)) means line))
+        (written (subst (λ a. AppendsPrefix taken taken' (line_of a)) means line))
+
+  module _ (stop : CheckStop) (made answer : Answer) (means : made ≡ check_answer stop) (told_is : answer ≡ made) where
+    pub unaccepted_written : (taken taken' : Option (List ℕ)) (told : ToldNames) → AppendsPrefix taken taken' (line_of made) → LeftWritten s texts (record { taken = taken; told = told }) (record { taken = taken'; told = told }) answer
+    unaccepted_written taken taken' told line = told_written (check_answer stop) made answer means told_is taken taken' told (check_line taken taken' told stop) line
+
+  module _ (fault : SubsetFault) (made answer : Answer) (means : made ≡ subset_answer fault) (told_is : answer ≡ made) where
+    pub unreduced_written : (taken taken' : Option (List ℕ)) (told : ToldNames) → AppendsPrefix taken taken' (line_of made) → LeftWritten s texts (record { taken = taken; told = told }) (record { taken = taken'; told = told }) answer
+    unreduced_written taken taken' told line = told_written (subset_answer fault) made answer means told_is taken taken' told (subset_line taken taken' told fault) line
+
+  pub not_linear_written : (answer : Answer) → answer ≡ NotLinear → (taken taken' : Option (List ℕ)) (told : ToldNames) → AppendsPrefix taken taken' (line_of NotLinear) → LeftWritten s texts (record { taken = taken; told = told }) (record { taken = taken'; told = told }) answer
+  not_linear_written answer is taken taken' told line = subst (LeftWritten s texts (record { taken = taken; told = told }) (record { taken = taken'; told = told })) (sym is) (line_alone (line_of NotLinear) taken taken' told line)
+
+  -- ---- from a search without a verdict on
+
+  declares_at : (m : Meaning) → meaning_of s texts ≡ Some m → m.end ≡ Declared p
+  declares_at m means = ap (λ (n : Meaning). n.end) (some_same (sym means ∙ subject.means)) ∙ subject.declares
+
+  -- what is left to be written once this was reached
+  left_at : (r : Reached) → IsOfLimit r → (P : List Piece → Type 0) → P (left_pieces s.task r) → LeftIn s texts r P
+  left_at Nothing is P h = absurd is
+  left_at Executed is P h = h
+  left_at Size is P h = absurd is
+  left_at (Shown c) is P h =
+      let m : Meaning = meaning_in s subject.text subject.data_texts subject.tables in
+      record {
+        meaning = m;
+        means = subject.means;
+        problem = p;
+        end = declares_at m subject.means;
+        found = left_pieces s.task (Shown c);
+        are = refl;
+        has = subst P (sym (append-nil (left_pieces s.task (Shown c)))) h;
+      }
+  left_at (Acceptance c) is P h = absurd is
+  left_at (Verdict c) is P h = absurd is
+  left_at (Subset c w) is P h = absurd is
+  left_at (Ranges c r) is P h = absurd is
+
+  then_line : (extent : Extent) (line : List ℕ) (ps : List Piece) (old middle : Outside) (taken : Option (List ℕ)) → WrittenTo extent ps old middle → AppendsPrefix middle.taken taken line → ThenLine extent line old (record { taken = taken; told = middle.told }) ps
+  then_line Whole line ps old middle taken written told_line = (middle, written, (told_line, λ name. refl))
+  then_line (UpTo target) line ps old middle taken written told_line = (middle, written, (told_line, λ name. refl))
+  then_line Part line ps old middle taken written told_line = inl (middle, written, (told_line, λ name. refl))
+
+  module _ (u : Unsolved) (made answer : Answer) (is : IsUnsolvedAnswer (certificate_file s.task) u.fault u.shown made) (told_is : answer ≡ made) where
+    pub unsolved_cause : (files_rose out_rose : Type 0) → OfUnsolved u s texts → CauseIn s texts files_rose out_rose answer
+    unsolved_cause files_rose out_rose h = subst (CauseIn s texts files_rose out_rose) (sym told_is) (unsolved_is s texts u made h executed is files_rose out_rose)
+
+    pub unsolved_written : (old middle : Outside) (taken : Option (List ℕ)) → WrittenTo (extent_of made) (left_pieces s.task (reached_of made)) old middle → AppendsPrefix middle.taken taken (line_of made) → LeftWritten s texts old (record { taken = taken; told = middle.told }) answer
+    unsolved_written old middle taken written line =
+        let new : Outside = record { taken = taken; told = middle.told } in
+        subst (LeftWritten s texts old new) (sym told_is)
+        (left_at (reached_of made) (of_unsolved (certificate_file s.task) u.fault u.shown made is) (ThenLine (extent_of made) (line_of made) old new)
+        (then_line (extent_of made) (line_of made) (left_pieces s.task (reached_of made)) old middle taken written line))
 
   -- ---- from what is found on
 
@@ -218,19 +265,16 @@ module _ (s : Settings) (texts : List (List ℕ)) (p : Problem) (later : Option 
   reached (VerdictFound c) h = record { problem = p; asked = subject_asked; solves = h.0; proves = h.1; accepted = h.2 }
   reached (SubsetFound c w) h = h
 
-  ends_at : (m : Meaning) → meaning_of s texts ≡ Some m → m.end ≡ Declared p
-  ends_at m means = ap (λ (n : Meaning). n.end) (some_same (sym means ∙ subject.means)) ∙ subject.declares
-
   -- what is left of a problem, by a meaning of the texts
   left_of : (f : Finding) (P : List Piece → Type 0) (m : Meaning) (pieces : List Piece) → meaning_of s texts ≡ Some m → found_pieces s.task p (reached_by f) ≡ Some pieces → P (pieces ++ (behind_of s.task m (reached_by f)).pieces) → LeftIn s texts (reached_by f) P
-  left_of SizeFound P m pieces means are has = record { meaning = m; means = means; problem = p; end = ends_at m means; found = pieces; are = are; has = has }
-  left_of (AcceptanceFound c) P m pieces means are has = record { meaning = m; means = means; problem = p; end = ends_at m means; found = pieces; are = are; has = has }
-  left_of (VerdictFound c) P m pieces means are has = record { meaning = m; means = means; problem = p; end = ends_at m means; found = pieces; are = are; has = has }
-  left_of (SubsetFound c w) P m pieces means are has = record { meaning = m; means = means; problem = p; end = ends_at m means; found = pieces; are = are; has = has }
+  left_of SizeFound P m pieces means are has = record { meaning = m; means = means; problem = p; end = declares_at m means; found = pieces; are = are; has = has }
+  left_of (AcceptanceFound c) P m pieces means are has = record { meaning = m; means = means; problem = p; end = declares_at m means; found = pieces; are = are; has = has }
+  left_of (VerdictFound c) P m pieces means are has = record { meaning = m; means = means; problem = p; end = declares_at m means; found = pieces; are = are; has = has }
+  left_of (SubsetFound c w) P m pieces means are has = record { meaning = m; means = means; problem = p; end = declares_at m means; found = pieces; are = are; has = has }
 
   -- the same with ranges
   left_with : (c : Certificate) (r : AllRanges) (P : List Piece → Type 0) (m : Meaning) (pieces : List Piece) → meaning_of s texts ≡ Some m → found_pieces s.task p (Verdict c) ≡ Some pieces → P (pieces ++ (behind_of s.task m (Ranges c r)).pieces) → LeftIn s texts (Ranges c r) P
-  left_with c r P m pieces means are has = record { meaning = m; means = means; problem = p; end = ends_at m means; found = pieces; are = are; has = has }
+  left_with c r P m pieces means are has = record { meaning = m; means = means; problem = p; end = declares_at m means; found = pieces; are = are; has = has }
 
   module _ (f : Finding) (old middle : Outside) where
     left_behind : (P : List Piece → Type 0) (last : Reached) (m : Meaning) (pieces : List Piece) → meaning_of s texts ≡ Some m → found_pieces s.task p (reached_by f) ≡ Some pieces → ComesTo (reached_by f) last → P (pieces ++ (behind_of s.task m last).pieces) → LeftIn s texts last P

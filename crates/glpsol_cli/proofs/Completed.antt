@@ -80,13 +80,13 @@ module _ (text : List ℕ) (p : Problem) (count : ℕ) (declares : declared text
       absurd (omega (arith, few, least, all))
 
   ends : (limit : Limit) → ¬ (IsUndecided limit plain_settings (text ∷ []))
-  ends (Pivots wanted bases board) h =
-      let long = of_this wanted (λ p settings. IsOutOfPivots p [] settings.split_limit settings.pivot_limit bases board) h in
+  ends (Pivots wanted bases board left) h =
+      let long = of_this wanted (λ p settings. IsOutOfPivots p [] settings.split_limit settings.pivot_limit bases board) h.search in
       let search = free wanted long.0 in
       search.ends 10000 100000 bases long.1.run
   ends (SubsetPivots members bases) h = none_wanted h.wanted
-  ends (Splits wanted board) h =
-      let out = of_this wanted (λ p settings. IsOutOfSplits p [] settings.split_limit settings.pivot_limit board) h in
+  ends (Splits wanted board left) h =
+      let out = of_this wanted (λ p settings. IsOutOfSplits p [] settings.split_limit settings.pivot_limit board) h.search in
       never_all_made (searched p wanted) (free wanted out.0) board out.1
 
   -- nothing stands behind `solve`

@@ -39,7 +39,7 @@ use Rattle.glpsol_cli.specs.declared.answer.Limit.TheVariants.{Pivots, Splits, S
 use Rattle.glpsol_cli.specs.declared.answer.OverflowSite.TheVariants.{AtNode, InPart, InSubset}
 use Rattle.glpsol_cli.specs.declared.answer.OverflowSite.{OverflowSite}
 use Rattle.glpsol_cli.specs.declared.answer.Reached.{Reached}
-use Rattle.glpsol_cli.specs.declared.answer.Reached.TheVariants.{Nothing, Executed, Size, Acceptance, Verdict as VerdictReached, Subset as SubsetReached, Ranges as RangesReached}
+use Rattle.glpsol_cli.specs.declared.answer.Reached.TheVariants.{Nothing, Executed, Size, Shown, Acceptance, Verdict as VerdictReached, Subset as SubsetReached, Ranges as RangesReached}
 use Rattle.glpsol_cli.specs.declared.answer.Target.{Target}
 use Rattle.glpsol_cli.specs.declared.answer.Target.TheVariants.{Out, File}
 use Rattle.glpsol_cli.proofs.Reports.{declared_same}
@@ -187,6 +187,7 @@ module _ (words : List (List ℕ)) (told : ToldNames) (settings : Settings) (tex
   file_told name Nothing P h = let short = in_turn name h.0 in record { text = short.text; said = record { now = told name; first = h.1; second = (short.has, short.within) } }
   file_told name Executed P h = table_told name P h
   file_told name Size P h = absurd h
+  file_told name (Shown c) P h = absurd h
   file_told name (Acceptance c) P h = absurd h
   file_told name (VerdictReached c) P h = absurd h
   file_told name (SubsetReached c w) P h = absurd h
@@ -269,9 +270,9 @@ overflow_over (InPart part) e s ts h = declared_over s ts h.problem h.asked
 overflow_over (InSubset members) e s ts h = proved_over h.certificate s ts h.proved
 
 undecided_over : (limit : Limit) (s : Settings) (ts : List (List ℕ)) → IsUndecided limit s ts → IsOver s ts
-undecided_over (Pivots wanted bases board) s ts h = declared_over s ts h.problem h.asked
+undecided_over (Pivots wanted bases board left) s ts h = declared_over s ts h.search.problem h.search.asked
 undecided_over (SubsetPivots members bases) s ts h = proved_over h.certificate s ts h.proved
-undecided_over (Splits wanted board) s ts h = declared_over s ts h.problem h.asked
+undecided_over (Splits wanted board left) s ts h = declared_over s ts h.search.problem h.search.asked
 
 module _ (words : List (List ℕ)) (told : ToldNames) (files_rose out_rose : Type 0) (k : IsComplete words told files_rose out_rose) where
   over : IsOver k.settings (k.texts ++ k.tables)
@@ -371,9 +372,9 @@ behind_them [] more text = refl
 behind_them (t ∷ texts) more text = behind_them texts more text
 
 undecided_solves : (limit : Limit) (s : Settings) (texts : List (List ℕ)) → IsUndecided limit s texts → Solves s
-undecided_solves (Pivots wanted bases board) s texts h = h.solves
+undecided_solves (Pivots wanted bases board left) s texts h = h.search.solves
 undecided_solves (SubsetPivots members bases) s texts h = h.proved.solves
-undecided_solves (Splits wanted board) s texts h = h.solves
+undecided_solves (Splits wanted board left) s texts h = h.search.solves
 
 module _ (c : Certificate) (again : List (List ℕ)) (told : ToldNames) (files_rose out_rose : Type 0) (k : IsRecheck c again told) (read_back : read_of (certificate_text c) ≡ Ok c) where
   as_many : length k.texts ≡ suc (length k.settings.data_files)

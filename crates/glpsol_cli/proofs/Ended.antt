@@ -17,7 +17,7 @@ use Rattle.glpsol_cli.specs.Together.{CauseIn}
 use Rattle.glpsol_cli.specs.declared.answer.Answer.{Answer}
 use Rattle.glpsol_cli.specs.declared.answer.Answer.TheVariants.{NoMemory}
 use Rattle.glpsol_cli.specs.declared.answer.Reached.{Reached}
-use Rattle.glpsol_cli.specs.declared.answer.Reached.TheVariants.{Nothing, Executed, Size, Acceptance, Verdict, Subset, Ranges}
+use Rattle.glpsol_cli.specs.declared.answer.Reached.TheVariants.{Nothing, Executed, Size, Shown, Acceptance, Verdict, Subset, Ranges}
 use Rattle.glpsol_cli.specs.declared.answer.Target.TheVariants.{Out}
 use Rattle.glpsol_cli.specs.declared.execution.Executed.{Executed as ExecutedHeld}
 use Rattle.glpsol_cli.specs.declared.execution.Halt.{Halt}
@@ -176,6 +176,7 @@ pieces_also : (words : List (List ℕ)) (told : ToldNames) (r : Reached) (P Q : 
 pieces_also words told Nothing P Q f h = f [] h
 pieces_also words told Executed P Q f h = of_texts words told (HasDone Q) (HasDone P) (λ s texts d. record { meaning = d.meaning; means = d.means; has = f d.meaning.done d.has }) h
 pieces_also words told Size P Q f h = of_texts words told (HasFound Size Q) (HasFound Size P) (λ s texts d. record { meaning = d.meaning; means = d.means; problem = d.problem; end = d.end; found = d.found; are = d.are; has = f _ d.has }) h
+pieces_also words told (Shown c) P Q f h = of_texts words told (HasFound (Shown c) Q) (HasFound (Shown c) P) (λ s texts d. record { meaning = d.meaning; means = d.means; problem = d.problem; end = d.end; found = d.found; are = d.are; has = f _ d.has }) h
 pieces_also words told (Acceptance c) P Q f h = of_texts words told (HasFound (Acceptance c) Q) (HasFound (Acceptance c) P) (λ s texts d. record { meaning = d.meaning; means = d.means; problem = d.problem; end = d.end; found = d.found; are = d.are; has = f _ d.has }) h
 pieces_also words told (Verdict c) P Q f h = of_texts words told (HasFound (Verdict c) Q) (HasFound (Verdict c) P) (λ s texts d. record { meaning = d.meaning; means = d.means; problem = d.problem; end = d.end; found = d.found; are = d.are; has = f _ d.has }) h
 pieces_also words told (Subset c w) P Q f h = of_texts words told (HasFound (Subset c w) Q) (HasFound (Subset c w) P) (λ s texts d. record { meaning = d.meaning; means = d.means; problem = d.problem; end = d.end; found = d.found; are = d.are; has = f _ d.has }) h

@@ -1,5 +1,6 @@
 pub mod Follow
 pub mod Writing
+pub mod Leaving
 pub mod Parts
 pub mod RangedEnds
 pub mod Left

@@ -30,10 +30,10 @@ unlimited words told s asks none files_rose out_rose (Unranged fault c) h = h.ha
 unlimited words told s asks none files_rose out_rose (BadCertificate fault) h = tt
 unlimited words told s asks none files_rose out_rose NotLinear h = tt
 unlimited words told s asks none files_rose out_rose (Overflow at fault) h = tt
-unlimited words told s asks none files_rose out_rose (Undecided (Pivots wanted bases board)) h =
-    h.has.holds.run.limited.some (ap (λ settings. settings.pivot_limit) (same_Some h.settings s (sym h.asks ∙ asks)) ∙ none)
+unlimited words told s asks none files_rose out_rose (Undecided (Pivots wanted bases board left)) h =
+    h.has.search.holds.run.limited.some (ap (λ settings. settings.pivot_limit) (same_Some h.settings s (sym h.asks ∙ asks)) ∙ none)
 unlimited words told s asks none files_rose out_rose (Undecided (SubsetPivots members bases)) h =
     h.has.holds.limited.some (ap (λ settings. settings.pivot_limit) (same_Some h.settings s (sym h.asks ∙ asks)) ∙ none)
-unlimited words told s asks none files_rose out_rose (Undecided (Splits wanted board)) h = tt
+unlimited words told s asks none files_rose out_rose (Undecided (Splits wanted board left)) h = tt
 unlimited words told s asks none files_rose out_rose (Refused part) h = tt
 unlimited words told s asks none files_rose out_rose (NoMemory reached) h = tt

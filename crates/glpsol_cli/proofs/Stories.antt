@@ -12,14 +12,14 @@ use Rattle.glpsol_cli.specs.Asked.{ToldNames}
 use Rattle.glpsol_cli.specs.Pieces.{Piece, Outside, AllWritten, IsWrittenInPart, SameNames, told_behind}
 use Rattle.glpsol_cli.specs.Meaning.{HasDone, Meaning, files_by, made_in, meaning_in}
 use Rattle.glpsol_cli.specs.Texts.{IsTableInTurn, OfTexts}
-use Rattle.glpsol_cli.specs.Cause.{reached_of}
+use Rattle.glpsol_cli.specs.Cause.{reached_at, reached_of}
 use Rattle.glpsol_cli.specs.Written.{ThenLine, extent_of, line_of}
 use Rattle.glpsol_cli.specs.Together.{CauseIn, CauseBy, IsOfOneText, IsStory, OnceExecuted, PiecesIn, Tells, VerdictBy}
 use Rattle.glpsol_cli.specs.Stages.{EndsWriting, IsHaltOrUnread, IsUnread, IsUnwritten, IsWhole, LeftWritten, Moment, TellsBehind, stop_answer, unread_answer, unwritten_answer}
 use Rattle.glpsol_cli.specs.declared.answer.Answer.{Answer}
 use Rattle.glpsol_cli.specs.declared.answer.Answer.TheVariants.{Optimal, Ranged, Infeasible, Irreducible, Unbounded, Translated, Accepted, Usage, Missing, OpenFault, ReadFault, WriteFault, TooLong, BadText, FaultBehindSolve, Unranged, BadCertificate, NotLinear, Overflow, Undecided, Refused, NoMemory}
 use Rattle.glpsol_cli.specs.declared.answer.Reached.{Reached}
-use Rattle.glpsol_cli.specs.declared.answer.Reached.TheVariants.{Nothing, Executed, Size, Acceptance, Verdict, Subset, Ranges}
+use Rattle.glpsol_cli.specs.declared.answer.Reached.TheVariants.{Nothing, Executed, Size, Shown, Acceptance, Verdict, Subset, Ranges}
 use Rattle.glpsol_cli.specs.declared.answer.Target.TheVariants.{Out}
 use Rattle.glpsol_cli.specs.declared.execution.Halt.{Halt}
 use Rattle.glpsol_cli.specs.declared.execution.Halt.TheVariants.{Unread}
@@ -30,6 +30,7 @@ use Rattle.glpsol_cli.specs.declared.stop.Unread.{Unread as UnreadFile}
 use Rattle.glpsol_cli.proofs.Answers.{cause_within, of_texts}
 use Rattle.glpsol_cli.proofs.Carried.{left_in, reached_unwritten, unwritten_cause, unwritten_line}
 use Rattle.glpsol_cli.proofs.Follow.{rose_within}
+use Rattle.glpsol_cli.proofs.Leaving.{AreShowing, limit_tested, shown_by}
 use Rattle.glpsol_cli.proofs.Parts.{means_of, of_read, unread_of_less}
 use Rattle.glpsol_cli.proofs.Verdicts.{AreRight, best, best_ranges, irreducible, no_point, ray}
 use Rattle.glpsol_cli.proofs.Writing.{all_some, failed_within, line_after, line_from}
@@ -40,6 +41,7 @@ once : (r : Reached) (P : Type 0) → P → OnceExecuted r P
 once Nothing P h = tt
 once Executed P h = h
 once Size P h = h
+once (Shown c) P h = h
 once (Acceptance c) P h = h
 once (Verdict c) P h = h
 once (Subset c w) P h = h
@@ -49,6 +51,7 @@ once_also : (r : Reached) (P Q : Type 0) → (P → Q) → OnceExecuted r P → 
 once_also Nothing P Q f h = tt
 once_also Executed P Q f h = f h
 once_also Size P Q f h = f h
+once_also (Shown c) P Q f h = f h
 once_also (Acceptance c) P Q f h = f h
 once_also (Verdict c) P Q f h = f h
 once_also (Subset c w) P Q f h = f h
@@ -83,6 +86,7 @@ pieces_also : (s : Settings) (texts : List (List ℕ)) (r : Reached) (P Q : List
 pieces_also s texts Nothing P Q f h = f [] h
 pieces_also s texts Executed P Q f h = record { meaning = h.meaning; means = h.means; has = f h.meaning.done h.has }
 pieces_also s texts Size P Q f h = record { meaning = h.meaning; means = h.means; problem = h.problem; end = h.end; found = h.found; are = h.are; has = f _ h.has }
+pieces_also s texts (Shown c) P Q f h = record { meaning = h.meaning; means = h.means; problem = h.problem; end = h.end; found = h.found; are = h.are; has = f _ h.has }
 pieces_also s texts (Acceptance c) P Q f h = record { meaning = h.meaning; means = h.means; problem = h.problem; end = h.end; found = h.found; are = h.are; has = f _ h.has }
 pieces_also s texts (Verdict c) P Q f h = record { meaning = h.meaning; means = h.means; problem = h.problem; end = h.end; found = h.found; are = h.are; has = f _ h.has }
 pieces_also s texts (Subset c w) P Q f h = record { meaning = h.meaning; means = h.means; problem = h.problem; end = h.end; found = h.found; are = h.are; has = f _ h.has }
@@ -200,7 +204,7 @@ tells_from_start words taken told told' new files_rose out_rose answer same h =
 
 -- ---- with the verdict
 
-module _ (words : List (List ℕ)) (old new : Outside) (files_rose out_rose : Type 0) (right : AreRight) where
+module _ (words : List (List ℕ)) (old new : Outside) (files_rose out_rose : Type 0) (right : AreRight) (showing : AreShowing) where
   verdict_by : (answer : Answer) (s : Settings) (texts : List (List ℕ)) → CauseBy old.told files_rose out_rose answer s texts → VerdictBy answer s texts
   verdict_by (Optimal c) s texts h = best words old.told c right s texts h.0 h.1.ends.proved
   verdict_by (Ranged c r) s texts h = best_ranges words old.told c r right s texts h
@@ -221,7 +225,7 @@ module _ (words : List (List ℕ)) (old new : Outside) (files_rose out_rose : Ty
   verdict_by (BadCertificate fault) s texts h = tt
   verdict_by NotLinear s texts h = tt
   verdict_by (Overflow at e) s texts h = tt
-  verdict_by (Undecided limit) s texts h = tt
+  verdict_by (Undecided limit) s texts h = shown_by showing (reached_at limit) s texts (λ d e. limit_tested limit d s texts e h)
   verdict_by (Refused part) s texts h = tt
   verdict_by (NoMemory r) s texts h = tt
 

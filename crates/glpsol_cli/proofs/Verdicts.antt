@@ -1,5 +1,6 @@
 -- Verdicts in the user's words, from the cause of an answer.
 use Rattle.std.proofs.Common.{◌≡◌, ◌<◌, ℕ, List, length, Option, Some, subst}
+use Rattle.partial_certificate.specs.Partial.{Partial}
 use Rattle.outside.specs.Told.{Has, Lacks}
 use Rattle.gmpl_generate.specs.declared.fault.ModelFault.{ModelFault}
 use Rattle.milp.specs.Problem.{Problem}
@@ -11,12 +12,13 @@ use Rattle.exact_ranges.specs.Ranges.{AllRanges}
 use Rattle.command_line.specs.declared.settings.Settings.{Settings}
 use Rattle.glpsol_cli.specs.Asked.{ToldNames}
 use Rattle.glpsol_cli.specs.Texts.{OfFile, OfTexts}
-use Rattle.glpsol_cli.specs.Cause.{Cause, EndsBehind, EndsWithoutRanges, IsReached, LacksRanges, reached_of, IsProved, IsTrueOf, IsBest, HasBestRanges, HasNoPoint, HasRanges, HasRay, HasSubset, IsIrreducibleSubset}
+use Rattle.glpsol_cli.specs.Cause.{Cause, EndsBehind, EndsWithoutRanges, IsReached, LacksRanges, reached_of, IsProved, IsShown, IsTested, IsTrueOf, IsUndecided, IsBest, HasBestRanges, HasNoPoint, HasRanges, HasRay, HasSubset, IsIrreducibleSubset}
 use Rattle.glpsol_cli.specs.declared.answer.Answer.{Answer}
 use Rattle.glpsol_cli.specs.declared.answer.Answer.TheVariants.{Optimal, Ranged, Infeasible, Irreducible, Unbounded, Translated, Accepted, Usage, Missing, OpenFault, ReadFault, WriteFault, TooLong, BadText, FaultBehindSolve, Unranged, BadCertificate, NotLinear, Overflow, Undecided, Refused, NoMemory}
 use Rattle.glpsol_cli.specs.declared.answer.Reached.{Reached}
-use Rattle.glpsol_cli.specs.declared.answer.Reached.TheVariants.{Nothing, Executed, Size, Acceptance, Verdict as VerdictReached, Subset as SubsetReached, Ranges as RangesReached}
+use Rattle.glpsol_cli.specs.declared.answer.Reached.TheVariants.{Nothing, Executed, Size, Shown, Acceptance, Verdict as VerdictReached, Subset as SubsetReached, Ranges as RangesReached}
 use Rattle.glpsol_cli.proofs.Answers.{of_texts}
+use Rattle.glpsol_cli.proofs.Leaving.{AreShowing, IsOfLimit, limit_tested, of_limit, tested_shown}
 
 -- a certificate that proves its verdict is right
 abbrev pub AreRight : Type 0
@@ -53,6 +55,7 @@ module _ (words : List (List ℕ)) (told : ToldNames) (c : Certificate) (right :
   file_carried name P Nothing e h = nothing_carried e
   file_carried name P Executed e h = executed_carried e
   file_carried name P Size e h = h
+  file_carried name P (Shown d) e h = h
   file_carried name P (Acceptance d) e h = h
   file_carried name P (VerdictReached d) e h = h
   file_carried name P (SubsetReached d w) e h = h
@@ -81,7 +84,7 @@ module _ (words : List (List ℕ)) (told : ToldNames) (c : Certificate) (right :
   carried files_rose out_rose (BadCertificate fault) e h = absurd (executed_carried e)
   carried files_rose out_rose NotLinear e h = absurd (executed_carried e)
   carried files_rose out_rose (Overflow at fault) e h = absurd (executed_carried e)
-  carried files_rose out_rose (Undecided limit) e h = absurd (executed_carried e)
+  carried files_rose out_rose (Undecided limit) e h = absurd (subst IsOfLimit e (of_limit limit))
   carried files_rose out_rose (Refused part) e h = absurd (executed_carried e)
   carried files_rose out_rose (NoMemory r) e h = of_reached r e h
 
@@ -147,6 +150,7 @@ module _ (words : List (List ℕ)) (told : ToldNames) (c : Certificate) (w : Fou
   file_differs name P Nothing e h = nothing_differs e
   file_differs name P Executed e h = executed_differs e
   file_differs name P Size e h = h
+  file_differs name P (Shown d) e h = h
   file_differs name P (Acceptance d) e h = h
   file_differs name P (VerdictReached d) e h = h
   file_differs name P (SubsetReached d v) e h = h
@@ -172,7 +176,7 @@ module _ (words : List (List ℕ)) (told : ToldNames) (c : Certificate) (w : Fou
   is_irreducible files_rose out_rose (BadCertificate fault) e h = absurd (executed_differs e)
   is_irreducible files_rose out_rose NotLinear e h = absurd (executed_differs e)
   is_irreducible files_rose out_rose (Overflow at fault) e h = absurd (executed_differs e)
-  is_irreducible files_rose out_rose (Undecided limit) e h = absurd (executed_differs e)
+  is_irreducible files_rose out_rose (Undecided limit) e h = absurd (subst IsOfLimit e (of_limit limit))
   is_irreducible files_rose out_rose (Refused part) e h = absurd (executed_differs e)
   is_irreducible files_rose out_rose (NoMemory r) e h = by_reached r e h
 
@@ -208,6 +212,7 @@ module _ (words : List (List ℕ)) (told : ToldNames) (c : Certificate) (r : All
   no_file name P Nothing e h = not_nothing e
   no_file name P Executed e h = not_executed e
   no_file name P Size e h = h
+  no_file name P (Shown d) e h = h
   no_file name P (Acceptance d) e h = h
   no_file name P (VerdictReached d) e h = h
   no_file name P (SubsetReached d v) e h = h
@@ -233,6 +238,67 @@ module _ (words : List (List ℕ)) (told : ToldNames) (c : Certificate) (r : All
   has_ranges files_rose out_rose (BadCertificate fault) e h = absurd (not_executed e)
   has_ranges files_rose out_rose NotLinear e h = absurd (not_executed e)
   has_ranges files_rose out_rose (Overflow at fault) e h = absurd (not_executed e)
-  has_ranges files_rose out_rose (Undecided limit) e h = absurd (not_executed e)
+  has_ranges files_rose out_rose (Undecided limit) e h = absurd (subst IsOfLimit e (of_limit limit))
   has_ranges files_rose out_rose (Refused part) e h = absurd (not_executed e)
   has_ranges files_rose out_rose (NoMemory q) e h = to_ranges q e h
+
+-- ---- what a search has shown that came to a limit
+
+module _ (words : List (List ℕ)) (told : ToldNames) (c : Partial) (showing : AreShowing) where
+  verdict_apart : (d : Certificate) → VerdictReached d ≡ Shown c → ⊥
+  verdict_apart d e = cc
+
+  nothing_apart : Nothing ≡ Shown c → ⊥
+  nothing_apart e = cc
+
+  executed_apart : Executed ≡ Shown c → ⊥
+  executed_apart e = cc
+
+  size_apart : Size ≡ Shown c → ⊥
+  size_apart e = cc
+
+  acceptance_apart : (d : Certificate) → Acceptance d ≡ Shown c → ⊥
+  acceptance_apart d e = cc
+
+  subset_apart : (d : Certificate) (w : FoundSubset) → SubsetReached d w ≡ Shown c → ⊥
+  subset_apart d w e = cc
+
+  ranges_apart : (d : Certificate) (r : AllRanges) → RangesReached d r ≡ Shown c → ⊥
+  ranges_apart d r e = cc
+
+  to_shown : (r : Reached) → r ≡ Shown c → IsReached words told r → OfTexts words told (IsShown c)
+  to_shown r e h = of_texts words told (IsTested c) (IsShown c) (tested_shown showing c) (subst (IsReached words told) e h)
+
+  file_apart : (name : List ℕ) (P : Option (Option (List ℕ)) → Type 0) (r : Reached) → r ≡ Shown c → OfFile words told name r P → ⊥
+  file_apart name P Nothing e h = nothing_apart e
+  file_apart name P Executed e h = executed_apart e
+  file_apart name P Size e h = h
+  file_apart name P (Shown d) e h = h
+  file_apart name P (Acceptance d) e h = h
+  file_apart name P (VerdictReached d) e h = h
+  file_apart name P (SubsetReached d w) e h = h
+  file_apart name P (RangesReached d r) e h = h
+
+  pub is_shown : (files_rose out_rose : Type 0) (answer : Answer) → reached_of answer ≡ Shown c → Cause words told files_rose out_rose answer → OfTexts words told (IsShown c)
+  is_shown files_rose out_rose (Optimal d) e h = absurd (verdict_apart d e)
+  is_shown files_rose out_rose (Ranged d r) e h = absurd (ranges_apart d r e)
+  is_shown files_rose out_rose (Infeasible d) e h = absurd (verdict_apart d e)
+  is_shown files_rose out_rose (Irreducible d w) e h = absurd (subset_apart d w e)
+  is_shown files_rose out_rose (Unbounded d) e h = absurd (verdict_apart d e)
+  is_shown files_rose out_rose Translated e h = absurd (size_apart e)
+  is_shown files_rose out_rose (Accepted d) e h = absurd (acceptance_apart d e)
+  is_shown files_rose out_rose Usage e h = absurd (nothing_apart e)
+  is_shown files_rose out_rose (Missing name r) e h = absurd (file_apart name (λ now. (text : List ℕ) → Has now text → ⊥) r e h)
+  is_shown files_rose out_rose (OpenFault name r) e h = absurd (file_apart name (λ now. files_rose) r e h)
+  is_shown files_rose out_rose (ReadFault name r) e h = absurd (file_apart name (λ now. (Lacks now → ⊥) × files_rose) r e h)
+  is_shown files_rose out_rose (WriteFault target r) e h = to_shown r e h.0
+  is_shown files_rose out_rose (TooLong name r) e h = absurd (file_apart name (λ now. (Lacks now → ⊥) × ((text : List ℕ) → Has now text → 67108864 < length text)) r e h)
+  is_shown files_rose out_rose (BadText fault) e h = absurd (executed_apart e)
+  is_shown files_rose out_rose (FaultBehindSolve fault d) e h = absurd (verdict_apart d e)
+  is_shown files_rose out_rose (Unranged fault d) e h = absurd (verdict_apart d e)
+  is_shown files_rose out_rose (BadCertificate fault) e h = absurd (executed_apart e)
+  is_shown files_rose out_rose NotLinear e h = absurd (executed_apart e)
+  is_shown files_rose out_rose (Overflow at fault) e h = absurd (executed_apart e)
+  is_shown files_rose out_rose (Undecided limit) e h = of_texts words told (IsUndecided limit) (IsShown c) (λ s texts u. tested_shown showing c s texts (limit_tested limit c s texts e u)) h
+  is_shown files_rose out_rose (Refused part) e h = absurd (executed_apart e)
+  is_shown files_rose out_rose (NoMemory r) e h = to_shown r e h

@@ -13,9 +13,6 @@ use Rattle.gmpl_reader.specs.declared.read.ReadingEnd.{ReadingEnd}
 use Rattle.gmpl_reader.specs.declared.read.ReadingEnd.TheVariants as reading_end
 use Rattle.verdicts.specs.Certificate.{Certificate, Verdict, Optimal, Infeasible, Unbounded}
 use Rattle.branch_search.specs.Plain.{NoneInteger, IsPlainCertificate}
-use Rattle.cut_search.specs.Searched.{IsFaultOf}
-use Rattle.branch_search.specs.declared.whole_fault.VerdictFault.{VerdictFault}
-use Rattle.branch_search.specs.declared.whole_fault.VerdictFault.TheVariants.{NoFit as SearchNoFit, PivotLimit, SplitLimit, NoMemory as SearchNoMemory}
 use Rattle.infeasible_subset.specs.declared.fault.SubsetFault.TheVariants.{NoFit as SubsetNoFit, PivotLimit as SubsetPivotLimit, NoMemory as SubsetNoMemory}
 use Rattle.command_line.specs.declared.settings.Language.{Language}
 use Rattle.command_line.specs.declared.settings.Language.TheVariants.{MathProg}
@@ -24,7 +21,7 @@ use Rattle.command_line.specs.declared.settings.Settings.{Settings}
 use Rattle.command_line.specs.declared.settings.Task.{Task}
 use Rattle.command_line.specs.declared.settings.Task.TheVariants.{Solve, CheckCertificate}
 use Rattle.glpsol_cli.proofs.FilesRead.{many_sources}
-use Rattle.glpsol_cli.specs.Asked.{Checks, Solves, IsSolve, names_checked, sources_of, splits_rows, uses_cuts, wants_subset}
+use Rattle.glpsol_cli.specs.Asked.{Checks, Solves, IsSolve, names_checked, sources_of, wants_subset}
 use Rattle.glpsol_cli.specs.Meaning.{Declared, Faulty, Wanting, IsAsked, asked_of, directed, end_of_ending, ends_in, file_piece, file_pieces, files_by, lacks_subset, made_in, relaxed, shown_by}
 use Rattle.glpsol_cli.specs.Cause.{IsProved, OfCertificate, IsNoCertificate, IsRefusedAt, IsCheckOverflow}
 use Rattle.glpsol_cli.specs.Stages.{IsFinding, IsRangeable, IsRefuted, IsSolution, IsUnfound, IsUnsolved, IsExecution, IsExecutionOf, IsHalt, IsOfReading, IsOfReadingEnd, IsCheckStop, OfNext}
@@ -129,17 +126,11 @@ module _ {X : Type 0} (f : X → List ℕ) (s : Settings) (xs others taken : Lis
 -- ---- solving
 
 module _ (s : Settings) (texts : List (List ℕ)) (p : Problem) (asks : IsAsked s texts p) (solves : Solves s) where
-  unsearched : (fault : VerdictFault) → IsFaultOf (uses_cuts s.task) (splits_rows s.task) p s.split_limit s.pivot_limit fault → IsUnfound (SolveStop fault) s texts
-  unsearched (SearchNoFit wanted site) h = record { problem = p; asked = asks; solves = solves; searches = h.0; is_searched = h.1; is_wanted = h.2.0; holds = h.2.1 }
-  unsearched (PivotLimit wanted bases board) h = record { problem = p; asked = asks; solves = solves; searches = h.0; is_searched = h.1; is_wanted = h.2.0; holds = h.2.1 }
-  unsearched (SplitLimit wanted board) h = record { problem = p; asked = asks; solves = solves; searches = h.0; is_searched = h.1; is_wanted = h.2.0; holds = h.2.1 }
-  unsearched SearchNoMemory h = tt
-
   abbrev refuted : (r : IsRefuted p) → IsProved r.certificate s texts
   refuted r = record { problem = p; asked = asks; solves = solves; proves = r.proves; accepted = r.accepted }
 
   pub unsolved : (u : Unfound) → IsUnsolved p s u → IsUnfound u s texts
-  unsolved (SolveStop fault) h = unsearched fault h
+  unsolved (SolveStop u) h = record { problem = p; asked = asks; solves = solves; unsolved = h.0; passes = h.1 }
   unsolved (Check stop) h = absurd h
   unsolved (SubsetStop (SubsetNoFit stuck)) h = record { certificate = h.1.certificate; infeasible = h.1.infeasible; proved = refuted h.1; wanted = h.0; holds = h.2 }
   unsolved (SubsetStop (SubsetPivotLimit long)) h = record { certificate = h.1.certificate; infeasible = h.1.infeasible; proved = refuted h.1; wanted = h.0; holds = h.2 }

@@ -51,6 +51,12 @@ ranges_file (Solve outputs) = outputs.ranges
 ranges_file Translate = None
 ranges_file (CheckCertificate name migrated) = None
 
+-- the file of the certificate, where the problem is to be solved
+abbrev pub certificate_file : Task → Option (List ℕ)
+certificate_file (Solve outputs) = outputs.certificate
+certificate_file Translate = None
+certificate_file (CheckCertificate name migrated) = None
+
 -- exact ranges are wanted
 abbrev pub wants_ranges : Task → Bool
 wants_ranges task = is_some (ranges_file task)

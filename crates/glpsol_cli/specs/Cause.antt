@@ -1,5 +1,5 @@
 -- What each answer of a run says of the words, of what is told of the files, and of the faults that rose.
-use Rattle.std.specs.Prelude.{◌≡◌, ◌<◌, ℕ, suc, true, false, List, [], ◌∷◌, length, slice_get, Some, None, Ok, Err}
+use Rattle.std.specs.Prelude.{◌≡◌, ◌<◌, ℕ, suc, true, false, List, [], ◌∷◌, length, slice_get, is_some, Some, None, Ok, Err}
 use Rattle.milp.specs.Problem.{Problem}
 use Rattle.milp.specs.Points.{IsOptimal, Feasible, IsUnbounded, objective_value}
 use Rattle.rational.specs.Rational.{Rational}
@@ -8,13 +8,17 @@ use Rattle.fraction.specs.Answers.{DoesNotFit}
 use Rattle.verdicts.specs.Certificate.{Certificate}
 use Rattle.verdicts.specs.Certificate as kind
 use Rattle.verdicts.specs.Proves.{Proves, Holds, tests, first_failing}
+use Rattle.partial_certificate.specs.Partial.{Partial}
+use Rattle.partial_certificate.specs.Shown.{Passes, Shows}
 use Rattle.search_node.specs.declared.node.Node.{Node}
+use Rattle.search_tree.specs.Board.{Board}
 use Rattle.branch_search.specs.Faults.{IsStuckAt, IsOutOfPivots, IsOutOfSplits}
 use Rattle.branch_search.specs.Plain.{NoneInteger}
 use Rattle.gmpl_generate.specs.declared.fault.ModelFault.{ModelFault}
 use Rattle.branch_search.specs.WholeFaults.{IsWanted, searched}
 use Rattle.branch_search.specs.declared.whole_fault.Wanted.{Wanted}
-use Rattle.cut_search.specs.Searched.{IsSearched}
+use Rattle.stopped_search.specs.Stopped.{shown_for}
+use Rattle.cut_search.specs.Searched.{IsSearched, shown_of_search}
 use Rattle.certificate_reader.specs.Reading.{read_of}
 use Rattle.certificate_lines.specs.declared.fault.CertFault.{CertFault}
 use Rattle.cert_check.specs.Outcome.{Acceptance as Accepting, Fault, outcome, trials, part_of}
@@ -34,17 +38,19 @@ use Rattle.dual_values.specs.Duals.{duals_of}
 use Rattle.outside.specs.Told.{Lacks, Has}
 use Rattle.command_line.specs.Meaning.{settings_of}
 use Rattle.command_line.specs.declared.settings.Settings.{Settings}
-use Rattle.glpsol_cli.specs.Asked.{ToldNames, Solves, Translates, Checks, splits_rows, uses_cuts, wants_linear, wants_ranges, wants_subset}
+use Rattle.glpsol_cli.specs.Asked.{ToldNames, Solves, Translates, Checks, certificate_file, splits_rows, uses_cuts, wants_linear, wants_ranges, wants_subset}
 use Rattle.glpsol_cli.specs.Meaning.{Meaning, IsAsked, IsRefused, HasDone, meaning_of}
 use Rattle.glpsol_cli.specs.Texts.{OfFile, OfTexts}
 use Rattle.glpsol_cli.specs.declared.answer.Answer.{Answer}
 use Rattle.glpsol_cli.specs.declared.answer.Answer.TheVariants.{Optimal, Ranged, Infeasible, Irreducible, Unbounded, Translated, Accepted, Usage, Missing, OpenFault, ReadFault, WriteFault, TooLong, BadText, FaultBehindSolve, Unranged, BadCertificate, NotLinear, Overflow, Undecided, Refused, NoMemory}
+use Rattle.glpsol_cli.specs.declared.answer.Leftover.{Leftover}
+use Rattle.glpsol_cli.specs.declared.answer.Leftover.TheVariants.{Unasked, Unmade, Saved, Unsaved}
 use Rattle.glpsol_cli.specs.declared.answer.Limit.{Limit}
 use Rattle.glpsol_cli.specs.declared.answer.Limit.TheVariants.{Pivots, Splits, SubsetPivots}
 use Rattle.glpsol_cli.specs.declared.answer.OverflowSite.{OverflowSite}
 use Rattle.glpsol_cli.specs.declared.answer.OverflowSite.TheVariants.{AtNode, InPart, InSubset}
 use Rattle.glpsol_cli.specs.declared.answer.Reached.{Reached}
-use Rattle.glpsol_cli.specs.declared.answer.Reached.TheVariants.{Nothing, Executed, Size, Acceptance, Verdict, Subset, Ranges}
+use Rattle.glpsol_cli.specs.declared.answer.Reached.TheVariants.{Nothing, Executed, Size, Shown, Acceptance, Verdict, Subset, Ranges}
 use Rattle.glpsol_cli.specs.declared.answer.Target.{Target}
 use Rattle.glpsol_cli.specs.declared.answer.Target.TheVariants.{Out, File}
 
@@ -210,6 +216,19 @@ IsNoCertificate fault p bytes = read_of bytes ≡ Err fault
 
 -- ---- problems that are not solved
 
+-- the problem that is asked about is to be solved, and all tests of c hold for it
+pub record IsTested (c : Partial) (s : Settings) (texts : List (List ℕ)) : Type 0 where
+  pub problem : Problem
+  pub asked : IsAsked s texts problem
+  pub solves : Solves s
+  pub passes : Passes problem c
+
+-- the best point of c is feasible and has its value, and a feasible point that is better can only lie at a leaf that is left to do
+pub record IsShown (c : Partial) (s : Settings) (texts : List (List ℕ)) : Type 0 where
+  pub problem : Problem
+  pub asked : IsAsked s texts problem
+  pub shows : Shows problem c
+
 -- P of the problem that is searched, and of the settings: the one that is asked about, or one with rows for cuts of its root
 -- where cuts are asked for, or one with columns for rows where splits on rows are asked for, where a best point is wanted;
 -- where any point is wanted, since a ray improves it, the same without its objective
@@ -247,13 +266,26 @@ IsOverflow (AtNode wanted node) e s texts = IsNodeOverflow wanted node e s texts
 IsOverflow (InPart part) e s texts = OfCertificate (IsCheckOverflow part e) s texts
 IsOverflow (InSubset members) e s texts = OfInfeasible (λ p settings. IsSubsetStuck p members e) s texts
 
+-- What a search leaves that has shown this of p: nothing where the task names no file, or memory is wanting; or it is in the file, whole
+-- or not, and all tests of it hold for p.
+abbrev pub IsLeft : Option (List ℕ) → Problem → Partial → Leftover → Type 0
+IsLeft file p shown Unasked = is_some file ≡ false
+IsLeft file p shown Unmade = is_some file ≡ true
+IsLeft file p shown (Saved c) = (is_some file ≡ true) × (c ≡ shown) × Passes p c
+IsLeft file p shown (Unsaved c) = (is_some file ≡ true) × (c ≡ shown) × Passes p c
+
+-- a search came to a limit on this board, and leaves what the board has shown of the problem that is asked about
+pub record AtLimit (wanted : Wanted) (board : Board) (leftover : Leftover) (P : Problem → Settings → Type 0) (s : Settings) (texts : List (List ℕ)) : Type 0 where
+  pub search : OfSearch wanted P s texts
+  pub left : IsLeft (certificate_file s.task) search.problem (shown_of_search (uses_cuts s.task) (splits_rows s.task) search.problem search.searches search.is_searched (shown_for wanted board)) leftover
+
 -- the limit is too small: the bases are the first of the simplex method's run at a node to which honest splits lead, as many
 -- steps as are allowed, and there is one more step; or as many splits are made as are allowed, all honest, and each leaf that is
 -- not closed is of a node that would have to be split. The board is that on which a search with these limits stops
 abbrev pub IsUndecided : Limit → Settings → List (List ℕ) → Type 0
-IsUndecided (Pivots wanted bases board) s texts = OfSearch wanted (λ p settings. IsOutOfPivots p [] settings.split_limit settings.pivot_limit bases board) s texts
+IsUndecided (Pivots wanted bases board left) s texts = AtLimit wanted board left (λ p settings. IsOutOfPivots p [] settings.split_limit settings.pivot_limit bases board) s texts
 IsUndecided (SubsetPivots members bases) s texts = OfInfeasible (λ p settings. IsSubsetTooLong p settings.pivot_limit members bases) s texts
-IsUndecided (Splits wanted board) s texts = OfSearch wanted (λ p settings. IsOutOfSplits p [] settings.split_limit settings.pivot_limit board) s texts
+IsUndecided (Splits wanted board left) s texts = AtLimit wanted board left (λ p settings. IsOutOfSplits p [] settings.split_limit settings.pivot_limit board) s texts
 
 -- ---- how far a run has come
 
@@ -261,10 +293,23 @@ abbrev pub IsReached : List (List ℕ) → ToldNames → Reached → Type 0
 IsReached words told Nothing = Unit {0}
 IsReached words told Executed = OfTexts words told (HasDone (λ done. Unit {0}))
 IsReached words told Size = OfTexts words told IsTranslated
+IsReached words told (Shown c) = OfTexts words told (IsTested c)
 IsReached words told (Acceptance c) = OfTexts words told (OfCertificate (IsAccepted c))
 IsReached words told (Verdict c) = OfTexts words told (IsProved c)
 IsReached words told (Subset c w) = OfTexts words told (HasSubset c w)
 IsReached words told (Ranges c r) = OfTexts words told (HasRanges c r)
+
+-- what was reached by a search that came to a limit
+abbrev pub reached_left : Leftover → Reached
+reached_left Unasked = Executed
+reached_left Unmade = Executed
+reached_left (Saved c) = Shown c
+reached_left (Unsaved c) = Shown c
+
+abbrev pub reached_at : Limit → Reached
+reached_at (Pivots wanted bases board left) = reached_left left
+reached_at (Splits wanted board left) = reached_left left
+reached_at (SubsetPivots members bases) = Executed
 
 -- what the answer says was reached
 abbrev pub reached_of : Answer → Reached
@@ -287,13 +332,13 @@ reached_of (Unranged fault c) = Verdict c
 reached_of (BadCertificate fault) = Executed
 reached_of NotLinear = Executed
 reached_of (Overflow at fault) = Executed
-reached_of (Undecided limit) = Executed
+reached_of (Undecided limit) = reached_at limit
 reached_of (Refused part) = Executed
 reached_of (NoMemory reached) = reached
 
 -- the answer is not that the limit of steps was met
 abbrev pub IsNotByPivots : Answer → Type 0
-IsNotByPivots (Undecided (Pivots wanted bases board)) = ⊥
+IsNotByPivots (Undecided (Pivots wanted bases board left)) = ⊥
 IsNotByPivots (Undecided (SubsetPivots members bases)) = ⊥
 IsNotByPivots (Unranged fault c) = IsRangeNotByPivots fault
 IsNotByPivots answer = Unit {0}

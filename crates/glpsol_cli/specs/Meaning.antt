@@ -10,6 +10,7 @@ use Rattle.verdicts.specs.Certificate.{Certificate, Verdict, Version, One, Two}
 use Rattle.verdicts.specs.Certificate as kind
 use Rattle.verdicts.specs.Migrated.{migrated}
 use Rattle.certificate.specs.Text.{certificate_text}
+use Rattle.partial_certificate.specs.Text.{partial_text}
 use Rattle.gmpl_solution.specs.Solution.{Duals}
 use Rattle.dual_values.specs.Duals.{duals_of}
 use Rattle.gmpl_generate.specs.declared.fault.ModelFault.{ModelFault}
@@ -31,10 +32,10 @@ use Rattle.solution_writer.specs.Subset.{subset_report}
 use Rattle.solution_writer.specs.Solution.{raw_solution}
 use Rattle.exact_ranges.specs.Ranges.{AllRanges}
 use Rattle.exact_ranges.specs.Text.{ranges_text}
-use Rattle.glpsol_cli.specs.Asked.{migrated_file, names_checked, outputs_of, ranges_file, wants_subset, wants_summary}
+use Rattle.glpsol_cli.specs.Asked.{certificate_file, migrated_file, names_checked, outputs_of, ranges_file, wants_subset, wants_summary}
 use Rattle.glpsol_cli.specs.Pieces.{Piece}
 use Rattle.glpsol_cli.specs.declared.answer.Reached.{Reached}
-use Rattle.glpsol_cli.specs.declared.answer.Reached.TheVariants.{Nothing, Executed, Size, Acceptance, Verdict as VerdictReached, Subset as SubsetReached, Ranges as RangesReached}
+use Rattle.glpsol_cli.specs.declared.answer.Reached.TheVariants.{Nothing, Executed, Size, Shown, Acceptance, Verdict as VerdictReached, Subset as SubsetReached, Ranges as RangesReached}
 use Rattle.glpsol_cli.specs.declared.answer.Target.{Target}
 use Rattle.glpsol_cli.specs.declared.answer.Target.TheVariants.{Out, File}
 use Rattle.glpsol_cli.specs.declared.answer.TextFault.{TextFault}
@@ -230,12 +231,13 @@ abbrev pub whole_report : Bool → Task → Problem → Certificate → Option (
 whole_report true task p c = None
 whole_report false task p c = report_by (wants_summary task) p c
 
--- what is written of a problem once this was reached; none where a certificate lacks a part that its report shows, or a subset is
+-- What is written of a problem once this was reached. What a search has shown that came to a limit goes to the certificate's file. None where a certificate lacks a part that its report shows, or a subset is
 -- lacking that is wanted
 abbrev pub found_pieces : Task → Problem → Reached → Option (List Piece)
 found_pieces task p Nothing = Some []
 found_pieces task p Executed = Some []
 found_pieces task p Size = Some (printed (translated_report p))
+found_pieces task p (Shown c) = Some (saved_in (certificate_file task) (partial_text c))
 found_pieces task p (Acceptance c) = Some (accepted_pieces task p c)
 found_pieces task p (VerdictReached c) = option_map (solved_pieces task p c) (whole_report (lacks_subset (wants_subset task) c.verdict) task p c)
 found_pieces task p (RangesReached c r) = option_map (solved_pieces task p c) (whole_report (lacks_subset (wants_subset task) c.verdict) task p c)
@@ -263,6 +265,7 @@ abbrev pub behind_of : Task → Meaning → Reached → Behind
 behind_of task m Nothing = nothing_behind
 behind_of task m Executed = nothing_behind
 behind_of task m Size = nothing_behind
+behind_of task m (Shown c) = nothing_behind
 behind_of task m (Acceptance c) = nothing_behind
 behind_of task m (VerdictReached c) = behind_at m.behind m.end c
 behind_of task m (SubsetReached c w) = nothing_behind

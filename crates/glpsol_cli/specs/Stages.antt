@@ -1,12 +1,15 @@
 -- What the stages of a run say: what is executed and found, why nothing is found, how the writing ends, and what is said of an
 -- answer by the settings and the texts that were read.
-use Rattle.std.specs.Prelude.{◌≡◌, ◌<◌, ◌≤◌, ℕ, suc, true, false, List, [], ◌∷◌, ◌++◌, length, slice_get, take, drop, Result, Ok, Err, Some, None, map, string_bytes}
+use Rattle.std.specs.Prelude.{◌≡◌, ◌<◌, ◌≤◌, ℕ, suc, true, false, List, [], ◌∷◌, ◌++◌, length, slice_get, take, drop, Result, Ok, Err, is_some, Some, None, IfSome, map, string_bytes}
 use Rattle.std.specs.declared.option.Option.{Option}
 use Rattle.rational.specs.Rational.{Rational}
 use Rattle.milp.specs.Problem.{Problem}
 use Rattle.verdicts.specs.Certificate.{Certificate}
 use Rattle.verdicts.specs.Certificate as kind
 use Rattle.verdicts.specs.Proves.{Proves}
+use Rattle.partial_certificate.specs.Partial.{Partial}
+use Rattle.partial_certificate.specs.Shown.{Passes}
+use Rattle.partial_certificate.specs.Text.{partial_text}
 use Rattle.gmpl_solution.specs.Solution.{Duals}
 use Rattle.gmpl_generate.specs.declared.fault.ModelFault.{ModelFault}
 use Rattle.gmpl_generate.specs.Running.{File as TableFile, files_of}
@@ -20,7 +23,8 @@ use Rattle.exact_ranges.specs.Ranges.{AllRanges}
 use Rattle.exact_ranges.specs.Text.{ranges_text}
 use Rattle.exact_ranges.specs.ShownBest.{best_point, best_weights}
 use Rattle.exact_ranges.specs.declared.fault.RangeFault.{RangeFault}
-use Rattle.cut_search.specs.Searched.{IsFaultOf as IsSearchFault}
+use Rattle.stopped_search.specs.declared.fault.Unsolved.{Unsolved}
+use Rattle.cut_search.specs.Searched.{IsUnsolved as IsSearchUnsolved}
 use Rattle.branch_search.specs.declared.whole_fault.VerdictFault.{VerdictFault}
 use Rattle.branch_search.specs.declared.whole_fault.VerdictFault.TheVariants.{NoFit as SearchNoFit, PivotLimit, SplitLimit, NoMemory as SearchNoMemory}
 use Rattle.infeasible_subset.specs.Faults.{IsFault as IsSubsetFault}
@@ -39,18 +43,20 @@ use Rattle.command_line.specs.declared.settings.WordsFault.{WordsFault}
 use Rattle.command_line.specs.declared.settings.WordsFault.TheVariants.{Usage as WordsUsage, NoMemory as WordsNoMemory}
 use Rattle.solution_writer.specs.Report.{IsReportable}
 use Rattle.outside.specs.Causes.{Rose}
-use Rattle.glpsol_cli.specs.Asked.{ToldNames, AreTexts, AreThere, IsInTurn, Solves, Translates, sources_of, ranges_file, splits_rows, uses_cuts, wants_linear, wants_ranges, wants_subset}
+use Rattle.glpsol_cli.specs.Asked.{ToldNames, AreTexts, AreThere, IsInTurn, Solves, Translates, certificate_file, sources_of, ranges_file, splits_rows, uses_cuts, wants_linear, wants_ranges, wants_subset}
 use Rattle.glpsol_cli.specs.Pieces.{Piece, Outside, AllWritten, SameNames, Says, WrittenUpTo, SomeWritten, IsFileInPart, IsWritten, IsWrittenInPart, told_behind}
-use Rattle.glpsol_cli.specs.Meaning.{Behind, Declared, Faulty, Wanting, Meaning, HasDone, asked_of, behind_of, displayed, ends_in, file_pieces, files_behind, files_by, found_pieces, lacks_subset, made_in, meaning_in, meaning_of, nothing_behind, saved_in, shown_by}
+use Rattle.glpsol_cli.specs.Meaning.{Behind, Declared, Faulty, Wanting, IsAsked, Meaning, HasDone, asked_of, behind_of, displayed, ends_in, file_pieces, files_behind, files_by, found_pieces, lacks_subset, made_in, meaning_in, meaning_of, nothing_behind, saved_in, shown_by}
 use Rattle.glpsol_cli.specs.Texts.{AreTables, OfTexts, OfPieces}
 use Rattle.glpsol_cli.specs.Written.{ThenLine, extent_of, line_of}
 use Rattle.glpsol_cli.specs.Cause.{AreRanges, HasSubset, IsByWeights, IsNotLinear, IsSubsetOf, reached_of, OfCertificate, IsAccepted, IsRefusedAt, IsCheckOverflow, IsNoCertificate, IsOverflow, IsUndecided, RoseAt}
 use Rattle.glpsol_cli.specs.declared.answer.Answer.{Answer}
 use Rattle.glpsol_cli.specs.declared.answer.Answer.TheVariants.{Optimal, Ranged, Usage, Missing, OpenFault, ReadFault, WriteFault, TooLong, FaultBehindSolve, Unranged, BadCertificate, NotLinear, Overflow, Undecided, Refused, NoMemory}
+use Rattle.glpsol_cli.specs.declared.answer.Leftover.{Leftover}
+use Rattle.glpsol_cli.specs.declared.answer.Leftover.TheVariants.{Unasked, Unmade, Saved, Unsaved}
 use Rattle.glpsol_cli.specs.declared.answer.Limit.TheVariants.{Pivots, Splits, SubsetPivots}
 use Rattle.glpsol_cli.specs.declared.answer.OverflowSite.TheVariants.{AtNode, InPart, InSubset}
 use Rattle.glpsol_cli.specs.declared.answer.Reached.{Reached}
-use Rattle.glpsol_cli.specs.declared.answer.Reached.TheVariants.{Nothing, Executed, Size as SizeReached, Acceptance as AcceptanceReached, Verdict as VerdictReached, Subset as SubsetReached, Ranges as RangesReached}
+use Rattle.glpsol_cli.specs.declared.answer.Reached.TheVariants.{Nothing, Executed, Size as SizeReached, Shown as ShownReached, Acceptance as AcceptanceReached, Verdict as VerdictReached, Subset as SubsetReached, Ranges as RangesReached}
 use Rattle.glpsol_cli.specs.declared.answer.TextFault.TheVariants as text_fault
 use Rattle.glpsol_cli.specs.declared.answer.Target.TheVariants.{Out}
 use Rattle.glpsol_cli.specs.declared.inputs.Inputs.{Inputs}
@@ -253,17 +259,22 @@ pub record IsRefuted (p : Problem) : Type 0 where
 
 -- why no solution of a problem is found, or no subset that is wanted
 abbrev pub IsUnsolved : Problem → Settings → Unfound → Type 0
-IsUnsolved p s (Solve fault) = IsSearchFault (uses_cuts s.task) (splits_rows s.task) p s.split_limit s.pivot_limit fault
+IsUnsolved p s (Solve u) = IsSearchUnsolved (uses_cuts s.task) (splits_rows s.task) p s.split_limit s.pivot_limit u × IfSome u.shown (Passes p)
 IsUnsolved p s (Check stop) = ⊥
 IsUnsolved p s (Subset fault) = (wants_subset s.task ≡ true) × IsRefuted p × IsSubsetFault p s.pivot_limit fault
 IsUnsolved p s IsIntegral = (wants_linear s.task ≡ true) × ¬ (NoneInteger p.columns)
 
+-- a search finds no verdict of the problem that is asked about, and all tests hold of what it has shown
+pub record OfUnsolved (u : Unsolved) (s : Settings) (texts : List (List ℕ)) : Type 0 where
+  pub problem : Problem
+  pub asked : IsAsked s texts problem
+  pub solves : Solves s
+  pub unsolved : IsSearchUnsolved (uses_cuts s.task) (splits_rows s.task) problem s.split_limit s.pivot_limit u
+  pub passes : IfSome u.shown (Passes problem)
+
 -- why nothing is found
 abbrev pub IsUnfound : Unfound → Settings → List (List ℕ) → Type 0
-IsUnfound (Solve (SearchNoFit wanted site)) s texts = IsOverflow (AtNode wanted site.node) site.fault s texts
-IsUnfound (Solve (PivotLimit wanted bases board)) s texts = IsUndecided (Pivots wanted bases board) s texts
-IsUnfound (Solve (SplitLimit wanted board)) s texts = IsUndecided (Splits wanted board) s texts
-IsUnfound (Solve SearchNoMemory) s texts = Unit {0}
+IsUnfound (Solve u) s texts = OfUnsolved u s texts
 IsUnfound (Check (BadText fault)) s texts = OfCertificate (IsNoCertificate fault) s texts
 IsUnfound (Check (CheckRefused part)) s texts = OfCertificate (IsRefusedAt part) s texts
 IsUnfound (Check (CheckNoFit f)) s texts = OfCertificate (IsCheckOverflow f.part f.fault) s texts
@@ -342,11 +353,33 @@ unread_answer reached name Read = ReadFault name reached
 unread_answer reached name LoadTooLong = TooLong name reached
 unread_answer reached name LoadNoMemory = NoMemory reached
 
-abbrev pub solve_answer : VerdictFault → Answer
-solve_answer (SearchNoFit wanted site) = Overflow (AtNode wanted site.node) site.fault
-solve_answer (PivotLimit wanted bases board) = Undecided (Pivots wanted bases board)
-solve_answer (SplitLimit wanted board) = Undecided (Splits wanted board)
-solve_answer SearchNoMemory = NoMemory Executed
+-- what is left where a search has shown this, or memory was wanting for it
+abbrev pub IsLeaving : Option (List ℕ) → Option Partial → Leftover → Type 0
+IsLeaving file shown Unasked = is_some file ≡ false
+IsLeaving file shown Unmade = is_some file ≡ true
+IsLeaving file shown (Saved c) = (is_some file ≡ true) × (shown ≡ Some c)
+IsLeaving file shown (Unsaved c) = (is_some file ≡ true) × (shown ≡ Some c)
+
+-- of a search without a verdict
+abbrev pub IsUnsolvedAnswer : Option (List ℕ) → VerdictFault → Option Partial → Answer → Type 0
+IsUnsolvedAnswer file (SearchNoFit wanted site) shown answer = answer ≡ Overflow (AtNode wanted site.node) site.fault
+IsUnsolvedAnswer file (PivotLimit wanted bases board) shown answer = (left : Leftover) × IsLeaving file shown left × (answer ≡ Undecided (Pivots wanted bases board left))
+IsUnsolvedAnswer file (SplitLimit wanted board) shown answer = (left : Leftover) × IsLeaving file shown left × (answer ≡ Undecided (Splits wanted board left))
+IsUnsolvedAnswer file SearchNoMemory shown answer = answer ≡ NoMemory Executed
+
+-- what is left where this was reached
+abbrev pub saved_pieces_of : Option (List ℕ) → Reached → List Piece
+saved_pieces_of file Nothing = []
+saved_pieces_of file Executed = []
+saved_pieces_of file SizeReached = []
+saved_pieces_of file (ShownReached c) = saved_in file (partial_text c)
+saved_pieces_of file (AcceptanceReached c) = []
+saved_pieces_of file (VerdictReached c) = []
+saved_pieces_of file (SubsetReached c w) = []
+saved_pieces_of file (RangesReached c r) = []
+
+abbrev pub left_pieces : Task → Reached → List Piece
+left_pieces task reached = saved_pieces_of (certificate_file task) reached
 
 abbrev pub check_answer : CheckStop → Answer
 check_answer (BadText fault) = BadCertificate fault
@@ -358,12 +391,6 @@ abbrev pub subset_answer : SubsetFault → Answer
 subset_answer (SubsetNoFit stuck) = Overflow (InSubset stuck.members) stuck.fault
 subset_answer (SubsetPivotLimit long) = Undecided (SubsetPivots long.members long.bases)
 subset_answer SubsetNoMemory = NoMemory Executed
-
-abbrev pub unfound_answer : Unfound → Answer
-unfound_answer (Solve fault) = solve_answer fault
-unfound_answer (Check fault) = check_answer fault
-unfound_answer (Subset fault) = subset_answer fault
-unfound_answer IsIntegral = NotLinear
 
 abbrev pub words_answer : WordsFault → Answer
 words_answer WordsUsage = Usage
@@ -451,6 +478,7 @@ abbrev pub range_pieces : Task → Reached → List Piece
 range_pieces task Nothing = []
 range_pieces task Executed = []
 range_pieces task SizeReached = []
+range_pieces task (ShownReached c) = []
 range_pieces task (AcceptanceReached c) = []
 range_pieces task (VerdictReached c) = []
 range_pieces task (SubsetReached c w) = []
@@ -582,6 +610,7 @@ abbrev pub LeftIn : Settings → List (List ℕ) → Reached → (List Piece →
 LeftIn s texts Nothing P = ⊥
 LeftIn s texts Executed P = P []
 LeftIn s texts SizeReached P = HasLeft SizeReached P s texts
+LeftIn s texts (ShownReached c) P = HasLeft (ShownReached c) P s texts
 LeftIn s texts (AcceptanceReached c) P = HasLeft (AcceptanceReached c) P s texts
 LeftIn s texts (VerdictReached c) P = HasLeft (VerdictReached c) P s texts
 LeftIn s texts (SubsetReached c w) P = HasLeft (SubsetReached c w) P s texts

@@ -7,7 +7,7 @@ use Rattle.glpsol_cli.specs.Asked.{ToldNames, AreTexts, IsInTurn, IsTextOf, sour
 use Rattle.glpsol_cli.specs.Pieces.{Piece, told_behind}
 use Rattle.glpsol_cli.specs.Meaning.{Meaning, HasDone, HasFound, Wanting, meaning_of}
 use Rattle.glpsol_cli.specs.declared.answer.Reached.{Reached}
-use Rattle.glpsol_cli.specs.declared.answer.Reached.TheVariants.{Nothing, Executed, Size, Acceptance, Verdict as VerdictReached, Subset as SubsetReached, Ranges as RangesReached}
+use Rattle.glpsol_cli.specs.declared.answer.Reached.TheVariants.{Nothing, Executed, Size, Shown, Acceptance, Verdict as VerdictReached, Subset as SubsetReached, Ranges as RangesReached}
 
 -- A table's file of this name is to be read next. P holds of what is told of it then: the files of tables that are made before are
 -- written.
@@ -43,6 +43,7 @@ abbrev pub OfFile : List (List ℕ) → ToldNames → List ℕ → Reached → (
 OfFile words told name Nothing P = IsInTurn words told name × P (told name)
 OfFile words told name Executed P = OfTexts words told (IsTableInTurn told name P)
 OfFile words told name Size P = ⊥
+OfFile words told name (Shown c) P = ⊥
 OfFile words told name (Acceptance c) P = ⊥
 OfFile words told name (VerdictReached c) P = ⊥
 OfFile words told name (SubsetReached c w) P = ⊥
@@ -53,6 +54,7 @@ abbrev pub OfPieces : List (List ℕ) → ToldNames → Reached → (List Piece 
 OfPieces words told Nothing P = P []
 OfPieces words told Executed P = OfTexts words told (HasDone P)
 OfPieces words told Size P = OfTexts words told (HasFound Size P)
+OfPieces words told (Shown c) P = OfTexts words told (HasFound (Shown c) P)
 OfPieces words told (Acceptance c) P = OfTexts words told (HasFound (Acceptance c) P)
 OfPieces words told (VerdictReached c) P = OfTexts words told (HasFound (VerdictReached c) P)
 OfPieces words told (SubsetReached c w) P = OfTexts words told (HasFound (SubsetReached c w) P)

@@ -9,16 +9,17 @@ use Rattle.glpsol_cli.specs.Pieces.{Piece, Outside}
 use Rattle.glpsol_cli.specs.Meaning.{IsRefused, HasDone, HasFound}
 use Rattle.glpsol_cli.specs.Texts.{IsTableInTurn, OfTexts}
 use Rattle.glpsol_cli.specs.Written.{ThenLine, extent_of, line_of}
-use Rattle.glpsol_cli.specs.Cause.{EndsBehind, EndsWithoutRanges, IsBest, IsProved, IsTranslated, HasBestRanges, HasNoPoint, HasRanges, HasRay, HasSubset, IsIrreducibleSubset, LacksRanges, IsNotLinear, reached_of, OfCertificate, IsAccepted, IsRefusedAt, IsNoCertificate, IsOverflow, IsUndecided, RoseAt}
+use Rattle.glpsol_cli.specs.Cause.{EndsBehind, EndsWithoutRanges, IsBest, IsProved, IsShown, IsTested, IsTranslated, HasBestRanges, HasNoPoint, HasRanges, HasRay, HasSubset, IsIrreducibleSubset, LacksRanges, IsNotLinear, reached_at, reached_of, OfCertificate, IsAccepted, IsRefusedAt, IsNoCertificate, IsOverflow, IsUndecided, RoseAt}
 use Rattle.glpsol_cli.specs.declared.answer.Answer.{Answer}
 use Rattle.glpsol_cli.specs.declared.answer.Answer.TheVariants.{Optimal, Ranged, Infeasible, Irreducible, Unbounded, Translated, Accepted, Usage, Missing, OpenFault, ReadFault, WriteFault, TooLong, BadText as TextRefused, FaultBehindSolve, Unranged, BadCertificate, NotLinear, Overflow, Undecided, Refused, NoMemory}
 use Rattle.glpsol_cli.specs.declared.answer.Reached.{Reached}
-use Rattle.glpsol_cli.specs.declared.answer.Reached.TheVariants.{Nothing, Executed, Size as SizeReached, Acceptance as AcceptanceReached, Verdict as VerdictReached, Subset as SubsetReached, Ranges as RangesReached}
+use Rattle.glpsol_cli.specs.declared.answer.Reached.TheVariants.{Nothing, Executed, Size as SizeReached, Shown as ShownReached, Acceptance as AcceptanceReached, Verdict as VerdictReached, Subset as SubsetReached, Ranges as RangesReached}
 
 abbrev pub ReachedIn : Settings → List (List ℕ) → Reached → Type 0
 ReachedIn s texts Nothing = Unit {0}
 ReachedIn s texts Executed = HasDone (λ done. Unit {0}) s texts
 ReachedIn s texts SizeReached = IsTranslated s texts
+ReachedIn s texts (ShownReached c) = IsTested c s texts
 ReachedIn s texts (AcceptanceReached c) = OfCertificate (IsAccepted c) s texts
 ReachedIn s texts (VerdictReached c) = IsProved c s texts
 ReachedIn s texts (SubsetReached c w) = HasSubset c w s texts
@@ -54,6 +55,7 @@ abbrev pub PiecesIn : Settings → List (List ℕ) → Reached → (List Piece �
 PiecesIn s texts Nothing P = P []
 PiecesIn s texts Executed P = HasDone P s texts
 PiecesIn s texts SizeReached P = HasFound SizeReached P s texts
+PiecesIn s texts (ShownReached c) P = HasFound (ShownReached c) P s texts
 PiecesIn s texts (AcceptanceReached c) P = HasFound (AcceptanceReached c) P s texts
 PiecesIn s texts (VerdictReached c) P = HasFound (VerdictReached c) P s texts
 PiecesIn s texts (SubsetReached c w) P = HasFound (SubsetReached c w) P s texts
@@ -69,6 +71,11 @@ CauseBy told files_rose out_rose (ReadFault name reached) s texts = IsTableInTur
 CauseBy told files_rose out_rose (TooLong name reached) s texts = IsTableInTurn told name (λ now. (Lacks now → ⊥) × ((text : List ℕ) → Has now text → 67108864 < length text)) s texts
 CauseBy told files_rose out_rose answer s texts = CauseIn s texts files_rose out_rose answer
 
+-- what is left of a search shows what it says
+abbrev pub ShownBy : Reached → Settings → List (List ℕ) → Type 0
+ShownBy (ShownReached c) s texts = IsShown c s texts
+ShownBy reached s texts = Unit {0}
+
 -- the user's words for the verdict of an answer
 abbrev pub VerdictBy : Answer → Settings → List (List ℕ) → Type 0
 VerdictBy (Optimal c) s texts = IsBest c s texts
@@ -78,6 +85,7 @@ VerdictBy (Irreducible c w) s texts = IsIrreducibleSubset c w s texts
 VerdictBy (Unbounded c) s texts = HasRay c s texts
 VerdictBy (FaultBehindSolve fault c) s texts = IsBest c s texts
 VerdictBy (Unranged fault c) s texts = IsBest c s texts
+VerdictBy (Undecided limit) s texts = ShownBy (reached_at limit) s texts
 VerdictBy answer s texts = Unit {0}
 
 -- these settings and texts are those of the cause, and of all that is written
@@ -90,6 +98,7 @@ abbrev pub OnceExecuted : Reached → Type 0 → Type 0
 OnceExecuted Nothing P = Unit {0}
 OnceExecuted Executed P = P
 OnceExecuted SizeReached P = P
+OnceExecuted (ShownReached c) P = P
 OnceExecuted (AcceptanceReached c) P = P
 OnceExecuted (VerdictReached c) P = P
 OnceExecuted (SubsetReached c w) P = P

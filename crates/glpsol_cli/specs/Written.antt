@@ -11,6 +11,8 @@ use Rattle.glpsol_cli.specs.Texts.{OfPieces}
 use Rattle.glpsol_cli.specs.Cause.{reached_of}
 use Rattle.glpsol_cli.specs.declared.answer.Answer.{Answer}
 use Rattle.glpsol_cli.specs.declared.answer.Answer.TheVariants.{Optimal, Ranged, Infeasible, Irreducible, Unbounded, Translated, Accepted, Usage, Missing, OpenFault, ReadFault, WriteFault, TooLong, BadText, FaultBehindSolve, Unranged, BadCertificate, NotLinear, Overflow, Undecided, Refused, NoMemory}
+use Rattle.glpsol_cli.specs.declared.answer.Leftover.{Leftover}
+use Rattle.glpsol_cli.specs.declared.answer.Leftover.TheVariants.{Unasked, Unmade, Saved, Unsaved}
 use Rattle.glpsol_cli.specs.declared.answer.Limit.{Limit}
 use Rattle.glpsol_cli.specs.declared.answer.Limit.TheVariants.{Pivots, Splits, SubsetPivots}
 use Rattle.glpsol_cli.specs.declared.answer.Target.{Target}
@@ -30,9 +32,9 @@ text_line (Model fault) = model_line fault
 text_line (FileText fault) = file_line fault
 
 abbrev pub undecided_line : Limit → List ℕ
-undecided_line (Pivots wanted bases board) = undecided_pivots_line
+undecided_line (Pivots wanted bases board left) = undecided_pivots_line
 undecided_line (SubsetPivots members bases) = undecided_pivots_line
-undecided_line (Splits wanted board) = undecided_nodes_line
+undecided_line (Splits wanted board left) = undecided_nodes_line
 
 -- where a problem of a range's end has more columns, rows or entries than a problem takes
 abbrev pub too_large_line : List ℕ
@@ -78,6 +80,18 @@ line_of (Undecided limit) = undecided_line limit
 line_of (Refused part) = refused_line part
 line_of (NoMemory reached) = no_memory_line
 
+-- the file of what a search leaves is written, or a part of it
+abbrev pub extent_left : Leftover → Extent
+extent_left Unasked = Whole
+extent_left Unmade = Whole
+extent_left (Saved c) = Whole
+extent_left (Unsaved c) = Part
+
+abbrev pub extent_at : Limit → Extent
+extent_at (Pivots wanted bases board left) = extent_left left
+extent_at (Splits wanted board left) = extent_left left
+extent_at (SubsetPivots members bases) = Whole
+
 -- how far the pieces are written: up to what can't be written, or, where memory is wanting, some of them; else all
 abbrev pub extent_of : Answer → Extent
 extent_of (Optimal c) = Whole
@@ -99,7 +113,7 @@ extent_of (Unranged fault c) = Whole
 extent_of (BadCertificate fault) = Whole
 extent_of NotLinear = Whole
 extent_of (Overflow at fault) = Whole
-extent_of (Undecided limit) = Whole
+extent_of (Undecided limit) = extent_at limit
 extent_of (Refused part) = Whole
 extent_of (NoMemory reached) = Part
 

@@ -14,6 +14,7 @@ use gmpl_syntax::SyntaxFault;
 use infeasible_subset::{Members, Subset};
 use instance::Name;
 use model_text::FileFault;
+use partial_certificate::PartialCertificate;
 use search_node::{Bases, Node};
 use sqlite_items::Boxed;
 use tree_pool::Board;
@@ -55,13 +56,27 @@ pub enum OverflowSite {
 #[derive(Drop)]
 pub enum Limit {
     /// At a node the simplex method went through these bases, as many steps as are allowed, and has not ended; this is the board on
-    /// which the search stopped there.
-    Pivots(Wanted, Bases, Boxed<Board>),
-    /// As many splits are made as are allowed on this board, and nodes are left that would have to be split.
-    Splits(Wanted, Boxed<Board>),
+    /// which the search stopped there, and what it leaves.
+    Pivots(Wanted, Bases, Boxed<Board>, Leftover),
+    /// As many splits are made as are allowed on this board, and nodes are left that would have to be split; this is what it leaves.
+    Splits(Wanted, Boxed<Board>, Leftover),
     /// In the search for an infeasible subset, where the problem keeps these bounds alone, the simplex method went through these
     /// bases, as many steps as are allowed, and has not ended.
     SubsetPivots(Members, Bases),
+}
+
+/// What a search that came to a limit leaves for another to go on from: what it has shown of the problem, in the file that the task
+/// names for a certificate.
+#[derive(Drop)]
+pub enum Leftover {
+    /// The task names no file.
+    Unasked,
+    /// The file is not made: memory is wanting.
+    Unmade,
+    /// The file has this partial certificate.
+    Saved(Boxed<PartialCertificate>),
+    /// The file was to have this partial certificate, and has a part of its text, or is as it was.
+    Unsaved(Boxed<PartialCertificate>),
 }
 
 /// How far a run has come.
@@ -73,6 +88,8 @@ pub enum Reached {
     Executed,
     /// The size of the problem is found, which was asked for.
     Size,
+    /// A search came to a limit, and this is what it has shown of the problem, which was to be left in a file.
+    Shown(Boxed<PartialCertificate>),
     /// This is the certificate that was to be checked, and it proves its verdict.
     Acceptance(Boxed<Certificate>),
     /// This certificate proves its verdict, and the checker accepts it.
@@ -153,7 +170,7 @@ pub enum Answer {
         at: OverflowSite,
         fault: NoFit,
     },
-    /// The search came to this limit.
+    /// The search came to this limit. A file that can't be written for what it leaves changes nothing of the answer.
     Undecided(Limit),
     /// This part of the certificate that was to be checked is the first that does not hold.
     Refused(Part),

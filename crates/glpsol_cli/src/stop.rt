@@ -1,15 +1,15 @@
 // Why the work stops, by the stage of it that says so.
 ghost use Rattle.std.specs.Prelude.{◌≡◌};
-ghost use Rattle.glpsol_cli.specs.Stages.{words_answer, unread_answer, solve_answer, check_answer, subset_answer, unfound_answer, stop_answer};
+ghost use Rattle.glpsol_cli.specs.Stages.{words_answer, unread_answer, check_answer, subset_answer, stop_answer};
 
 use crate::{Answer, Limit, OverflowSite, Reached};
-use branch_search::VerdictFault;
 use cert_check::{CheckFault, Part};
 use certificate_reader::CertFault;
 use command_line::WordsFault;
 use infeasible_subset::{StuckAt, SubsetFault, TooLong};
 use instance::Name;
 use outside::LoadFault;
+use stopped_search::Unsolved;
 
 // Why there are no texts.
 #[derive(Drop)]
@@ -29,7 +29,7 @@ pub struct Unread {
 // Why nothing is found of a problem.
 #[derive(Drop)]
 pub enum Unfound {
-    Solve(VerdictFault),
+    Solve(Unsolved),
     Check(CheckStop),
     Subset(SubsetFault),
     // a subset is asked for of a problem with integer columns
@@ -79,38 +79,8 @@ pub fn unread_answer(reached: Reached, unread: Unread) -> Answer
     }
 }
 
-/// The answer where nothing is found of a problem.
-pub fn unfound_answer(unfound: Unfound) -> Answer
-    ensures { result ≡ unfound_answer unfound }
-{
-    match unfound {
-        Unfound::Solve(fault) => solve_answer(fault),
-        Unfound::Check(stop) => check_answer(stop),
-        Unfound::Subset(fault) => subset_answer(fault),
-        Unfound::NotLinear => Answer::NotLinear,
-    }
-}
-
-fn solve_answer(fault: VerdictFault) -> Answer
-    ensures { result ≡ solve_answer fault }
-{
-    match fault {
-        VerdictFault::NoFit(wanted, site) => Answer::Overflow {
-            at: OverflowSite::AtNode {
-                wanted,
-                node: site.node,
-            },
-            fault: site.fault,
-        },
-        VerdictFault::PivotLimit(wanted, bases, board) => {
-            Answer::Undecided(Limit::Pivots(wanted, bases, board))
-        }
-        VerdictFault::SplitLimit(wanted, board) => Answer::Undecided(Limit::Splits(wanted, board)),
-        VerdictFault::NoMemory => no_memory(Reached::Executed),
-    }
-}
-
-fn check_answer(stop: CheckStop) -> Answer
+/// The answer where a certificate is not accepted.
+pub fn check_answer(stop: CheckStop) -> Answer
     ensures { result ≡ check_answer stop }
 {
     match stop {
@@ -124,7 +94,8 @@ fn check_answer(stop: CheckStop) -> Answer
     }
 }
 
-fn subset_answer(fault: SubsetFault) -> Answer
+/// The answer where no subset is found.
+pub fn subset_answer(fault: SubsetFault) -> Answer
     ensures { result ≡ subset_answer fault }
 {
     match fault {
@@ -139,7 +110,7 @@ fn subset_answer(fault: SubsetFault) -> Answer
     }
 }
 
-fn no_memory(reached: Reached) -> Answer
+pub fn no_memory(reached: Reached) -> Answer
     ensures { result ≡ Answer.NoMemory reached }
 {
     Answer::NoMemory { reached }

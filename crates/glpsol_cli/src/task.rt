@@ -3,7 +3,7 @@
 ghost use Rattle.std.specs.Prelude.{◌≡◌};
 ghost use Rattle.verdicts.specs.Certificate as kind;
 ghost use Rattle.outside.specs.Causes.{Rose};
-ghost use Rattle.glpsol_cli.specs.Stages.{IsFinding, IsSubject, LeftWritten, RestWritten, reached_by, texts_in};
+ghost use Rattle.glpsol_cli.specs.Stages.{IsFinding, IsSubject, IsUnfound, LeftWritten, RestWritten, reached_by, texts_in};
 ghost use Rattle.glpsol_cli.specs.Together.{CauseIn};
 
 use crate::behind::{afterwards, end_behind};
@@ -11,8 +11,9 @@ use crate::execution::Later;
 use crate::found::Finding;
 use crate::inputs::Inputs;
 use crate::publish::publish;
-use crate::stop::unfound_answer;
+use crate::stop::{Unfound, check_answer, subset_answer};
 use crate::tell::{tell, tell_unwritten};
+use crate::unsolved::unsolved_answer;
 use crate::work_out::finding;
 use crate::{Answer, Reached};
 use certificate::{Certificate, Verdict};
@@ -40,7 +41,36 @@ pub fn from_problem<T: Threads + Sync, S: Store, O: Sink>(
 {
     match finding(rt, alloc, problem, inputs) {
         Ok(finding) => from_finding(alloc, inputs, problem, later, finding, files, out),
-        Err(unfound) => tell(alloc, out, unfound_answer(unfound)),
+        Err(unfound) => from_unfound(alloc, inputs, problem, later, unfound, files, out),
+    }
+}
+
+// Nothing is found. What a search has shown that came to a limit is left, and the line of the answer is told.
+fn from_unfound<S: Store, O: Sink>(
+    alloc: Global,
+    inputs: &Inputs,
+    problem: &Instance,
+    later: Option<Later>,
+    unfound: Unfound,
+    files: &mut S,
+    out: &mut O,
+) -> Answer
+    requires subject { IsSubject inputs.now.settings (texts_in inputs.now) problem.now later }
+    requires unfound { IsUnfound unfound inputs.now.settings (texts_in inputs.now) }
+    ensures cause { CauseIn inputs.now.settings (texts_in inputs.now)
+        (Rose (S.faults files.old) (S.faults files.new)) (Rose (O.faults out.old) (O.faults out.new)) result }
+    ensures written { LeftWritten inputs.now.settings (texts_in inputs.now) (record { taken = O.taken out.old; told = S.told files.old })
+        (record { taken = O.taken out.new; told = S.told files.new }) result }
+{
+    match unfound {
+        Unfound::Solve(unsolved) => {
+            let task = &inputs.settings.get().task;
+            let answer = unsolved_answer(alloc, task, unsolved, files, out);
+            tell(alloc, out, answer)
+        }
+        Unfound::Check(stop) => tell(alloc, out, check_answer(stop)),
+        Unfound::Subset(fault) => tell(alloc, out, subset_answer(fault)),
+        Unfound::NotLinear => tell(alloc, out, Answer::NotLinear),
     }
 }
 

@@ -1,6 +1,7 @@
 // The whole of the program's work.
 ghost use Rattle.std.specs.Prelude.{◌≡◌, ◌≤◌, ℕ, List, true, false, Some, map, string_bytes};
 ghost use Rattle.verdicts.specs.Certificate.{Certificate};
+ghost use Rattle.partial_certificate.specs.Partial.{Partial};
 ghost use Rattle.infeasible_subset.specs.declared.witness.Subset.{Subset};
 ghost use Rattle.exact_ranges.specs.Ranges.{AllRanges};
 ghost use Rattle.outside.specs.Causes.{Rose};
@@ -9,7 +10,7 @@ ghost use Rattle.command_line.specs.declared.settings.Settings.{Settings};
 ghost use Rattle.glpsol_cli.specs.Asked.{ToldNames, wants_ranges, wants_subset};
 ghost use Rattle.glpsol_cli.specs.Pieces.{Outside, SameNames};
 ghost use Rattle.glpsol_cli.specs.Texts.{OfTexts};
-ghost use Rattle.glpsol_cli.specs.Cause.{Cause, HasBestRanges, IsBest, HasNoPoint, HasRay, IsIrreducibleSubset, IsNotByPivots, IsNotPlain, IsNotWithoutRanges, IsTrueOf, reached_of};
+ghost use Rattle.glpsol_cli.specs.Cause.{Cause, HasBestRanges, IsBest, HasNoPoint, HasRay, IsIrreducibleSubset, IsNotByPivots, IsNotPlain, IsNotWithoutRanges, IsShown, IsTrueOf, reached_of};
 ghost use Rattle.glpsol_cli.specs.Written.{Written};
 ghost use Rattle.glpsol_cli.specs.Complete.{IsComplete, IsVerdictOrNoMemory};
 ghost use Rattle.glpsol_cli.specs.Stages.{AreInputs, AreSomeInputs, IsEndIn, IsEndOf, IsRun, IsSomeRun, IsSubject, IsWhole, LeftWritten, Moment, WrittenSince, texts_in};
@@ -26,6 +27,7 @@ use crate::tell::{tell, tell_unwritten};
 use crate::{Answer, Reached};
 use instance::Instance;
 use outside::{Sink, Store};
+use partial_certificate::accepted_partials_show;
 use std::alloc::Global;
 use std::thread::Threads;
 use verdicts::certificates_are_right;
@@ -66,6 +68,10 @@ pub fn run<T: Threads + Sync, S: Store, O: Sink>(
     // The verdict of each certificate that an answer carries is true, whatever fault comes after it.
     ensures carried { (c : Certificate) → reached_of result ≡ Reached.Verdict c → OfTexts (map string_bytes words.items) (S.told files.old) (IsTrueOf c) }
 
+    // What a search that came to a limit leaves is true: its best point is feasible and has its value, and a feasible point that is
+    // better, or any where there is no best one, can only lie at a leaf that is left to do.
+    ensures undecided { (c : Partial) → reached_of result ≡ Reached.Shown c → OfTexts (map string_bytes words.items) (S.told files.old) (IsShown c) }
+
     // Each answer has its cause, and each verdict a certificate that proves it and that the checker accepts.
     ensures cause { Cause (map string_bytes words.items) (S.told files.old)
         (Rose (S.faults files.old) (S.faults files.new)) (Rose (O.faults out.old) (O.faults out.new)) result }
@@ -88,6 +94,7 @@ pub fn run<T: Threads + Sync, S: Store, O: Sink>(
         (Rose (S.faults files.old) (S.faults files.new)) (Rose (O.faults out.old) (O.faults out.new)) → IsVerdictOrNoMemory result }
 {
     certificates_are_right();
+    accepted_partials_show();
     carried_out(rt, alloc, &words, files, out)
 }
 

@@ -1,10 +1,11 @@
 // What the words ask for is worked out: the problem is measured or solved, or a certificate checked against it.
-ghost use Rattle.std.specs.Prelude.{◌≡◌, ◌<◌, ◌≤◌, suc, length, true, Ok, IfOk, IfErr, map};
+ghost use Rattle.std.specs.Prelude.{◌≡◌, ◌<◌, ◌≤◌, suc, length, true, Ok, IfOk, IfErr, IfSome, map};
 ghost use Rattle.milp.specs.Problem.{Problem};
 ghost use Rattle.verdicts.specs.Proves.{Proves};
 ghost use Rattle.verdicts.specs.Certificate.{Infeasible as is_infeasible};
 ghost use Rattle.branch_search.specs.Plain.{NoneInteger, IsPlainCertificate};
-ghost use Rattle.cut_search.specs.Searched.{IsFaultOf};
+ghost use Rattle.partial_certificate.specs.Shown.{Passes};
+ghost use Rattle.cut_search.specs.Searched.{IsUnsolved as IsSearchUnsolved};
 ghost use Rattle.infeasible_subset.specs.Faults.{IsFault as IsSubsetFault};
 ghost use Rattle.certificate_reader.specs.Reading.{read_of};
 ghost use Rattle.cert_check.specs.Outcome.{Acceptance, outcome, trials};
@@ -17,7 +18,7 @@ ghost use Rattle.glpsol_cli.specs.Stages.{IsFinding, IsUnfound, IsSolution, IsSu
 use crate::found::Finding;
 use crate::inputs::Inputs;
 use crate::stop::{CheckStop, Unfound};
-use branch_search::{VerdictFault, has_no_integer_column};
+use branch_search::has_no_integer_column;
 use cert_check::{Checked, check};
 use certificate::{Certificate, Verdict};
 use certificate_reader::CertError;
@@ -29,6 +30,7 @@ use shared_search::OpenGate;
 use sqlite_items::Boxed;
 use std::alloc::{AllocError, Global};
 use std::thread::Threads;
+use stopped_search::Unsolved;
 
 /// What is found of the problem, as the task asks.
 pub fn finding<T: Threads + Sync>(
@@ -71,7 +73,7 @@ fn solution<T: Threads + Sync>(
     if !wants_linear(outputs) {
         return match solved(rt, alloc, problem, settings) {
             Ok(certificate) => Ok(Finding::Verdict(certificate)),
-            Err(fault) => Err(Unfound::Solve(fault)),
+            Err(unsolved) => Err(Unfound::Solve(unsolved)),
         };
     }
     if has_no_integer_column(problem) {
@@ -109,7 +111,7 @@ fn linear_solution<T: Threads + Sync>(
                 Ok(Finding::Verdict(certificate))
             }
         }
-        Err(fault) => Err(Unfound::Solve(fault)),
+        Err(unsolved) => Err(Unfound::Solve(unsolved)),
     }
 }
 
@@ -212,14 +214,15 @@ fn solved<T: Threads + Sync>(
     alloc: Global,
     problem: &Instance,
     settings: &Settings,
-) -> Result<Boxed<Certificate>, VerdictFault>
+) -> Result<Boxed<Certificate>, Unsolved>
     ensures proves { IfOk result (λ c. Proves problem.now c × (outcome (trials problem.now c) ≡ Acceptance)) }
     ensures plain { NoneInteger problem.now.columns → IfOk result (λ c. IsPlainCertificate problem.now c) }
-    ensures fault { IfErr result (IsFaultOf (uses_cuts settings.now.task) (splits_rows settings.now.task) problem.now settings.now.split_limit settings.now.pivot_limit) }
+    ensures fault { IfErr result (IsSearchUnsolved (uses_cuts settings.now.task) (splits_rows settings.now.task) problem.now settings.now.split_limit settings.now.pivot_limit) }
+    ensures shows { IfErr result (λ u. IfSome u.shown (Passes problem.now)) }
 {
     match solve(rt, alloc, problem, plan_of(settings), &OpenGate) {
         Ok(certificate) => Ok(Boxed::new(alloc, certificate)?),
-        Err(fault) => Err(fault),
+        Err(unsolved) => Err(unsolved),
     }
 }
 

@@ -42,6 +42,21 @@ fn accepted_certificates_are_migrated(rt: HostRuntime) -> Result<(), Fail> {
     check(&rt, rt.alloc(), &Subject::WrittenFiles, MIGRATED)
 }
 
+// A search that comes to its limit leaves in the file y what it has shown: here nothing but that all is left to do. Without a name there is
+// no file.
+const LEFT: &str = "\
+4 UNDECIDED nodes$ <- cert 2$size 1 2$verdict undecided$best none$derived 0$tree$todo$end$ <- --lp f --nodlim 0 --cert y <- min$ x$st$ 2 x - 2 y = 1$general$ x y$end$
+4 UNDECIDED nodes$ <- cert 2$size 1 2$verdict undecided$best none$derived 0$tree$todo$end$ <- --lp f --nodlim 0 --workers 2 --cert y <- min$ x$st$ 2 x - 2 y = 1$general$ x y$end$
+4 UNDECIDED nodes$ <- cert 2$size 1 2$verdict undecided$best none$derived 0$tree$todo$end$ <- --lp f --nodlim 0 --rowsplit --cert y <- min$ x$st$ 2 x - 2 y = 1$general$ x y$end$
+4 UNDECIDED pivots$ <- cert 2$size 2 2$verdict undecided$best none$derived 0$tree$todo$end$ <- --freemps f --max --pivlim 1 --cert y <- ROWS$ N obj$ L r.1$ L r.2$COLUMNS$ x obj 3 r.1 1$ x r.2 1$ y obj 2 r.1 1$ y r.2 3$RHS$ R r.1 4 r.2 6$BOUNDS$ UP b x 3$ENDATA$
+4 UNDECIDED nodes$ <- none <- --lp f --nodlim 0 <- min$ x$st$ 2 x - 2 y = 1$general$ x y$end$
+";
+
+#[test]
+fn stopped_searches_leave_what_they_have_shown(rt: HostRuntime) -> Result<(), Fail> {
+    check(&rt, rt.alloc(), &Subject::WrittenFiles, LEFT)
+}
+
 // The report and the certificate go to their files, in pieces of seven bytes.
 #[test]
 fn the_files_are_written(rt: HostRuntime) -> Result<(), Fail> {

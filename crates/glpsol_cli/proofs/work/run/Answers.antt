@@ -2,7 +2,7 @@ use Rattle.glpsol_cli.specs.Pieces.{Outside}
 use Rattle.std.proofs.Common.{map, string_bytes, subst}
 use Rattle.outside.specs.Causes.{Rose}
 use Rattle.glpsol_cli.specs.Cause.{Cause}
-use Rattle.glpsol_cli.proofs.Verdicts.{carried, is_best, is_irreducible, has_no_point, has_ranges, has_ray}
+use Rattle.glpsol_cli.proofs.Verdicts.{carried, is_best, is_irreducible, is_shown, has_no_point, has_ranges, has_ray}
 use Rattle.glpsol_cli.proofs.Completes.{complete}
 use Rattle.glpsol_cli.proofs.Limits.{unlimited}
 use Rattle.glpsol_cli.proofs.Wanted.{not_plain, not_without}
@@ -103,7 +103,7 @@ returns-clause-of_one_text g c =
     let files_rose = Rose (g.S.Store.faults c.args.files.now) (g.S.Store.faults c.carried_out.new.files) in
     let out_rose = Rose (g.O.Sink.faults c.args.out.now) (g.O.Sink.faults c.carried_out.new.out) in
     let tells = rw c.deref.ensures.value at c.carried_out.ensures.tells in
-    of_one_text words old new files_rose out_rose c.certificates_are_right.ensures c.carried_out.result tells
+    of_one_text words old new files_rose out_rose c.certificates_are_right.ensures c.accepted_partials_show.ensures.shows c.carried_out.result tells
 
 pub returns-clause-ranges : goal.returns-clause-ranges
 returns-clause-ranges g c =
@@ -122,3 +122,12 @@ returns-clause-ranges_asked g c =
     let out_rose = Rose (g.O.Sink.faults c.args.out.now) (g.O.Sink.faults c.carried_out.new.out) in
     let cause = rw c.deref.ensures.value at c.carried_out.ensures.cause in
     λ s asks wants. not_without words told s asks wants files_rose out_rose c.carried_out.result cause
+
+pub returns-clause-undecided : goal.returns-clause-undecided
+returns-clause-undecided g c =
+    let words = map string_bytes c.args.words.items in
+    let told = g.S.Store.told c.args.files.now in
+    let files_rose = Rose (g.S.Store.faults c.args.files.now) (g.S.Store.faults c.carried_out.new.files) in
+    let out_rose = Rose (g.O.Sink.faults c.args.out.now) (g.O.Sink.faults c.carried_out.new.out) in
+    let cause = rw c.deref.ensures.value at c.carried_out.ensures.cause in
+    λ d e. is_shown words told d c.accepted_partials_show.ensures.shows files_rose out_rose c.carried_out.result e cause
